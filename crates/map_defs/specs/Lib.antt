@@ -1,0 +1,6 @@
+pub mod Kind
+pub mod Links
+pub mod Laws
+pub mod Words
+pub mod Cells
+pub mod Rows

@@ -1,0 +1,27 @@
+-- The rows of a map: the plain data that a listing shows. Source: this project's.
+use Rattle.std.specs.Prelude.{ℕ, ◌-◌, List, length, Option, Some, None, slice_index, slice_index_or, IsSome}
+use Rattle.map_defs.specs.Links.{Links}
+
+-- The row of dart d stands at place d, with its entries 0 to n, an entry being 0 if the link is free. Place 0, which is
+-- no dart's, and the place of a dart that is not live hold none.
+abbrev pub Rows : Type 0
+Rows = List (Option (List ℕ))
+
+-- the number of darts made so far, dead ones among them
+abbrev pub made : Rows → ℕ
+made rows = length rows - 1
+
+abbrev pub row_at : Rows → ℕ → Option (List ℕ)
+row_at rows d = slice_index_or rows d None
+
+abbrev pub IsLive : Rows → ℕ → Type 0
+IsLive rows d = IsSome (row_at rows d)
+
+-- an entry of a row; a dart that is not live has all entries 0
+abbrev pub entry_of : Option (List ℕ) → ℕ → ℕ
+entry_of None i = 0
+entry_of (Some row) i = slice_index row i
+
+-- the links that rows tell
+abbrev pub links_of : Rows → Links
+links_of rows i d = entry_of (row_at rows d) i
