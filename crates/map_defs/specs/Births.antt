@@ -1,5 +1,5 @@
 -- New darts and their numbers. Source: this project's.
-use Rattle.std.specs.Prelude.{ℕ, ◌≡◌, ◌≢◌, ◌+◌, ◌<◌, ◌↔◌, List, length, Contains, slice_index}
+use Rattle.std.specs.Prelude.{ℕ, ◌≡◌, ◌≢◌, ◌+◌, ◌<◌, ◌≤◌, ◌⊎◌, ◌↔◌, List, length, Contains, slice_index}
 use Rattle.std.specs.List.Sorted.{IsStrictlyIncreasing}
 use Rattle.map_defs.specs.Links.{Links}
 
@@ -18,3 +18,7 @@ pub record IsNumbered (K : ℕ → Type 0) (keys : List ℕ) (made : ℕ) (star 
   pub ascending : IsStrictlyIncreasing keys
   pub members : (x : ℕ) → Contains keys x ↔ K x
   pub numbers : (p : ℕ) → p < length keys → star (slice_index keys p) ≡ made + 1 + p
+
+-- count new darts live, numbered on from made, and nothing dies
+abbrev pub AreBorn : ℕ → ℕ → (ℕ → Type 0) → (ℕ → Type 0) → Type 0
+AreBorn made count Live LiveAfter = (x : ℕ) → LiveAfter x ↔ (Live x ⊎ ((made < x) × (x ≤ made + count)))

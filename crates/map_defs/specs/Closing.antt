@@ -4,7 +4,7 @@ use Rattle.std.specs.Prelude.{ℕ, suc, ◌≡◌, ◌≢◌, ◌≤◌}
 use Rattle.map_defs.specs.Kind.{Kind, alpha, beta, inverse, IsDistant}
 use Rattle.map_defs.specs.Links.{Links, IsTurned}
 use Rattle.map_defs.specs.Cells.{InCell}
-use Rattle.map_defs.specs.Walks.{IsFirstOutside}
+use Rattle.map_defs.specs.Walks.{Walk}
 use Rattle.map_defs.specs.Insertion.{InAlphaCorner, InBetaCorner}
 
 -- the live darts that are free at link i
@@ -14,7 +14,7 @@ IsOpen Live i L x = Live x × (L i x ≡ 0)
 -- y is the next dart free at link i after x, around the boundary: from link t of x over link i and link t again, until
 -- link i is free
 abbrev pub IsAround : Kind → ℕ → ℕ → Links → ℕ → ℕ → Type 0
-IsAround k i t L x y = IsFirstOutside (λ c. L i c ≢ 0) (λ c. L (inverse k t) (L i c)) (L (inverse k t) x) y
+IsAround k i t L x y = Walk (λ c. L i c ≢ 0) (λ c. L (inverse k t) (L i c)) (L (inverse k t) x) y
 
 -- The map is closed at link i, which is from 2 upwards in a combinatorial map: a new dart on each free link.
 pub record IsClosed (k : Kind) (i : ℕ) (Live : ℕ → Type 0) (star : ℕ → ℕ) (L N : Links) : Type 0 where

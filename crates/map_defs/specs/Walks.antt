@@ -1,7 +1,17 @@
--- Walks from dart to dart that leave a set. Source: the textbook's removal.
-use Rattle.std.specs.Prelude.{ℕ}
+-- Walks out of a set of darts. Source: the textbook's removal and contraction, where a link is drawn across a cell.
+use Rattle.std.specs.Prelude.{ℕ, zero, suc}
+use Rattle.map_defs.specs.Links.{Links}
 
--- y is the first outside C of x, step x, step (step x) and so on
-pub data IsFirstOutside (C : ℕ → Type 0) (step : ℕ → ℕ) : ℕ → ℕ → Type 0 where
-  stop : {x : ℕ} → (C x → ⊥) → IsFirstOutside C step x x
-  go : {x y : ℕ} → C x → IsFirstOutside C step (step x) y → IsFirstOutside C step x y
+-- From x the walk leads to y: y is the first of x, Step x, Step (Step x) and so on that is outside C.
+pub data Walk (C : ℕ → Type 0) (Step : ℕ → ℕ) : ℕ → ℕ → Type 0 where
+  stop : {x : ℕ} → (C x → ⊥) → Walk C Step x x
+  go : {x y : ℕ} → C x → Walk C Step (Step x) y → Walk C Step x y
+
+-- the first dart, or the second if the first is none
+abbrev pub dart_or : ℕ → ℕ → ℕ
+dart_or zero d = d
+dart_or (suc e) d = suc e
+
+-- the dart at link i of d, or d itself if d is i-free: the textbook's involution
+abbrev pub step : Links → ℕ → ℕ → ℕ
+step L i d = dart_or (L i d) d
