@@ -5,3 +5,5 @@ pub mod Relink
 pub mod Sewn
 pub mod Unsewn
 pub mod SewnBack
+pub mod Pigeonhole
+pub mod SameRows

@@ -4,11 +4,12 @@
 //! and of every dimension. A proof uses it by a call. The lemmas behind them are in `proofs/`, for other laws to build on.
 #![tactic(auto)]
 
-ghost use Rattle.std.specs.Prelude.{◌≡◌, ◌≢◌, ◌↔◌, ℕ};
+ghost use Rattle.std.specs.Prelude.{◌≡◌, ◌≢◌, ◌↔◌, ◌≤◌, ℕ, length};
 ghost use Rattle.map_defs.specs.Kind.{Kind};
 ghost use Rattle.map_defs.specs.Links.{Links};
 ghost use Rattle.map_defs.specs.Laws.{IsLawful, Laws};
 ghost use Rattle.map_defs.specs.Sewing.{IsSewable, IsSewn, IsUnsewn};
+ghost use Rattle.map_defs.specs.Rows.{Rows, AreWide, IsLive, links_of};
 
 /// The laws as they are told and the laws in the form that proofs use say the same.
 ///
@@ -40,5 +41,14 @@ pub fn unsewing_keeps_the_laws()
 pub fn unsewing_undoes_sewing()
     ensures linked { (k : Kind) (i d e : ℕ) (L N : Links) → Laws k L → d ≢ 0 → e ≢ 0 → IsSewable k L i d e → IsSewn k i d e L N → N i d ≢ 0 }
     ensures back { (k : Kind) (i d e : ℕ) (L N M : Links) → Laws k L → d ≢ 0 → e ≢ 0 → IsSewable k L i d e → IsSewn k i d e L N → IsUnsewn k i d N M → (t x : ℕ) → M t x ≡ L t x }
+{
+}
+
+/// There is one map with given live darts and links: rows of one number are the same where the same darts live and have
+/// the same links.
+///
+/// For whoever shows that two ways lead to one map, as undoing and the copy of a mark: it is enough to compare links.
+pub fn links_tell_the_rows()
+    ensures { (n : ℕ) (a b : Rows) → AreWide n a → AreWide n b → length a ≡ length b → ((d : ℕ) → IsLive a d ↔ IsLive b d) → ((i d : ℕ) → i ≤ n → links_of a i d ≡ links_of b i d) → a ≡ b }
 {
 }
