@@ -1,7 +1,7 @@
 -- Inserting a vertex on an edge, an edge in a face, a face in a volume. Source: the inverse of the textbook's removal,
 -- written out; the conditions, and the general forms for combinatorial maps, are this project's.
 use Rattle.std.specs.Prelude.{ℕ, suc, ◌≡◌, ◌≢◌, ◌+◌, ◌<◌, ◌≤◌, ◌⊎◌, List, length, slice_index, Contains, AllPairs}
-use Rattle.map_defs.specs.Kind.{Kind, alpha, beta, inverse, IsDistant}
+use Rattle.map_defs.specs.Kind.{Kind, alpha, beta, inverse, place, IsDistant}
 use Rattle.map_defs.specs.Links.{Links, IsTurned}
 use Rattle.map_defs.specs.Words.{Word, two_links}
 use Rattle.map_defs.specs.Cells.{InOrbit, Leads, InCell}
@@ -20,6 +20,10 @@ pub record IsInserted (k : Kind) (i : ℕ) (K : ℕ → Type 0) (P : ℕ → ℕ
   pub along : (x j : ℕ) → K x → IsDistant k i j → N j (star x) ≡ star (L (inverse k j) x)
   pub kept : (x t : ℕ) → (K x → t ≢ i) → ((y : ℕ) → K y → x ≢ star y) → N t x ≡ L t x
 
+-- the link t stands one place below the link i
+abbrev pub IsJustBelow : Kind → ℕ → ℕ → Type 0
+IsJustBelow k i t = place k t + 1 ≡ place k i
+
 -- one link of the set J leads from x to the dart y
 abbrev pub IsLinkedBy : Links → (ℕ → Type 0) → ℕ → ℕ → Type 0
 IsLinkedBy L J x y = (j : ℕ) × J j × (L j x ≡ y) × (y ≢ 0)
@@ -31,6 +35,28 @@ IsCarrying k i j = (j ≡ i) ⊎ IsDistant k i j
 -- the links along which its pairs go: i, and those from i + 2 upwards
 abbrev pub IsPairing : ℕ → ℕ → Type 0
 IsPairing i j = (j ≡ i) ⊎ (i + 2 ≤ j)
+
+-- the links along which the pairs of link t, one place below i, have to go
+abbrev pub GoesAlong : Kind → ℕ → ℕ → ℕ → Type 0
+GoesAlong k i t j = (j ≡ i) ⊎ (IsDistant k i j × IsDistant k t j)
+
+-- What an insertion asks of its set K and its pairs P. A pair x, 0, t leaves link t of the new dart of x free.
+pub record IsInsertable (k : Kind) (i : ℕ) (K : ℕ → Type 0) (P : ℕ → ℕ → ℕ → Type 0) (L : Links) : Type 0 where
+  -- link i is its own inverse
+  pub own : inverse k i ≡ i
+  -- K is a set of darts that is closed under the links along which the new darts lie
+  pub dart : (x : ℕ) → K x → x ≢ 0
+  pub carried : (x j : ℕ) → K x → IsCarrying k i j → L j x ≢ 0 → K (L j x)
+  -- each dart of K is paired at each link below i, and with a dart of K
+  pub some : (x t : ℕ) → K x → IsJustBelow k i t → ((y : ℕ) → P x y t → ⊥) → ⊥
+  pub begins : (x y t : ℕ) → P x y t → K x × IsJustBelow k i t
+  pub ends : (x y t : ℕ) → P x y t → y ≢ 0 → K y
+  pub turned : (x y t : ℕ) → P x y t → y ≢ 0 → P y x (inverse k t)
+  -- a link that is its own inverse pairs no dart with itself
+  pub moves : (x y t : ℕ) → P x y t → inverse k t ≡ t → x ≢ y
+  -- and the pairs go along
+  pub across : (x y t j : ℕ) → P x y t → GoesAlong k i t j → L j x ≢ 0 → P (L j x) (L (inverse k j) y) (inverse k t)
+  pub even : (x y t j : ℕ) → P x y t → GoesAlong k i t j → L j x ≡ 0 → L (inverse k j) y ≡ 0
 
 -- nothing is paired
 abbrev pub NoPairs : ℕ → ℕ → ℕ → Type 0
