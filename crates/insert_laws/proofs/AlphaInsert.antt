@@ -7,12 +7,8 @@ use Rattle.map_defs.specs.Words.{one_link}
 use Rattle.map_defs.specs.Cells.{InOrbit, here, onward, InCell}
 use Rattle.map_defs.specs.Pairs.{InPairs, seed, turned, across, JustOne, IsGood}
 use Rattle.map_defs.specs.Insertion.{IsJustBelow, IsInsertable, GoesAlong, IsCarrying, IsPairing, IsLinkedBy, NoPairs, InAlphaCorner, AlphaEdgeDarts, AlphaEdgePairs, AreAlphaEdgePaired}
+use Rattle.insert_laws.proofs.Orbits.{orbit_dart}
 use Rattle.link_laws.proofs.Basics.{distant_alpha, distant_alpha_is}
-
--- all darts of an orbit are darts
-pub orbit_dart : (Step : ℕ → ℕ → Type 0) → ((x y : ℕ) → Step x y → y ≢ 0) → (d x : ℕ) → d ≢ 0 → InOrbit Step d x → x ≢ 0
-orbit_dart Step to d x hd here = hd
-orbit_dart Step to d x hd (onward {x = u} {y = v} o s) = to u v s
 
 pub alpha_vertex_can : (L : Links) (d : ℕ) → d ≢ 0 → IsInsertable alpha 0 (InCell alpha L 1 d) NoPairs L
 alpha_vertex_can L d hd = record {

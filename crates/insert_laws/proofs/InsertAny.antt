@@ -7,26 +7,10 @@ use Rattle.map_defs.specs.Births.{IsFresh}
 use Rattle.map_defs.specs.Insertion.{IsJustBelow, IsInsertable, IsInserted, GoesAlong}
 use Rattle.link_laws.proofs.Basics.{by_cases, stable, same_or_not, inverse_twice, IsDistant-turned, IsDistant-inverse_left, IsDistant-inverse_right, IsDistant-apart}
 use Rattle.link_laws.proofs.LawFacts.{dart_of_link}
-use Rattle.insert_laws.proofs.Stands.{Leads, over, along, paired, Stands, none, some, InOrNone, Square, stands_end, stands_turned, stands_some, stands_apart, stands_square}
-
--- z is a new dart
-abbrev pub IsNew : (ℕ → Type 0) → (ℕ → ℕ) → ℕ → Type 0
-IsNew K star z = (x : ℕ) × K x × (z ≡ star x)
+use Rattle.insert_laws.proofs.Fresh.{IsNew, InOrNone, fresh_link, fresh_none}
+use Rattle.insert_laws.proofs.Stands.{Leads, over, along, paired, Stands, none, some, Square, stands_end, stands_turned, stands_some, stands_apart, stands_square}
 
 module _ (k : Kind) (i : ℕ) (K : ℕ → Type 0) (P : ℕ → ℕ → ℕ → Type 0) (star : ℕ → ℕ) (L : Links) (w : Laws k L) (can : IsInsertable k i K P L) (fresh : IsFresh L K star) where
-  -- no old link leads to a new dart
-  pub link_old : (t z : ℕ) → IsNew K star (L t z) → ⊥
-  link_old t z (x, h, e) =
-    let n : L t z ≢ 0 = λ o. fresh.dart x h (sym e ∙ o) in
-    let b : L (inverse k t) (L t z) ≡ z = w.back t z n in
-    dart_of_link k L w t z n (sym b ∙ (ap (L (inverse k t)) e ∙ fresh.unlinked (inverse k t) x h))
-
-  pub old_dart : (z : ℕ) → K z → IsNew K star z → ⊥
-  old_dart z h (x, g, e) = fresh.outside x g (rw e at h)
-
-  pub none_old : IsNew K star 0 → ⊥
-  none_old (x, h, e) = fresh.dart x h (sym e)
-
   pub other_than_own : (t : ℕ) → t ≢ i → inverse k t ≢ i
   other_than_own t n e = n (sym (inverse_twice k t) ∙ (ap (inverse k) e ∙ can.own))
 
@@ -38,7 +22,7 @@ module _ (k : Kind) (i : ℕ) (K : ℕ → Type 0) (P : ℕ → ℕ → ℕ → 
     inserted_outside t z n m = s.kept z t (λ h. absurd (m h)) (λ y h e. n (y, h, e))
 
     pub inserted_nil : (t : ℕ) → N t 0 ≡ 0
-    inserted_nil t = inserted_outside t 0 none_old (λ h. can.dart 0 h refl) ∙ w.nil t
+    inserted_nil t = inserted_outside t 0 (fresh_none k L w K star fresh) (λ h. can.dart 0 h refl) ∙ w.nil t
 
     new_leads : (t x y : ℕ) → K x → Leads k i P L t x y → N t (star x) ≡ star y
     new_leads t x y h (over e g) = rw (e, g) (s.beyond x h)
@@ -68,7 +52,7 @@ module _ (k : Kind) (i : ℕ) (K : ℕ → Type 0) (P : ℕ → ℕ → ℕ → 
         let ti : t ≡ i = sym (inverse_twice k t) ∙ (ap (inverse k) e ∙ can.own) in
         let hz : K (L i (L t z)) = can.carried (L t z) i h (inl refl) (λ o. dart_of_link k L w t z g (sym b ∙ (ap (λ j. L j (L t z)) e ∙ o))) in
         m (rw (ap (λ j. L j (L t z)) (sym e) ∙ b) at hz) ti in
-      let c : N (inverse k t) (L t z) ≡ L (inverse k t) (L t z) = s.kept (L t z) (inverse k t) stays (λ y h e. link_old t z (y, h, e)) in cc
+      let c : N (inverse k t) (L t z) ≡ L (inverse k t) (L t z) = s.kept (L t z) (inverse k t) stays (λ y h e. fresh_link k L w K star fresh t z (y, h, e)) in cc
 
     pub back_at : (t z : ℕ) → N t z ≢ 0 → N (inverse k t) (N t z) ≡ z
     back_at t z d = by_cases (IsNew K star z) (N (inverse k t) (N t z)) z

@@ -7,8 +7,9 @@ use Rattle.map_defs.specs.Births.{IsFresh}
 use Rattle.map_defs.specs.Insertion.{IsInsertable, IsInserted}
 use Rattle.link_laws.proofs.Basics.{by_cases, stable, same_or_not, inverse_twice, IsDistant-turned, IsDistant-inverse_right, IsDistant-apart}
 use Rattle.link_laws.proofs.LawFacts.{dart_of_link}
-use Rattle.insert_laws.proofs.Stands.{Leads, along, Stands, InOrNone, Square, stands_some, stands_square}
-use Rattle.insert_laws.proofs.InsertAny.{IsNew, link_old, old_dart, none_old, other_than_own, inserted_old, inserted_outside, inserted_nil, new_stands, by_stands, back_at, apart_at}
+use Rattle.insert_laws.proofs.Fresh.{IsNew, InOrNone, fresh_link, fresh_old}
+use Rattle.insert_laws.proofs.Stands.{Leads, along, Stands, Square, stands_some, stands_square}
+use Rattle.insert_laws.proofs.InsertAny.{other_than_own, inserted_old, inserted_outside, inserted_nil, new_stands, by_stands, back_at, apart_at}
 
 module _ (k : Kind) (i : ℕ) (K : ℕ → Type 0) (P : ℕ → ℕ → ℕ → Type 0) (star : ℕ → ℕ) (L : Links) (w : Laws k L) (can : IsInsertable k i K P L) (fresh : IsFresh L K star) (N : Links) (s : IsInserted k i K P star L N) where
   old_at : (t z : ℕ) → (IsNew K star z → ⊥) → t ≢ i → N t z ≡ L t z
@@ -35,11 +36,11 @@ module _ (k : Kind) (i : ℕ) (K : ℕ → Type 0) (P : ℕ → ℕ → ℕ → 
     let a : N j (star x) ≡ star u = s.along x j h f in
     let b : N i (star u) ≡ u = down u (distant_in x (inverse k j) h (IsDistant-inverse_right k i j f)) in
     let c : N i (star x) ≡ x = s.old x h in
-    let d : N (inverse k j) x ≡ u = old_at (inverse k j) x (old_dart k i K P star L w can fresh x h) (distant_other j f) in cc
+    let d : N (inverse k j) x ≡ u = old_at (inverse k j) x (fresh_old k L w K star fresh x h) (distant_other j f) in cc
 
   square_in : (j z : ℕ) → IsDistant k i j → K z → N i (N j z) ≡ N (inverse k j) (N i z)
   square_in j z f h =
-    let a : N j z ≡ L j z = old_at j z (old_dart k i K P star L w can fresh z h) (λ e. IsDistant-apart k i j f (sym e)) in
+    let a : N j z ≡ L j z = old_at j z (fresh_old k L w K star fresh z h) (λ e. IsDistant-apart k i j f (sym e)) in
     let b : N i (L j z) ≡ star (L j z) = up (L j z) (distant_in z j h f) in
     let c : N i z ≡ star z = s.new z h in
     let d : N (inverse k j) (star z) ≡ star (L (inverse k (inverse k j)) z) = s.along z (inverse k j) h (IsDistant-inverse_right k i j f) in
@@ -52,9 +53,9 @@ module _ (k : Kind) (i : ℕ) (K : ℕ → Type 0) (P : ℕ → ℕ → ℕ → 
       let n : L j z ≢ 0 = can.dart (L j z) h in
       let b : L (inverse k j) (L j z) ≡ z = w.back j z n in
       out (rw b at (can.carried (L j z) (inverse k j) h (inr (IsDistant-inverse_right k i j f)) (λ o. dart_of_link k L w j z n (sym b ∙ o)))) in
-    let b : N i (L j z) ≡ L i (L j z) = inserted_outside k i K P star L w can fresh N s i (L j z) (link_old k i K P star L w can fresh j z) out' in
+    let b : N i (L j z) ≡ L i (L j z) = inserted_outside k i K P star L w can fresh N s i (L j z) (fresh_link k L w K star fresh j z) out' in
     let c : N i z ≡ L i z = inserted_outside k i K P star L w can fresh N s i z old out in
-    let d : N (inverse k j) (L i z) ≡ L (inverse k j) (L i z) = old_at (inverse k j) (L i z) (link_old k i K P star L w can fresh i z) (distant_other j f) in
+    let d : N (inverse k j) (L i z) ≡ L (inverse k j) (L i z) = old_at (inverse k j) (L i z) (fresh_link k L w K star fresh i z) (distant_other j f) in
     let q : L (inverse k i) (L j z) ≡ L (inverse k j) (L i z) = w.square i j z f in cc (can.own)
 
   square_own : (j z : ℕ) → IsDistant k i j → N i (N j z) ≡ N (inverse k j) (N i z)
@@ -80,8 +81,8 @@ module _ (k : Kind) (i : ℕ) (K : ℕ → Type 0) (P : ℕ → ℕ → ℕ → 
     (λ n.
       let a : N j z ≡ L j z = old_at j z n nj in
       let b : N t z ≡ L t z = old_at t z n nt in
-      let c : N (inverse k t) (L j z) ≡ L (inverse k t) (L j z) = old_at (inverse k t) (L j z) (link_old k i K P star L w can fresh j z) (other_than_own k i K P star L w can fresh t nt) in
-      let d : N (inverse k j) (L t z) ≡ L (inverse k j) (L t z) = old_at (inverse k j) (L t z) (link_old k i K P star L w can fresh t z) (other_than_own k i K P star L w can fresh j nj) in
+      let c : N (inverse k t) (L j z) ≡ L (inverse k t) (L j z) = old_at (inverse k t) (L j z) (fresh_link k L w K star fresh j z) (other_than_own k i K P star L w can fresh t nt) in
+      let d : N (inverse k j) (L t z) ≡ L (inverse k j) (L t z) = old_at (inverse k j) (L t z) (fresh_link k L w K star fresh t z) (other_than_own k i K P star L w can fresh j nj) in
       let q : L (inverse k t) (L j z) ≡ L (inverse k j) (L t z) = w.square t j z f in cc)
 
   square_at : (t j z : ℕ) → IsDistant k t j → N (inverse k t) (N j z) ≡ N (inverse k j) (N t z)

@@ -6,6 +6,7 @@ use Rattle.map_defs.specs.Laws.{Laws}
 use Rattle.map_defs.specs.Births.{IsFresh}
 use Rattle.map_defs.specs.Insertion.{IsJustBelow, IsInsertable, IsInserted, GoesAlong}
 use Rattle.link_laws.proofs.Basics.{stable, same_or_not, inverse_twice, IsDistant-turned, IsDistant-inverse_left, IsDistant-inverse_right, IsDistant-inverses}
+use Rattle.insert_laws.proofs.Fresh.{InOrNone}
 use Rattle.insert_laws.proofs.Places.{IsBeside, same, next, below, far, link_cases, next_own, below_inverse, place_near, below_apart, next_place}
 
 -- for a dart x of K: over link i at the next link, along a distant link, or by a pair
@@ -18,10 +19,6 @@ pub data Leads (k : Kind) (i : ℕ) (P : ℕ → ℕ → ℕ → Type 0) (L : Li
 pub data Stands (k : Kind) (i : ℕ) (K : ℕ → Type 0) (P : ℕ → ℕ → ℕ → Type 0) (L : Links) : ℕ → ℕ → ℕ → Type 0 where
   none : {t x y : ℕ} → x ≡ 0 → y ≡ 0 → Stands k i K P L t x y
   some : {t x y : ℕ} → K x → Leads k i P L t x y → Stands k i K P L t x y
-
--- a dart of K, or none
-abbrev pub InOrNone : (ℕ → Type 0) → ℕ → Type 0
-InOrNone K x = K x ⊎ (x ≡ 0)
 
 -- two distant links of a new dart close a square
 abbrev pub Square : (k : Kind) (i : ℕ) (K : ℕ → Type 0) (P : ℕ → ℕ → ℕ → Type 0) (L : Links) (t j y z : ℕ) → Type 0

@@ -10,7 +10,7 @@ ghost use Rattle.map_defs.specs.Links.{Links};
 ghost use Rattle.map_defs.specs.Laws.{Laws};
 ghost use Rattle.map_defs.specs.Cells.{InCell};
 ghost use Rattle.map_defs.specs.Births.{IsFresh, IsNumbered};
-ghost use Rattle.map_defs.specs.Insertion.{IsInsertable, IsInserted, IsAlphaVertex, AlphaEdgeDarts, AreAlphaEdgePaired, IsAlphaEdge, FaceDarts, IsClosedPath, IsFacePaired, IsFace};
+ghost use Rattle.map_defs.specs.Insertion.{IsInsertable, IsInserted, IsAlphaVertex, AlphaEdgeDarts, AreAlphaEdgePaired, IsAlphaEdge, IsBetaVertex, InBetaCorner, AreBetaEdgePaired, BetaEdgeDarts, IsBetaEdge, FaceDarts, IsClosedPath, IsFacePaired, IsFace};
 
 /// An insertion in general keeps the laws, at any link and in both kinds, where its set and its pairs meet the premises.
 ///
@@ -42,6 +42,24 @@ pub fn vertex_keeps_the_laws_of_alpha()
 /// For whoever plans it and applies it: of its three conditions the laws need good pairs alone.
 pub fn edge_keeps_the_laws_of_alpha()
     ensures { (d e : ℕ) (star : ℕ → ℕ) (L N : Links) → Laws alpha L → d ≢ 0 → e ≢ 0 → AreAlphaEdgePaired L d e → IsFresh L (AlphaEdgeDarts L d e) star → IsAlphaEdge d e star L N → Laws alpha N }
+{
+}
+
+/// A vertex on an edge keeps the laws of a combinatorial map.
+///
+/// For whoever plans it and applies it: it has no condition.
+pub fn vertex_keeps_the_laws_of_beta()
+    ensures { (d : ℕ) (star : ℕ → ℕ) (L N : Links) → Laws beta L → d ≢ 0 → IsFresh L (InCell beta L 1 d) star → IsBetaVertex d star L N → Laws beta N }
+{
+}
+
+/// An edge between two corners of a combinatorial map keeps the laws, where neither is a copy of the other and the pairs
+/// are good.
+///
+/// For whoever plans it and applies it: the laws need no corners of one face. They need two corners, since an edge from a
+/// corner to itself would join its one new dart to itself.
+pub fn edge_keeps_the_laws_of_beta()
+    ensures { (d e : ℕ) (star : ℕ → ℕ) (L N : Links) → Laws beta L → (InBetaCorner L d e → ⊥) → AreBetaEdgePaired L d e → IsFresh L (BetaEdgeDarts L d e) star → IsBetaEdge d e star L N → Laws beta N }
 {
 }
 

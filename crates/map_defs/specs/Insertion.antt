@@ -66,15 +66,19 @@ NoPairs x y t = ⊥
 abbrev pub IsAlphaVertex : ℕ → (ℕ → ℕ) → Links → Links → Type 0
 IsAlphaVertex d star L N = IsInserted alpha 0 (InCell alpha L 1 d) NoPairs star L N
 
--- A vertex on the edge of d, in a combinatorial map: always possible. Each dart x of the edge gets a new dart behind it.
-pub record IsBetaVertex (d : ℕ) (star : ℕ → ℕ) (L N : Links) : Type 0 where
-  pub first : (x : ℕ) → InCell beta L 1 d x → N 1 x ≡ star x
-  pub second : (x : ℕ) → InCell beta L 1 d x → N 1 (star x) ≡ L 1 x
+-- Each dart x of a whole edge K of a combinatorial map gets a new dart behind it.
+pub record IsSplit (K : ℕ → Type 0) (star : ℕ → ℕ) (L N : Links) : Type 0 where
+  pub first : (x : ℕ) → K x → N 1 x ≡ star x
+  pub second : (x : ℕ) → K x → N 1 (star x) ≡ L 1 x
   -- a dart and its new dart change places on the other sides of the edge
-  pub new : (x j : ℕ) → InCell beta L 1 d x → 2 ≤ j → N j x ≡ star (L j x)
-  pub old : (x j : ℕ) → InCell beta L 1 d x → 2 ≤ j → N j (star x) ≡ L j x
-  pub kept : (x t : ℕ) → 1 ≤ t → (InCell beta L 1 d x → ⊥) → ((y : ℕ) → InCell beta L 1 d y → x ≢ star y) → N t x ≡ L t x
+  pub new : (x j : ℕ) → K x → 2 ≤ j → N j x ≡ star (L j x)
+  pub old : (x j : ℕ) → K x → 2 ≤ j → N j (star x) ≡ L j x
+  pub kept : (x t : ℕ) → 1 ≤ t → (K x → ⊥) → ((y : ℕ) → K y → x ≢ star y) → N t x ≡ L t x
   pub turned : IsTurned N
+
+-- a vertex on the edge of d, in a combinatorial map: always possible
+abbrev pub IsBetaVertex : ℕ → (ℕ → ℕ) → Links → Links → Type 0
+IsBetaVertex d star L N = IsSplit (InCell beta L 1 d) star L N
 
 -- d and e lie on one side of one face
 abbrev pub AreOnOneSide : Links → ℕ → ℕ → Type 0
@@ -119,13 +123,18 @@ BetaEdgeLeads L d e x y = (L 0 x ≢ 0) × BetaEdgePairs L d e (L 0 x) y 1
 abbrev pub BetaEdgeDarts : Links → ℕ → ℕ → ℕ → Type 0
 BetaEdgeDarts L d e x = (y : ℕ) × BetaEdgeLeads L d e x y
 
-pub record IsBetaEdge (d e : ℕ) (star : ℕ → ℕ) (L N : Links) : Type 0 where
-  pub into : (x y : ℕ) → BetaEdgeLeads L d e x y → N 1 (L 0 x) ≡ star x
-  pub onward : (x y : ℕ) → BetaEdgeLeads L d e x y → N 1 (star x) ≡ y
-  pub sides : (x y : ℕ) → BetaEdgeLeads L d e x y → N 2 (star x) ≡ star y
-  pub along : (x y j : ℕ) → BetaEdgeLeads L d e x y → 3 ≤ j → N j (star x) ≡ star (L j (L 0 y))
-  pub kept : (x t : ℕ) → 1 ≤ t → ((y : ℕ) → BetaEdgeDarts L d e y → t ≡ 1 → x ≢ L 0 y) → ((y : ℕ) → BetaEdgeDarts L d e y → x ≢ star y) → N t x ≡ L t x
+-- Each way that led into a corner x leads over a new dart into the corner y to which Turn leads it.
+pub record IsCut (Turn : ℕ → ℕ → Type 0) (star : ℕ → ℕ) (L N : Links) : Type 0 where
+  pub into : (x y : ℕ) → Turn x y → N 1 (L 0 x) ≡ star x
+  pub onward : (x y : ℕ) → Turn x y → N 1 (star x) ≡ y
+  -- the new edge has the two ways on its two sides, and its copies lie on the other sides of the face
+  pub sides : (x y : ℕ) → Turn x y → N 2 (star x) ≡ star y
+  pub along : (x y j : ℕ) → Turn x y → 3 ≤ j → N j (star x) ≡ star (L j (L 0 y))
+  pub kept : (x t : ℕ) → 1 ≤ t → ((c y : ℕ) → Turn c y → t ≡ 1 → x ≢ L 0 c) → ((c y : ℕ) → Turn c y → x ≢ star c) → N t x ≡ L t x
   pub turned : IsTurned N
+
+abbrev pub IsBetaEdge : ℕ → ℕ → (ℕ → ℕ) → Links → Links → Type 0
+IsBetaEdge d e star L N = IsCut (BetaEdgeLeads L d e) star L N
 
 pub record AreBetaEdgePaired (L : Links) (d e : ℕ) : Type 0 where
   pub near : L 0 d ≢ 0
