@@ -4,3 +4,10 @@ pub mod Laws
 pub mod Words
 pub mod Cells
 pub mod Rows
+pub mod Walks
+pub mod Removal
+pub mod Contraction
+pub mod Dual
+pub mod Touched
+pub mod Values
+pub mod Carry
