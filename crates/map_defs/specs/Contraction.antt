@@ -1,6 +1,6 @@
 -- Contraction of a cell. Source: the textbook for generalized maps, where it is removal in the dual; the conditions and
--- walks of combinatorial maps are this project's.
-use Rattle.std.specs.Prelude.{ℕ, zero, suc, ◌≡◌, ◌↔◌}
+-- walks of combinatorial maps are this project's. The darts of the cell end, as in a removal.
+use Rattle.std.specs.Prelude.{ℕ, zero, suc, ◌≡◌}
 use Rattle.map_defs.specs.Kind.{Kind, alpha, beta}
 use Rattle.map_defs.specs.Links.{Links}
 use Rattle.map_defs.specs.Cells.{InCell}
@@ -39,9 +39,6 @@ pub record IsContractible (k : Kind) (L : Links) (i d : ℕ) : Type 0 where
   -- and in a combinatorial map no remaining dart would be joined to itself
   pub apart : StaysApartContracted k L i (InCell k L i d)
 
--- the map with links N after the i-cell of d is contracted
-pub record IsContracted (k : Kind) (L : Links) (Live : ℕ → Type 0) (i d : ℕ) (N : Links) (LiveAfter : ℕ → Type 0) : Type 0 where
-  -- the darts of the cell end
-  pub ended : (x : ℕ) → LiveAfter x ↔ (Live x × (InCell k L i d x → ⊥))
-  -- and link i is drawn across it
-  pub links : IsBridged k L i (InCell k L i d) (across_contracted k L i) N
+-- N are the links after the i-cell of d was contracted
+abbrev pub IsContracted : Kind → ℕ → ℕ → Links → Links → Type 0
+IsContracted k i d L N = IsBridged k i (InCell k L i d) (across_contracted k L i) L N

@@ -4,7 +4,12 @@ pub mod Laws
 pub mod Words
 pub mod Cells
 pub mod Rows
+pub mod Pairs
+pub mod Sewing
+pub mod Births
 pub mod Walks
+pub mod Insertion
+pub mod Closing
 pub mod Removal
 pub mod Contraction
 pub mod Dual

@@ -3,7 +3,7 @@
 -- of every cell of dimension n or n - 1, and removal of an n-cell frees the links into it.
 use Rattle.std.specs.Prelude.{ℕ, zero, suc, ◌≡◌, ◌≢◌, ◌≤◌, ◌⊎◌, ◌↔◌}
 use Rattle.map_defs.specs.Kind.{Kind, alpha, beta, inverse}
-use Rattle.map_defs.specs.Links.{Links}
+use Rattle.map_defs.specs.Links.{Links, IsTurned}
 use Rattle.map_defs.specs.Cells.{InCell}
 use Rattle.map_defs.specs.Walks.{Walk, step}
 
@@ -11,17 +11,17 @@ use Rattle.map_defs.specs.Walks.{Walk, step}
 abbrev pub CommutesAt : Links → ℕ → ℕ → ℕ → Type 0
 CommutesAt L i j b = step L i (step L j b) ≡ step L j (step L i b)
 
--- beta 2 of the side b and of the side before it follow each other in the opposite direction
-abbrev pub IsTurnedAt : Links → ℕ → Type 0
-IsTurnedAt L b = (L 1 (L 2 b) ≢ 0) × (L 1 (L 2 b) ≡ L 2 (L 0 b))
+-- beyond beta 2, the side b is followed by the side before it
+abbrev pub IsMatchedAt : Links → ℕ → Type 0
+IsMatchedAt L b = (L 1 (L 2 b) ≢ 0) × (L 1 (L 2 b) ≡ L 2 (L 0 b))
 
 -- the side b and the side before it are both 2-free
 abbrev pub IsOpenAt : Links → ℕ → Type 0
 IsOpenAt L b = (L 2 b ≡ 0) × (L 2 (L 0 b) ≡ 0)
 
--- a side ends where b begins, and no other edges than these two meet there
+-- a side ends where the side b begins, and on this face's other side, if there is one, nothing else meets there
 abbrev pub IsFlatAt : Links → ℕ → Type 0
-IsFlatAt L b = (L 0 b ≢ 0) × (IsTurnedAt L b ⊎ IsOpenAt L b)
+IsFlatAt L b = (L 0 b ≢ 0) × (IsMatchedAt L b ⊎ IsOpenAt L b)
 
 -- what removal of an i-cell asks of each dart b of it
 abbrev pub IsRemovableAt : Kind → Links → ℕ → ℕ → Type 0
@@ -45,18 +45,18 @@ JoinsNoDart L i C Step = (x : ℕ) → x ≢ 0 → (C x → ⊥) → Walk C Step
 
 -- A combinatorial map's further condition: without the i-cell C no remaining dart is joined to itself by a link from 2
 -- upwards. A generalized map frees such a link.
-abbrev pub StaysApartRemoved : Kind → Links → ℕ → (ℕ → Type 0) → Type 0
-StaysApartRemoved alpha L i C = Unit {0}
-StaysApartRemoved beta L zero C = (j x y : ℕ) → 2 ≤ j → x ≢ 0 → (C x → ⊥) → RunsTo L C x y → L j y ≢ x
-StaysApartRemoved beta L (suc zero) C = Unit {0}
-StaysApartRemoved beta L (suc (suc i)) C = JoinsNoDart L (suc (suc i)) C (across_removed beta L (suc (suc i)))
+abbrev pub StaysApartWithout : Kind → Links → ℕ → (ℕ → Type 0) → Type 0
+StaysApartWithout alpha L i C = Unit {0}
+StaysApartWithout beta L zero C = (j x y : ℕ) → 2 ≤ j → x ≢ 0 → (C x → ⊥) → RunsTo L C x y → L j y ≢ x
+StaysApartWithout beta L (suc zero) C = Unit {0}
+StaysApartWithout beta L (suc (suc i)) C = JoinsNoDart L (suc (suc i)) C (across_removed beta L (suc (suc i)))
 
 -- the i-cell of d can be removed
 pub record IsRemovable (k : Kind) (L : Links) (i d : ℕ) : Type 0 where
   -- each of its darts meets the condition
   pub each : (b : ℕ) → InCell k L i d b → IsRemovableAt k L i b
   -- and in a combinatorial map no remaining dart would be joined to itself
-  pub apart : StaysApartRemoved k L i (InCell k L i d)
+  pub apart : StaysApartWithout k L i (InCell k L i d)
 
 -- Link i of x after a walk that ends at y is z: it is y, but in a generalized map it is free if y is x itself.
 abbrev pub Lands : Kind → ℕ → ℕ → ℕ → Type 0
@@ -64,34 +64,35 @@ Lands alpha x y z = (y ≢ x → z ≡ y) × (y ≡ x → z ≡ 0)
 Lands beta x y z = z ≡ y
 
 -- The links N after the darts of C end, where link i of a remaining dart is drawn across C by the walk Step.
-pub record IsBridged (k : Kind) (L : Links) (i : ℕ) (C : ℕ → Type 0) (Step : ℕ → ℕ) (N : Links) : Type 0 where
-  -- a dart that ends has no links
-  pub gone : (t x : ℕ) → C x → N t x ≡ 0
+pub record IsBridged (k : Kind) (i : ℕ) (C : ℕ → Type 0) (Step : ℕ → ℕ) (L N : Links) : Type 0 where
+  -- a dart that ends has no links, and 0 is no dart
+  pub gone : (x t : ℕ) → C x → N t x ≡ 0
+  pub nothing : (t : ℕ) → N t 0 ≡ 0
   -- the other links of a remaining dart stay
-  pub kept : (t x : ℕ) → (C x → ⊥) → t ≢ i → t ≢ inverse k i → N t x ≡ L t x
+  pub kept : (x t : ℕ) → (C x → ⊥) → t ≢ i → t ≢ inverse k i → N t x ≡ L t x
   -- link i of a remaining dart leads to the first dart outside C of the walk that begins at its old link i
   pub lands : (x y : ℕ) → (C x → ⊥) → Walk C Step (L i x) y → Lands k x y (N i x)
-  -- link 0 of a combinatorial map is the inverse of the new link 1
-  pub reverse : inverse k i ≢ i → (x y : ℕ) → x ≢ 0 → y ≢ 0 → (N i x ≡ y) ↔ (N (inverse k i) y ≡ x)
+  pub turned : k ≡ beta → IsTurned N
 
 -- The links N of a combinatorial map after the darts of the vertex C end.
-pub record IsSmoothed (L : Links) (C : ℕ → Type 0) (N : Links) : Type 0 where
-  -- a dart that ends has no links
-  pub gone : (t x : ℕ) → C x → N t x ≡ 0
+pub record IsSmoothed (C : ℕ → Type 0) (L N : Links) : Type 0 where
+  -- a dart that ends has no links, and 0 is no dart
+  pub gone : (x t : ℕ) → C x → N t x ≡ 0
+  pub nothing : (t : ℕ) → N t 0 ≡ 0
   -- a remaining dart takes the links of the dart at which its run into C ends
-  pub lands : (t x y : ℕ) → t ≢ 0 → (C x → ⊥) → RunsTo L C x y → N t x ≡ L t y
-  -- link 0 is the inverse of the new link 1
-  pub reverse : (x y : ℕ) → x ≢ 0 → y ≢ 0 → (N 1 x ≡ y) ↔ (N 0 y ≡ x)
+  pub lands : (x y t : ℕ) → (C x → ⊥) → 1 ≤ t → RunsTo L C x y → N t x ≡ L t y
+  pub turned : IsTurned N
 
--- the links N after the i-cell C is removed
-abbrev pub AreLinksWithout : Kind → Links → ℕ → (ℕ → Type 0) → Links → Type 0
-AreLinksWithout alpha L i C N = IsBridged alpha L i C (across_removed alpha L i) N
-AreLinksWithout beta L zero C N = IsSmoothed L C N
-AreLinksWithout beta L (suc i) C N = IsBridged beta L (suc i) C (across_removed beta L (suc i)) N
+-- N are the links after the i-cell C was removed
+abbrev pub AreLinksWithout : Kind → ℕ → (ℕ → Type 0) → Links → Links → Type 0
+AreLinksWithout alpha i C L N = IsBridged alpha i C (across_removed alpha L i) L N
+AreLinksWithout beta zero C L N = IsSmoothed C L N
+AreLinksWithout beta (suc i) C L N = IsBridged beta (suc i) C (across_removed beta L (suc i)) L N
 
--- the map with links N after the i-cell of d is removed
-pub record IsRemoved (k : Kind) (L : Links) (Live : ℕ → Type 0) (i d : ℕ) (N : Links) (LiveAfter : ℕ → Type 0) : Type 0 where
-  -- the darts of the cell end
-  pub ended : (x : ℕ) → LiveAfter x ↔ (Live x × (InCell k L i d x → ⊥))
-  -- and the links are drawn across it
-  pub links : AreLinksWithout k L i (InCell k L i d) N
+-- N are the links after the i-cell of d was removed
+abbrev pub IsRemoved : Kind → ℕ → ℕ → Links → Links → Type 0
+IsRemoved k i d L N = AreLinksWithout k i (InCell k L i d) L N
+
+-- the darts of the i-cell of d end, and no dart is born
+abbrev pub IsEnded : Kind → Links → ℕ → ℕ → (ℕ → Type 0) → (ℕ → Type 0) → Type 0
+IsEnded k L i d Live LiveAfter = (x : ℕ) → LiveAfter x ↔ (Live x × (InCell k L i d x → ⊥))
