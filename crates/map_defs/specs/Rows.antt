@@ -1,5 +1,5 @@
 -- The rows of a map: the plain data that a listing shows. Source: this project's.
-use Rattle.std.specs.Prelude.{ℕ, ◌-◌, List, length, Option, Some, None, slice_index, slice_index_or, IsSome}
+use Rattle.std.specs.Prelude.{ℕ, ◌≡◌, ◌+◌, ◌-◌, List, length, Option, Some, None, slice_index, slice_index_or, IsSome}
 use Rattle.map_defs.specs.Links.{Links}
 
 -- The row of dart d stands at place d, with its entries 0 to n, an entry being 0 if the link is free. Place 0, which is
@@ -25,3 +25,7 @@ entry_of (Some row) i = slice_index row i
 -- the links that rows tell
 abbrev pub links_of : Rows → Links
 links_of rows i d = entry_of (row_at rows d) i
+
+-- each live dart's row has the entries 0 to n
+abbrev pub AreWide : ℕ → Rows → Type 0
+AreWide n rows = (d : ℕ) (row : List ℕ) → row_at rows d ≡ Some row → length row ≡ n + 1

@@ -6,8 +6,8 @@ use Rattle.map_defs.specs.Links.{Links}
 use Rattle.map_defs.specs.Laws.{Laws}
 use Rattle.map_defs.specs.Walks.{Walk, stop, go, step}
 use Rattle.map_defs.specs.Removal.{IsBridged}
-use Rattle.remove_laws.proofs.Basics.{same_or_not, by_cases, by_not_not, distant_sym, distant_apart}
-use Rattle.remove_laws.proofs.Walking.{walk_one, walk_outside, leaves, found}
+use Rattle.link_laws.proofs.Basics.{same_or_not, by_cases, IsDistant-turned, IsDistant-apart}
+use Rattle.link_laws.proofs.Walking.{by_not_not, walk_one, walk_outside, leaves, found}
 use Rattle.remove_laws.proofs.Steps.{IsStep, AreSteps}
 
 -- S are the steps of the old links L; the set C is closed under all of them but those at i
@@ -92,9 +92,9 @@ module _ (i a made : ℕ) (C : ℕ → Type 0) (L S : Links) (c : IsCrossed i a 
 
     commute : (t j x : ℕ) → IsDistant alpha t j → M t (M j x) ≡ M j (M t x)
     commute t j x h = elim (same_or_not t i) [
-        inl e ↦ (let g : IsDistant alpha i j = subst (λ z. IsDistant alpha z j) e h in cc (commute_at j x g (distant_apart alpha i j g), e))
+        inl e ↦ (let g : IsDistant alpha i j = subst (λ z. IsDistant alpha z j) e h in cc (commute_at j x g (λ f. IsDistant-apart alpha i j g (sym f)), e))
       | inr m ↦ elim (same_or_not j i) [
-          inl f ↦ (let g : IsDistant alpha i t = distant_sym alpha t i (subst (λ z. IsDistant alpha t z) f h) in cc (commute_at t x g m, f))
+          inl f ↦ (let g : IsDistant alpha i t = IsDistant-turned alpha t i (subst (λ z. IsDistant alpha t z) f h) in cc (commute_at t x g m, f))
         | inr l ↦ commute_off t j x h m l ] ]
 
     pub drawn_steps : AreSteps N M

@@ -7,11 +7,11 @@ use Rattle.map_defs.specs.Cells.{InCell, here}
 use Rattle.map_defs.specs.Walks.{Walk, stop, go, step}
 use Rattle.map_defs.specs.Removal.{IsBridged, Lands, CommutesAt, IsRemovable, IsRemoved, across_removed}
 use Rattle.map_defs.specs.Contraction.{IsContractible, IsContracted, across_contracted}
-use Rattle.remove_laws.proofs.Basics.{same_or_not, by_cases, by_not_not}
-use Rattle.remove_laws.proofs.Walking.{walk_one, walk_outside}
+use Rattle.link_laws.proofs.Basics.{same_or_not}
+use Rattle.link_laws.proofs.Walking.{by_not_not, walk_one, walk_outside}
 use Rattle.remove_laws.proofs.Steps.{IsStep, step_free, step_there, step_case, AreSteps, from_laws, to_laws}
 use Rattle.remove_laws.proofs.AlphaBridge.{IsCrossed, IsDrawn, ends, ends_where, drawn_steps}
-use Rattle.remove_laws.proofs.CellFacts.{orbit_nonzero, orbit_bounded, alpha_closed}
+use Rattle.link_laws.proofs.CellFacts.{orbit_nonzero, orbit_bounded, alpha_closed}
 
 -- the steps of two darts whose links are the same
 same_step : (x l m s t : ℕ) → l ≡ m → IsStep l x s → IsStep m x t → s ≡ t
@@ -86,12 +86,18 @@ module _ (L : Links) (w : Laws alpha L) (i a j d made : ℕ) (live : d ≢ 0) (b
     nowhere = λ h. orbit_nonzero L _ live h refl;
     bounded = λ x h. orbit_bounded alpha L w made bound _ h;
     other = other;
-    closed = λ t x n h. alpha_closed L i t d x n h;
+    closed = closed;
     commutes = commutes;
   }
     where
       s : AreSteps L (step L)
       s = from_laws L (step L) (step_case L) w
+      closed : (t x : ℕ) → t ≢ i → InCell alpha L i d x → InCell alpha L i d (step L t x)
+      closed t x n h = go_on (step_case L t x)
+        where
+          go_on : IsStep (L t x) x (step L t x) → InCell alpha L i d (step L t x)
+          go_on (inl p) = subst (λ z. InCell alpha L i d z) (sym p.1) h
+          go_on (inr p) = subst (λ z. InCell alpha L i d z) (sym p.1) (alpha_closed L i t d x n h p.0)
       commutes : (t x : ℕ) → IsDistant alpha i t → InCell alpha L i d x → step L a (step L t x) ≡ step L t (step L a x)
       commutes t x h g = elim (near t h) [ inl e ↦ subst (λ z. step L a (step L z x) ≡ step L z (step L a x)) (sym e) (each x g) | inr k ↦ s.commute a t x k ]
 

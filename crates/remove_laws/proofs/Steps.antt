@@ -4,7 +4,7 @@ use Rattle.map_defs.specs.Kind.{alpha, IsDistant}
 use Rattle.map_defs.specs.Links.{Links}
 use Rattle.map_defs.specs.Laws.{Laws}
 use Rattle.map_defs.specs.Walks.{dart_or, step}
-use Rattle.remove_laws.proofs.Basics.{same_or_not}
+use Rattle.link_laws.proofs.Basics.{same_or_not}
 
 dart_or_zero : (e d : ℕ) → e ≡ 0 → dart_or e d ≡ d
 dart_or_zero zero d h = refl

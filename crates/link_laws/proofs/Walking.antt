@@ -1,7 +1,12 @@
 -- Walks out of a set: where they end is one dart, and in a bounded set a one-to-one walk ends.
 use Rattle.std.proofs.Common.{◌≡◌, ◌≢◌, ◌⊎◌, ◌≤◌, ◌<◌, ℕ, zero, suc, inl, inr, refl, sym, subst, ap, arith}
 use Rattle.map_defs.specs.Walks.{Walk, stop, go}
-use Rattle.remove_laws.proofs.Basics.{by_not_not, pigeonhole}
+use Rattle.link_laws.proofs.Pigeonhole.{pigeonhole}
+use Rattle.link_laws.proofs.Basics.{by_cases}
+
+-- an equation of numbers may be proved from P, where P cannot fail
+pub by_not_not : (P : Type 0) (a b : ℕ) → ((P → ⊥) → ⊥) → (P → a ≡ b) → a ≡ b
+by_not_not P a b nn f = by_cases P a b f (λ n. absurd (nn n))
 
 pub walk_one : {C : ℕ → Type 0} {st : ℕ → ℕ} {x y z : ℕ} → Walk C st x y → Walk C st x z → y ≡ z
 walk_one (stop n) (stop m) = refl
@@ -28,7 +33,12 @@ module _ (P : ℕ → Type 0) (st : ℕ → ℕ) (made first : ℕ) (bounded : (
   apart stays (suc j) (suc k) h m e = apart stays j k (omega arith) (omega arith) (one _ _ (stays j (omega arith)) (stays k (omega arith)) (stays (suc j) (omega arith)) e)
 
   pub cannot_stay : ((k : ℕ) → k ≤ suc made → P (iterate st first k)) → ⊥
-  cannot_stay stays = pigeonhole made (iterate st first) (λ k h. bounded _ (stays k h)) (apart stays)
+  cannot_stay stays =
+      let two = pigeonhole (suc made) (iterate st first) (λ k h. low k h) in
+      apart stays two.0 two.1 two.2 two.3 two.4
+    where
+      low : (k : ℕ) → k ≤ suc made → iterate st first k < suc made
+      low k h = let g = bounded _ (stays k h) in omega arith
 
 -- no walk from x ends
 NeverEnds : (ℕ → Type 0) → (ℕ → ℕ) → ℕ → Type 0

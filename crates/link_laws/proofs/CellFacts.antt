@@ -5,9 +5,6 @@ use Rattle.map_defs.specs.Links.{Links, IsMadeUpTo}
 use Rattle.map_defs.specs.Laws.{Laws}
 use Rattle.map_defs.specs.Words.{Word, one_link, two_links, through, through_second, IsCellWord}
 use Rattle.map_defs.specs.Cells.{InOrbit, here, onward, Leads, InCell}
-use Rattle.map_defs.specs.Walks.{step}
-use Rattle.remove_laws.proofs.Basics.{same_or_not}
-use Rattle.remove_laws.proofs.Steps.{IsStep, step_case}
 
 -- an orbit of a dart does not hold 0
 pub orbit_nonzero : (L : Links) (W : Word → Type 0) {d x : ℕ} → d ≢ 0 → InOrbit (Leads L W) d x → x ≢ 0
@@ -41,12 +38,8 @@ by_link k L i j d x c h n = onward h (one_link j, c, refl, n)
 pub by_two_links : (k : Kind) (L : Links) (i j t d x : ℕ) → IsCellWord k i (two_links j t) → InCell k L i d x → L t (L j x) ≢ 0 → InCell k L i d (L t (L j x))
 by_two_links k L i j t d x c h n = onward h (two_links j t, c, refl, n)
 
-pub alpha_closed : (L : Links) (i j d x : ℕ) → j ≢ i → InCell alpha L i d x → InCell alpha L i d (step L j x)
-alpha_closed L i j d x n h = go (step_case L j x)
-  where
-    go : IsStep (L j x) x (step L j x) → InCell alpha L i d (step L j x)
-    go (inl p) = subst (λ z. InCell alpha L i d z) (sym p.1) h
-    go (inr p) = subst (λ z. InCell alpha L i d z) (sym p.1) (by_link alpha L i j d x (inl (j, n, refl)) h p.0)
+pub alpha_closed : (L : Links) (i j d x : ℕ) → j ≢ i → InCell alpha L i d x → L j x ≢ 0 → InCell alpha L i d (L j x)
+alpha_closed L i j d x n h m = by_link alpha L i j d x (inl (j, n, refl)) h m
 
 -- a cell of dimension 2 or more of a combinatorial map is closed under all other links
 pub beta_closed : (L : Links) (i j d x : ℕ) → j ≢ suc (suc i) → InCell beta L (suc (suc i)) d x → L j x ≢ 0 → InCell beta L (suc (suc i)) d (L j x)

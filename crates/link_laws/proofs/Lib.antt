@@ -1,0 +1,11 @@
+pub mod Basics
+pub mod LawFacts
+pub mod Told
+pub mod Relink
+pub mod Sewn
+pub mod Unsewn
+pub mod SewnBack
+pub mod Pigeonhole
+pub mod SameRows
+pub mod Walking
+pub mod CellFacts
