@@ -1,3 +1,9 @@
 pub mod Steps
 pub mod AlphaBridge
 pub mod AlphaRemoval
+pub mod Walked
+pub mod BetaCrossed
+pub mod BetaCases
+pub mod BetaRemoval
+pub mod Smoothed
+pub mod SmoothedLaws

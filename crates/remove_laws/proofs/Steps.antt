@@ -34,6 +34,26 @@ pub record AreSteps (L S : Links) : Type 0 where
   pub twice : (i x : ℕ) → S i (S i x) ≡ x
   pub commute : (i j x : ℕ) → IsDistant alpha i j → S i (S j x) ≡ S j (S i x)
 
+-- Links i and j of x commute where their steps do.
+module _ (L S : Links) (at : (i x : ℕ) → IsStep (L i x) x (S i x)) (i j : ℕ) (nil_i : L i 0 ≡ 0) (nil_j : L j 0 ≡ 0)
+    (apart_i : (x : ℕ) → x ≢ 0 → L i x ≢ x) (apart_j : (x : ℕ) → x ≢ 0 → L j x ≢ x)
+    (back_i : (x : ℕ) → L i x ≢ 0 → L i (L i x) ≡ x) (back_j : (x : ℕ) → L j x ≢ 0 → L j (L j x) ≡ x) where
+  pub links_commute : (x : ℕ) → S i (S j x) ≡ S j (S i x) → L i (L j x) ≡ L j (L i x)
+  links_commute x e = go (at i x) (at j x) (at i (L j x)) (at j (L i x))
+    where
+      linked : (t : ℕ) → L t 0 ≡ 0 → L t x ≢ 0 → x ≢ 0
+      linked t n h z = h (cc (z, n))
+      go : IsStep (L i x) x (S i x) → IsStep (L j x) x (S j x) → IsStep (L i (L j x)) (L j x) (S i (L j x)) → IsStep (L j (L i x)) (L i x) (S j (L i x)) → L i (L j x) ≡ L j (L i x)
+      go (inl p) (inl q) r t = cc (p.0, q.0, nil_i, nil_j)
+      go (inl p) (inr q) (inl r) t = cc (p.0, r.0, nil_j)
+      go (inl p) (inr q) (inr r) t = absurd (apart_i (L j x) q.0 (cc (e, p.1, q.1, r.1)))
+      go (inr p) (inl q) r (inl t) = cc (q.0, t.0, nil_i)
+      go (inr p) (inl q) r (inr t) = absurd (apart_j (L i x) p.0 (cc (e, p.1, q.1, t.1)))
+      go (inr p) (inr q) (inl r) (inl t) = cc (r.0, t.0)
+      go (inr p) (inr q) (inl r) (inr t) = absurd (apart_i x (linked i nil_i p.0) (cc (e, p.1, q.1, r.1, t.1, back_j x q.0, back_j (L i x) t.0)))
+      go (inr p) (inr q) (inr r) (inl t) = absurd (apart_j x (linked j nil_j q.0) (cc (e, p.1, q.1, r.1, t.1, back_i x p.0, back_i (L j x) r.0)))
+      go (inr p) (inr q) (inr r) (inr t) = cc (p.1, q.1, r.1, t.1, e)
+
 module _ (L S : Links) (at : (i x : ℕ) → IsStep (L i x) x (S i x)) where
   module _ (w : Laws alpha L) where
     twice : (i x : ℕ) → S i (S i x) ≡ x
@@ -75,20 +95,7 @@ module _ (L S : Links) (at : (i x : ℕ) → IsStep (L i x) x (S i x)) where
         go (inr p) (inr q) = cc (s.twice i x, p.1, q.1)
 
     square : (i j x : ℕ) → IsDistant alpha i j → L i (L j x) ≡ L j (L i x)
-    square i j x h = go (at i x) (at j x) (at i (L j x)) (at j (L i x))
-      where
-        e : S i (S j x) ≡ S j (S i x)
-        e = s.commute i j x h
-        go : IsStep (L i x) x (S i x) → IsStep (L j x) x (S j x) → IsStep (L i (L j x)) (L j x) (S i (L j x)) → IsStep (L j (L i x)) (L i x) (S j (L i x)) → L i (L j x) ≡ L j (L i x)
-        go (inl p) (inl q) r t = cc (p.0, q.0, s.nil i, s.nil j)
-        go (inl p) (inr q) (inl r) t = cc (p.0, r.0, s.nil j)
-        go (inl p) (inr q) (inr r) t = absurd (s.apart i (L j x) q.0 (cc (e, p.1, q.1, r.1)))
-        go (inr p) (inl q) r (inl t) = cc (q.0, t.0, s.nil i)
-        go (inr p) (inl q) r (inr t) = absurd (s.apart j (L i x) p.0 (cc (e, p.1, q.1, t.1)))
-        go (inr p) (inr q) (inl r) (inl t) = cc (r.0, t.0)
-        go (inr p) (inr q) (inl r) (inr t) = absurd (s.apart i x (nonzero i x p.0) (cc (e, p.1, q.1, r.1, t.1, back j x q.0, back j (L i x) t.0)))
-        go (inr p) (inr q) (inr r) (inl t) = absurd (s.apart j x (nonzero j x q.0) (cc (e, p.1, q.1, r.1, t.1, back i x p.0, back i (L j x) r.0)))
-        go (inr p) (inr q) (inr r) (inr t) = cc (p.1, q.1, r.1, t.1, e)
+    square i j x h = links_commute L S at i j (s.nil i) (s.nil j) (s.apart i) (s.apart j) (back i) (back j) x (s.commute i j x h)
 
     pub to_laws : Laws alpha L
     to_laws = record { nil = s.nil; back = back; apart = λ i x h. s.apart i x; square = square }
