@@ -7,3 +7,4 @@ pub mod BetaCases
 pub mod BetaRemoval
 pub mod Smoothed
 pub mod SmoothedLaws
+pub mod Removed
