@@ -7,3 +7,5 @@ pub mod Unsewn
 pub mod SewnBack
 pub mod Pigeonhole
 pub mod SameRows
+pub mod Walking
+pub mod CellFacts

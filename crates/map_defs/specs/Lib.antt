@@ -10,3 +10,9 @@ pub mod Births
 pub mod Walks
 pub mod Insertion
 pub mod Closing
+pub mod Removal
+pub mod Contraction
+pub mod Dual
+pub mod Touched
+pub mod Values
+pub mod Carry
