@@ -52,7 +52,7 @@ walked_of i C Q L N b a = record {
 }
   where
     turned : (i : ℕ) → IsBridged beta (suc i) C (λ z. L (suc i) (Q z)) L N → inverse beta (suc i) ≢ suc i → (x y : ℕ) → x ≢ 0 → y ≢ 0 → (N (suc i) x ≡ y) ↔ (N (inverse beta (suc i)) y ≡ x)
-    turned zero b m = b.turned refl
+    turned zero b m = (b.turned refl).back
     turned (suc i) b m = absurd (m refl)
 
     apart : (i : ℕ) → StaysApart i C Q L → inverse beta (suc i) ≡ suc i → (x : ℕ) → x ≢ 0 → (C x → ⊥) → Walk C (λ z. L (suc i) (Q z)) (L (suc i) x) x → ⊥

@@ -33,8 +33,8 @@ module _ (made : ℕ) (C : ℕ → Type 0) (L N : Links) (c : CanBeSmoothed made
           cc (is, b.lands (L t y) (L t x) t (beyond_out made C L c t x y h r far) (omega arith) (beyond made C L c t x y h n r near), own_at t x h near)
 
   back : (t x : ℕ) → N t x ≢ 0 → N (inverse beta t) (N t x) ≡ x
-  back zero x h = (b.turned (N 0 x) x h (dart_at 0 x h)).1 refl
-  back (suc zero) x h = (b.turned x (N 1 x) (dart_at 1 x h) h).0 refl
+  back zero x h = (b.turned.back (N 0 x) x h (dart_at 0 x h)).1 refl
+  back (suc zero) x h = (b.turned.back x (N 1 x) (dart_at 1 x h) h).0 refl
   back (suc (suc t)) x h = back_high (suc (suc t)) x (omega arith) h
 
   apart : (t x : ℕ) → inverse beta t ≡ t → x ≢ 0 → N t x ≢ x
@@ -58,7 +58,7 @@ module _ (made : ℕ) (C : ℕ → Type 0) (L N : Links) (c : CanBeSmoothed made
   none_before x n m e = stable _ _ (λ k. run_ends made C L c (N 0 x) (stays k) (λ u r. m (at k u r)))
     where
       leads : N 0 x ≢ 0 → N 1 (N 0 x) ≡ x
-      leads k = (b.turned (N 0 x) x k m).1 refl
+      leads k = (b.turned.back (N 0 x) x k m).1 refl
 
       stays : N 0 x ≢ 0 → C (N 0 x) → ⊥
       stays k h = m (cc (b.gone (N 0 x) 1 h, leads k))
@@ -94,7 +94,7 @@ module _ (made : ℕ) (C : ℕ → Type 0) (L N : Links) (c : CanBeSmoothed made
           let run : RunsTo L C w (L 0 x) = back_run (L 0 x) v (stop (λ g. n (subst C (led m) g))) in
           let there : w ≢ 0 = back_there v m in
           let onward : N 1 w ≡ x = b.lands w (L 0 x) 1 out (omega arith) run ∙ led m in
-          cc ((b.turned w x there k).0 onward, b.lands w (L 0 x) j out (omega arith) run)
+          cc ((b.turned.back w x there k).0 onward, b.lands w (L 0 x) j out (omega arith) run)
 
       ends_back : L 0 x ≢ 0 → ((w : ℕ) → Walk C (L 0) (L 0 x) w → ⊥) → ⊥
       ends_back m = leaves C (L 0) made (L 0 x) c.bounded (λ y z p q r e. link_one beta L c.laws 0 y z (c.flat y p).0 e) (λ y g e. n (subst C (link_one beta L c.laws 0 y x (c.flat y g).0 e) g))

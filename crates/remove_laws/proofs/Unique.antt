@@ -8,6 +8,7 @@ use Rattle.map_defs.specs.Walks.{Walk}
 use Rattle.map_defs.specs.Removal.{Lands, RunsTo, IsBridged, IsSmoothed, IsRemovable, IsRemoved}
 use Rattle.map_defs.specs.Contraction.{IsContractible, IsContracted}
 use Rattle.link_laws.proofs.Basics.{same_or_not, by_cases}
+use Rattle.link_laws.proofs.Turned.{turned_one}
 use Rattle.link_laws.proofs.Walking.{by_not_not}
 use Rattle.remove_laws.proofs.Smoothed.{run_ends}
 use Rattle.remove_laws.proofs.Removed.{vertex_smoothed}
@@ -16,16 +17,6 @@ use Rattle.remove_laws.proofs.Ends.{MustEnd, removal_ends, contraction_ends}
 lands_one : (k : Kind) (x y a b : ℕ) → Lands k x y a → Lands k x y b → a ≡ b
 lands_one alpha x y a b p q = elim (same_or_not y x) [ inl e ↦ cc (p.1 e, q.1 e) | inr n ↦ cc (p.0 n, q.0 n) ]
 lands_one beta x y a b p q = cc (p, q)
-
--- link 0 is told by link 1
-turned_one : (N M : Links) → IsTurned N → IsTurned M → N 0 0 ≡ 0 → M 0 0 ≡ 0 → ((x : ℕ) → N 1 x ≡ M 1 x) → (x : ℕ) → N 0 x ≡ M 0 x
-turned_one N M tn tm n0 m0 same x = at (same_or_not x 0) (same_or_not (N 0 x) 0) (same_or_not (M 0 x) 0)
-  where
-    at : (x ≡ 0) ⊎ (x ≢ 0) → (N 0 x ≡ 0) ⊎ (N 0 x ≢ 0) → (M 0 x ≡ 0) ⊎ (M 0 x ≢ 0) → N 0 x ≡ M 0 x
-    at (inl e) p q = cc (e, n0, m0)
-    at (inr h) (inr p) q = sym ((tm (N 0 x) x p h).0 (sym (same (N 0 x)) ∙ (tn (N 0 x) x p h).1 refl))
-    at (inr h) (inl e) (inl f) = e ∙ sym f
-    at (inr h) (inl e) (inr q) = (tn (M 0 x) x q h).0 (same (M 0 x) ∙ (tm (M 0 x) x q h).1 refl)
 
 module _ (k : Kind) (i : ℕ) (C : ℕ → Type 0) (Step : ℕ → ℕ) (L N M : Links) (b : IsBridged k i C Step L N) (c : IsBridged k i C Step L M)
     (ends : (x : ℕ) → (C x → ⊥) → MustEnd L i C Step x) where
@@ -41,7 +32,7 @@ module _ (k : Kind) (i : ℕ) (C : ℕ → Type 0) (Step : ℕ → ℕ) (L N M :
   bridged_one (inr p) t x = elim (same_or_not t i) [
     | inl e ↦ ap (λ s. N s x) e ∙ (same_at x ∙ ap (λ s. M s x) (sym e))
     | inr m ↦ elim (same_or_not t (inverse k i)) [
-      | inl e ↦ (let z = e ∙ p.2 in ap (λ s. N s x) z ∙ (turned_one N M (b.turned p.0) (c.turned p.0) (b.nothing 0) (c.nothing 0) (λ y. subst (λ s. N s y ≡ M s y) p.1 (same_at y)) x ∙ ap (λ s. M s x) (sym z)))
+      | inl e ↦ (let z = e ∙ p.2 in ap (λ s. N s x) z ∙ (turned_one N M (b.turned p.0) (c.turned p.0) (λ y. subst (λ s. N s y ≡ M s y) p.1 (same_at y)) x ∙ ap (λ s. M s x) (sym z)))
       | inr l ↦ same_kept t x m l
     ]
   ]
@@ -59,7 +50,7 @@ module _ (C : ℕ → Type 0) (L N M : Links) (b : IsSmoothed C L N) (c : IsSmoo
       by_not_not ((y : ℕ) × RunsTo L C x y) _ _ (λ never. ends x n (λ y w. never (y, w))) (λ w. cc (b.lands x w.0 t n h w.1, c.lands x w.0 t n h w.1)))
 
   smoothed_one : (t x : ℕ) → N t x ≡ M t x
-  smoothed_one zero x = turned_one N M b.turned c.turned (b.nothing 0) (c.nothing 0) (λ y. smoothed_high 1 y (omega arith)) x
+  smoothed_one zero x = turned_one N M b.turned c.turned (λ y. smoothed_high 1 y (omega arith)) x
   smoothed_one (suc t) x = smoothed_high (suc t) x (omega arith)
 
 module _ (made d : ℕ) (L N M : Links) (bound : IsMadeUpTo made L) (live : d ≢ 0) where
