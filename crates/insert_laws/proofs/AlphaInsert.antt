@@ -7,7 +7,7 @@ use Rattle.map_defs.specs.Words.{one_link}
 use Rattle.map_defs.specs.Cells.{InOrbit, here, onward, InCell}
 use Rattle.map_defs.specs.Pairs.{InPairs, seed, turned, across, JustOne, IsGood}
 use Rattle.map_defs.specs.Insertion.{IsJustBelow, IsInsertable, GoesAlong, IsCarrying, IsPairing, IsLinkedBy, NoPairs, InAlphaCorner, AlphaEdgeDarts, AlphaEdgePairs, AreAlphaEdgePaired}
-use Rattle.insert_laws.proofs.Orbits.{orbit_dart}
+use Rattle.link_laws.proofs.Orbits.{orbit_dart}
 use Rattle.link_laws.proofs.Basics.{distant_alpha, distant_alpha_is}
 
 pub alpha_vertex_can : (L : Links) (d : ℕ) → d ≢ 0 → IsInsertable alpha 0 (InCell alpha L 1 d) NoPairs L

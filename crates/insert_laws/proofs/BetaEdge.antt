@@ -54,10 +54,10 @@ module _ (L : Links) (w : Laws beta L) (Turn : ℕ → ℕ → Type 0) (turn : I
   -- link 0: into the end of a new dart, out of a new dart, and elsewhere as before
   pub zero_in : (u y : ℕ) → Turn u y → N 0 u ≡ star y
   zero_in u y p = let q : Turn y u = turn.both u y p in
-    (s.turned (star y) u (fresh.dart y (u, q)) (turn.dart u y p)).0 (s.onward y u q)
+    (s.turned.back (star y) u (fresh.dart y (u, q)) (turn.dart u y p)).0 (s.onward y u q)
 
   pub zero_new : (x y : ℕ) → Turn x y → N 0 (star x) ≡ L 0 x
-  zero_new x y p = (s.turned (L 0 x) (star x) (turn.begins x y p) (fresh.dart x (y, p))).0 (s.into x y p)
+  zero_new x y p = (s.turned.back (L 0 x) (star x) (turn.begins x y p) (fresh.dart x (y, p))).0 (s.into x y p)
 
   pub zero_free : (u b : ℕ) → (IsNew (IsCorner Turn) star u → ⊥) → (IsCorner Turn u → ⊥) → L 0 u ≡ 0 → u ≢ 0 → b ≢ 0 → N 1 b ≡ u → ⊥
   zero_free u b old out z hu hb e =
@@ -70,13 +70,13 @@ module _ (L : Links) (w : Laws beta L) (Turn : ℕ → ℕ → Type 0) (turn : I
 
   pub zero_out : (u : ℕ) → (IsNew (IsCorner Turn) star u → ⊥) → (IsCorner Turn u → ⊥) → N 0 u ≡ L 0 u
   zero_out u old out = ⊎_elim
-    (λ (z : u ≡ 0). let a : N 0 0 ≡ 0 = s.nothing 0 in cc (w.nil 0))
+    (λ (z : u ≡ 0). let a : N 0 0 ≡ 0 = s.turned.nothing in cc (w.nil 0))
     (λ (hu : u ≢ 0). ⊎_elim
-      (λ (z : L 0 u ≡ 0). stable (N 0 u) 0 (λ n. zero_free u (N 0 u) old out z hu n ((s.turned (N 0 u) u n hu).1 refl)) ∙ sym z)
+      (λ (z : L 0 u ≡ 0). stable (N 0 u) 0 (λ n. zero_free u (N 0 u) old out z hu n ((s.turned.back (N 0 u) u n hu).1 refl)) ∙ sym z)
       (λ (n : L 0 u ≢ 0).
         let g : L 1 (L 0 u) ≡ u = w.back 0 u n in
         let b : ComesBefore L Turn (L 0 u) → ⊥ = λ (c, y, p, q).
           let h : L 1 (L 0 c) ≡ c = w.back 0 c (turn.begins c y p) in let r : c ≡ u = cc in out (y, rw r at p) in
-        (s.turned (L 0 u) u n hu).0 (one_out (L 0 u) (not_link 0 u) b ∙ g))
+        (s.turned.back (L 0 u) u n hu).0 (one_out (L 0 u) (not_link 0 u) b ∙ g))
       (same_or_not (L 0 u) 0))
     (same_or_not u 0)

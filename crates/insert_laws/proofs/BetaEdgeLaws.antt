@@ -47,14 +47,14 @@ module _ (L : Links) (w : Laws beta L) (Turn : ℕ → ℕ → Type 0) (turn : I
 
   zero_at : (x y j : ℕ) → Turn x y → 3 ≤ j → N 0 (star (L j (L 0 y))) ≡ L 0 (L j (L 0 y))
   zero_at x y j p l = ⊎_elim
-    (λ (o : L j (L 0 y) ≡ 0). let b : N 0 0 ≡ 0 = s.nothing 0 in cc (fresh.nothing, w.nil 0))
+    (λ (o : L j (L 0 y) ≡ 0). let b : N 0 0 ≡ 0 = s.turned.nothing in cc (fresh.nothing, w.nil 0))
     (λ (n : L j (L 0 y) ≢ 0). edge.zero_new L w Turn turn star fresh N s (L j (L 0 y)) (L j (L 0 x)) (turn.across y x j (turn.both x y p) l n))
     (same_or_not (L j (L 0 y)) 0)
 
   -- into a copy's end
   zero_copy : (x y j : ℕ) → Turn x y → 3 ≤ j → N 0 (L j (L 0 x)) ≡ star (L j (L 0 y))
   zero_copy x y j p l = ⊎_elim
-    (λ (o : L j (L 0 x) ≡ 0). let a : L j (L 0 y) ≡ 0 = turn.even x y j p l o in let b : N 0 0 ≡ 0 = s.nothing 0 in cc (fresh.nothing))
+    (λ (o : L j (L 0 x) ≡ 0). let a : L j (L 0 y) ≡ 0 = turn.even x y j p l o in let b : N 0 0 ≡ 0 = s.turned.nothing in cc (fresh.nothing))
     (λ (n : L j (L 0 x) ≢ 0). edge.zero_in L w Turn turn star fresh N s (L j (L 0 x)) (L j (L 0 y)) (turn.across x y j p l n))
     (same_or_not (L j (L 0 x)) 0)
 
@@ -207,6 +207,6 @@ module _ (L : Links) (w : Laws beta L) (Turn : ℕ → ℕ → Type 0) (turn : I
 
   pub cut_keeps : Laws beta N
   cut_keeps = laws_from_parts N (record {
-    nil = nil; turned = s.turned; nothing = s.nothing 0; back = cut_back; apart = cut_apart;
+    nil = nil; turned = s.turned; back = cut_back; apart = cut_apart;
     onward = cut_onward; backward = cut_backward; high = cut_high
   })

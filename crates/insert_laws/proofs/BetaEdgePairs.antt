@@ -9,7 +9,7 @@ use Rattle.map_defs.specs.Pairs.{InPairs, seed, turned, across, IsGood}
 use Rattle.map_defs.specs.Insertion.{IsCornerWord, InBetaCorner, BetaEdgePairs, BetaEdgeLeads, AreBetaEdgePaired}
 use Rattle.link_laws.proofs.Basics.{inverse_own, inverse_twice}
 use Rattle.link_laws.proofs.LawFacts.{dart_of_link}
-use Rattle.insert_laws.proofs.Orbits.{orbit_trans, orbit_back}
+use Rattle.link_laws.proofs.Orbits.{orbit_trans, orbit_back}
 use Rattle.insert_laws.proofs.BetaParts.{onward_of, backward_of, back_of, alike_onward, alike_backward}
 use Rattle.insert_laws.proofs.BetaEdge.{IsTurning, before_copy}
 

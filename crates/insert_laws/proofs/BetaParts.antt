@@ -9,7 +9,6 @@ use Rattle.link_laws.proofs.LawFacts.{alike}
 pub record HasParts (N : Links) : Type 0 where
   pub nil : (t : ℕ) → 1 ≤ t → N t 0 ≡ 0
   pub turned : IsTurned N
-  pub nothing : N 0 0 ≡ 0
   pub back : (j x : ℕ) → 2 ≤ j → N j x ≢ 0 → N j (N j x) ≡ x
   pub apart : (j x : ℕ) → 2 ≤ j → x ≢ 0 → N j x ≢ x
   -- links 0 and 1 with a higher link, and two higher links
@@ -19,12 +18,12 @@ pub record HasParts (N : Links) : Type 0 where
 
 module _ (N : Links) (r : HasParts N) where
   parts_nil : (t : ℕ) → N t 0 ≡ 0
-  parts_nil zero = r.nothing
+  parts_nil zero = r.turned.nothing
   parts_nil (suc t) = r.nil (suc t) (omega arith)
 
   parts_back : (t x : ℕ) → N t x ≢ 0 → N (inverse beta t) (N t x) ≡ x
-  parts_back zero x h = (r.turned (N 0 x) x h (λ z. h (ap (N 0) z ∙ parts_nil 0))).1 refl
-  parts_back (suc zero) x h = (r.turned x (N 1 x) (λ z. h (ap (N 1) z ∙ parts_nil 1)) h).0 refl
+  parts_back zero x h = (r.turned.back (N 0 x) x h (λ z. h (ap (N 0) z ∙ parts_nil 0))).1 refl
+  parts_back (suc zero) x h = (r.turned.back x (N 1 x) (λ z. h (ap (N 1) z ∙ parts_nil 1)) h).0 refl
   parts_back (suc (suc t)) x h = r.back (suc (suc t)) x (omega arith) h
 
   parts_apart : (t x : ℕ) → inverse beta t ≡ t → x ≢ 0 → N t x ≢ x

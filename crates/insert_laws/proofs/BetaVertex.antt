@@ -10,7 +10,7 @@ use Rattle.map_defs.specs.Insertion.{IsSplit, IsBetaVertex}
 use Rattle.link_laws.proofs.Basics.{by_cases, stable, same_or_not}
 use Rattle.link_laws.proofs.LawFacts.{dart_of_link}
 use Rattle.insert_laws.proofs.Fresh.{IsNew, InOrNone, fresh_link, fresh_old, fresh_none, fresh_zero}
-use Rattle.insert_laws.proofs.Orbits.{orbit_dart}
+use Rattle.link_laws.proofs.Orbits.{orbit_dart}
 use Rattle.insert_laws.proofs.BetaParts.{HasParts, laws_from_parts, onward_of, backward_of, high_of, back_of, apart_of}
 
 -- K is a set of darts that is closed under the links from 2 upwards
@@ -60,14 +60,14 @@ module _ (L : Links) (w : Laws beta L) (K : ℕ → Type 0) (set : IsEdgeSet L K
 
   -- link 0 of a new dart, and of an old one
   back_new : (u : ℕ) → InOrNone K u → N 0 (star u) ≡ u
-  back_new u (inl h) = (s.turned u (star u) (set.dart u h) (fresh.dart u h)).0 (s.first u h)
-  back_new u (inr o) = let a : N 0 0 ≡ 0 = s.nothing 0 in cc (fresh.nothing)
+  back_new u (inl h) = (s.turned.back u (star u) (set.dart u h) (fresh.dart u h)).0 (s.first u h)
+  back_new u (inr o) = let a : N 0 0 ≡ 0 = s.turned.nothing in cc (fresh.nothing)
 
   back_in : (u : ℕ) → K (L 0 u) → N 0 u ≡ star (L 0 u)
   back_in u h =
     let n : L 0 u ≢ 0 = set.dart (L 0 u) h in
     let e : N 1 (star (L 0 u)) ≡ u = s.second (L 0 u) h ∙ w.back 0 u n in
-    (s.turned (star (L 0 u)) u (fresh.dart (L 0 u) h) (dart_of_link beta L w 0 u n)).0 e
+    (s.turned.back (star (L 0 u)) u (fresh.dart (L 0 u) h) (dart_of_link beta L w 0 u n)).0 e
 
   -- no dart leads on to an old dart that none led to
   back_free : (u b : ℕ) → (IsNew K star u → ⊥) → L 0 u ≡ 0 → u ≢ 0 → b ≢ 0 → N 1 b ≡ u → ⊥
@@ -80,12 +80,12 @@ module _ (L : Links) (w : Laws beta L) (K : ℕ → Type 0) (set : IsEdgeSet L K
 
   back_out : (u : ℕ) → (IsNew K star u → ⊥) → (K (L 0 u) → ⊥) → N 0 u ≡ L 0 u
   back_out u old far = ⊎_elim
-    (λ (z : u ≡ 0). let a : N 0 0 ≡ 0 = s.nothing 0 in cc (w.nil 0))
+    (λ (z : u ≡ 0). let a : N 0 0 ≡ 0 = s.turned.nothing in cc (w.nil 0))
     (λ (hu : u ≢ 0). ⊎_elim
-      (λ (z : L 0 u ≡ 0). stable (N 0 u) 0 (λ n. back_free u (N 0 u) old z hu n ((s.turned (N 0 u) u n hu).1 refl)) ∙ sym z)
+      (λ (z : L 0 u ≡ 0). stable (N 0 u) 0 (λ n. back_free u (N 0 u) old z hu n ((s.turned.back (N 0 u) u n hu).1 refl)) ∙ sym z)
       (λ (n : L 0 u ≢ 0).
         let e : N 1 (L 0 u) ≡ L 1 (L 0 u) = out 1 (L 0 u) (omega arith) (fresh_link beta L w K star fresh 0 u) far in
-        (s.turned (L 0 u) u n hu).0 (e ∙ w.back 0 u n))
+        (s.turned.back (L 0 u) u n hu).0 (e ∙ w.back 0 u n))
       (same_or_not (L 0 u) 0))
     (same_or_not u 0)
 
@@ -170,6 +170,6 @@ module _ (L : Links) (w : Laws beta L) (K : ℕ → Type 0) (set : IsEdgeSet L K
 
   pub split_keeps : Laws beta N
   split_keeps = laws_from_parts N (record {
-    nil = nil; turned = s.turned; nothing = s.nothing 0; back = split_back; apart = split_apart;
+    nil = nil; turned = s.turned; back = split_back; apart = split_apart;
     onward = split_onward; backward = split_backward; high = split_high
   })

@@ -82,7 +82,7 @@ below_cases beta (suc i) (suc t) own b = before (omega arith)
 -- link 0 of the new darts in a combinatorial map leads around the boundary the other way
 module _ (Live : ℕ → Type 0) (L : Links) (w : Laws beta L) (dart : (x : ℕ) → Live x → x ≢ 0) (live : LeadsToLive Live L) (made : ℕ) (bound : IsMadeUpTo made L) (star : ℕ → ℕ) (fresh : IsFresh L (IsOpen Live 2 L) star) (N : Links) (s : IsClosed beta 2 Live star L N) where
   leads_back : (x y : ℕ) → IsOpen Live 2 L x → IsOpen Live 2 L y → N 1 (star y) ≡ star x → N 0 (star x) ≡ star y
-  leads_back x y hx hy e = (s.turned refl (star y) (star x) (fresh.dart y hy) (fresh.dart x hx)).0 e
+  leads_back x y hx hy e = ((s.turned refl).back (star y) (star x) (fresh.dart y hy) (fresh.dart x hx)).0 e
 
   turned_pair : (x y : ℕ) → ClosingPair beta 2 Live L x y 0 → y ≢ 0 → N 0 (star x) ≡ star y
   turned_pair x y p n =
@@ -110,7 +110,7 @@ module _ (Live : ℕ → Type 0) (L : Links) (w : Laws beta L) (dart : (x : ℕ)
     (λ (o : y ≡ 0).
       let p0 : ClosingPair beta 2 Live L x 0 0 = rw o at p in
       let hx : star x ≢ 0 = fresh.dart x p.open_dart in
-      stable (N 0 (star x)) 0 (λ n. turned_free x (N 0 (star x)) p0 n ((s.turned refl (N 0 (star x)) (star x) n hx).1 refl)) ∙ sym (ap star o ∙ fresh.nothing))
+      stable (N 0 (star x)) 0 (λ n. turned_free x (N 0 (star x)) p0 n (((s.turned refl).back (N 0 (star x)) (star x) n hx).1 refl)) ∙ sym (ap star o ∙ fresh.nothing))
     (λ (n : y ≢ 0). turned_pair x y p n)
     (same_or_not y 0)
 

@@ -10,7 +10,7 @@ use Rattle.map_defs.specs.Births.{IsFresh}
 use Rattle.link_laws.proofs.Basics.{distant_alpha, distant_alpha_is, distant_high, inverse_own, inverse_twice, IsDistant-inverse_right, stable}
 use Rattle.link_laws.proofs.LawFacts.{alike, dart_of_link}
 use Rattle.insert_laws.proofs.Places.{below_inverse}
-use Rattle.insert_laws.proofs.Orbits.{orbit_dart}
+use Rattle.link_laws.proofs.Orbits.{orbit_dart}
 use Rattle.insert_laws.proofs.InsertSquare.{insertion_keeps}
 use Rattle.insert_laws.proofs.Paths.{next_held, has_next, is_next}
 

@@ -3,7 +3,6 @@ pub mod Fresh
 pub mod Stands
 pub mod InsertAny
 pub mod InsertSquare
-pub mod Orbits
 pub mod AlphaInsert
 pub mod Paths
 pub mod Face

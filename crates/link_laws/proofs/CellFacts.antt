@@ -4,12 +4,12 @@ use Rattle.map_defs.specs.Kind.{Kind, alpha, beta, inverse}
 use Rattle.map_defs.specs.Links.{Links, IsMadeUpTo}
 use Rattle.map_defs.specs.Laws.{Laws}
 use Rattle.map_defs.specs.Words.{Word, one_link, two_links, through, through_second, IsCellWord}
+use Rattle.link_laws.proofs.Orbits.{orbit_dart}
 use Rattle.map_defs.specs.Cells.{InOrbit, here, onward, Leads, InCell}
 
 -- an orbit of a dart does not hold 0
 pub orbit_nonzero : (L : Links) (W : Word → Type 0) {d x : ℕ} → d ≢ 0 → InOrbit (Leads L W) d x → x ≢ 0
-orbit_nonzero L W n here = n
-orbit_nonzero L W n (onward o s) = s.3
+orbit_nonzero L W {d = d} {x = x} n o = orbit_dart (Leads L W) (λ u v s. s.3) d x n o
 
 module _ (k : Kind) (L : Links) (w : Laws k L) (made : ℕ) (bound : IsMadeUpTo made L) where
   led_low : (t u y : ℕ) → L t u ≡ y → y ≢ 0 → y ≤ made

@@ -7,5 +7,7 @@ pub mod Unsewn
 pub mod SewnBack
 pub mod Pigeonhole
 pub mod SameRows
+pub mod Orbits
+pub mod Turned
 pub mod Walking
 pub mod CellFacts

@@ -27,7 +27,6 @@ pub record IsClosed (k : Kind) (i : ℕ) (Live : ℕ → Type 0) (star : ℕ →
   pub around : (x y t : ℕ) → IsOpen Live i L x → suc t ≡ i → IsAround k i t L x y → N t (star x) ≡ star y
   pub kept : (x t : ℕ) → (IsOpen Live i L x → t ≢ i) → ((y : ℕ) → IsOpen Live i L y → x ≢ star y) → N t x ≡ L t x
   pub turned : k ≡ beta → IsTurned N
-  pub nothing : (t : ℕ) → N t 0 ≡ 0
 
 -- Two new darts for each dart x of K, the edge star x, tip x, which link 1 hangs on x. Link 1 of the tips runs as link
 -- m runs at the old darts.
@@ -62,7 +61,6 @@ pub record IsBetaDangled (d : ℕ) (star tip : ℕ → ℕ) (L N : Links) : Type
   pub along_tip : (x j : ℕ) → InBetaCorner L d x → 3 ≤ j → N j (tip x) ≡ star (L j (L 0 x))
   pub kept : (x t : ℕ) → 1 ≤ t → ((y : ℕ) → InBetaCorner L d y → t ≡ 1 → x ≢ L 0 y) → ((y : ℕ) → InBetaCorner L d y → x ≢ star y) → ((y : ℕ) → InBetaCorner L d y → x ≢ tip y) → N t x ≡ L t x
   pub turned : IsTurned N
-  pub nothing : (t : ℕ) → N t 0 ≡ 0
 
 -- A vertex in the middle of the face of d with an edge to each corner, in a combinatorial map.
 pub record IsBetaCentred (d : ℕ) (star tip : ℕ → ℕ) (L N : Links) : Type 0 where
@@ -75,7 +73,6 @@ pub record IsBetaCentred (d : ℕ) (star tip : ℕ → ℕ) (L N : Links) : Type
   pub along_tip : (x j : ℕ) → InCell beta L 2 d x → 3 ≤ j → N j (tip x) ≡ star (L j x)
   pub kept : (x t : ℕ) → 1 ≤ t → (InCell beta L 2 d x → t ≢ 1) → ((y : ℕ) → InCell beta L 2 d y → x ≢ star y) → ((y : ℕ) → InCell beta L 2 d y → x ≢ tip y) → N t x ≡ L t x
   pub turned : IsTurned N
-  pub nothing : (t : ℕ) → N t 0 ≡ 0
 
 -- the face of d is closed, as a vertex in its middle needs
 abbrev pub IsClosedFace : Kind → Links → ℕ → Type 0

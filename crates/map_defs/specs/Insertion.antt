@@ -75,7 +75,6 @@ pub record IsSplit (K : ℕ → Type 0) (star : ℕ → ℕ) (L N : Links) : Typ
   pub old : (x j : ℕ) → K x → 2 ≤ j → N j (star x) ≡ L j x
   pub kept : (x t : ℕ) → 1 ≤ t → (K x → ⊥) → ((y : ℕ) → K y → x ≢ star y) → N t x ≡ L t x
   pub turned : IsTurned N
-  pub nothing : (t : ℕ) → N t 0 ≡ 0
 
 -- a vertex on the edge of d, in a combinatorial map: always possible
 abbrev pub IsBetaVertex : ℕ → (ℕ → ℕ) → Links → Links → Type 0
@@ -133,7 +132,6 @@ pub record IsCut (Turn : ℕ → ℕ → Type 0) (star : ℕ → ℕ) (L N : Lin
   pub along : (x y j : ℕ) → Turn x y → 3 ≤ j → N j (star x) ≡ star (L j (L 0 y))
   pub kept : (x t : ℕ) → 1 ≤ t → ((c y : ℕ) → Turn c y → t ≡ 1 → x ≢ L 0 c) → ((c y : ℕ) → Turn c y → x ≢ star c) → N t x ≡ L t x
   pub turned : IsTurned N
-  pub nothing : (t : ℕ) → N t 0 ≡ 0
 
 abbrev pub IsBetaEdge : ℕ → ℕ → (ℕ → ℕ) → Links → Links → Type 0
 IsBetaEdge d e star L N = IsCut (BetaEdgeLeads L d e) star L N

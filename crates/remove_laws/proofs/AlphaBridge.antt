@@ -1,14 +1,12 @@
 -- A generalized map whose links at i are drawn across a cell obeys the laws. Step a takes turns with step i on the walk:
 -- a is i + 1 for a removal and i - 1 for a contraction.
-use Rattle.std.proofs.Common.{◌≡◌, ◌≢◌, ◌⊎◌, ◌≤◌, ℕ, zero, suc, inl, inr, refl, sym, ap, subst, ◌∙◌, arith}
+use Rattle.std.proofs.Common.{◌≡◌, ◌≢◌, ◌⊎◌, ◌≤◌, ℕ, inl, inr, sym, subst}
 use Rattle.map_defs.specs.Kind.{alpha, IsDistant}
 use Rattle.map_defs.specs.Links.{Links}
-use Rattle.map_defs.specs.Laws.{Laws}
-use Rattle.map_defs.specs.Walks.{Walk, stop, go, step}
-use Rattle.map_defs.specs.Removal.{IsBridged}
+use Rattle.map_defs.specs.Walks.{Walk, stop, go}
 use Rattle.link_laws.proofs.Basics.{same_or_not, by_cases, IsDistant-turned, IsDistant-apart}
-use Rattle.link_laws.proofs.Walking.{by_not_not, walk_one, walk_outside, leaves, found}
-use Rattle.remove_laws.proofs.Steps.{IsStep, AreSteps}
+use Rattle.link_laws.proofs.Walking.{by_not_not, walk_outside, leaves, found}
+use Rattle.remove_laws.proofs.Steps.{AreSteps}
 
 -- S are the steps of the old links L; the set C is closed under all of them but those at i
 pub record IsCrossed (i a made : ℕ) (C : ℕ → Type 0) (L S : Links) : Type 0 where
@@ -57,6 +55,7 @@ module _ (i a made : ℕ) (C : ℕ → Type 0) (L S : Links) (c : IsCrossed i a 
     where
       beside : S a x ≡ S i (S i (S a x))
       beside = sym (c.steps.twice i (S a x))
+
       on : S a x ≡ S i (S a (S a (S i (S a x))))
       on = cc (c.steps.twice i (S a x), c.steps.twice a (S i (S a x)))
 
@@ -74,6 +73,7 @@ module _ (i a made : ℕ) (C : ℕ → Type 0) (L S : Links) (c : IsCrossed i a 
       where
         across : (C x → ⊥) → t ≡ i → M t (M t x) ≡ x
         across n e = by_not_not ((y : ℕ) × Across (S i x) y) _ _ (λ never. ends x n (λ y w. never (y, w))) (λ w. cc (e, d.lands x w.0 n w.1, d.lands w.0 x (walk_outside w.1) (back x w.0 n w.1)))
+
         beside_it : (C x → ⊥) → t ≢ i → M t (M t x) ≡ x
         beside_it n m = cc (d.kept t x n m, d.kept t (S t x) (out t x m n) m, c.steps.twice t x)
 
@@ -84,6 +84,7 @@ module _ (i a made : ℕ) (C : ℕ → Type 0) (L S : Links) (c : IsCrossed i a 
         go_on n w =
             let v : Across (S i (S j x)) (S j w.0) = subst (λ z. Across z (S j w.0)) (sym (c.steps.commute i j x h)) (beside j h m w.1) in
             cc (d.lands x w.0 n w.1, d.kept j x n m, d.kept j w.0 (walk_outside w.1) m, d.lands (S j x) (S j w.0) (out j x m n) v)
+
         out_there : (C x → ⊥) → M i (M j x) ≡ M j (M i x)
         out_there n = by_not_not ((y : ℕ) × Across (S i x) y) _ _ (λ never. ends x n (λ y w. never (y, w))) (go_on n)
 
@@ -92,10 +93,12 @@ module _ (i a made : ℕ) (C : ℕ → Type 0) (L S : Links) (c : IsCrossed i a 
 
     commute : (t j x : ℕ) → IsDistant alpha t j → M t (M j x) ≡ M j (M t x)
     commute t j x h = elim (same_or_not t i) [
-        inl e ↦ (let g : IsDistant alpha i j = subst (λ z. IsDistant alpha z j) e h in cc (commute_at j x g (λ f. IsDistant-apart alpha i j g (sym f)), e))
+      | inl e ↦ (let g : IsDistant alpha i j = subst (λ z. IsDistant alpha z j) e h in cc (commute_at j x g (λ f. IsDistant-apart alpha i j g (sym f)), e))
       | inr m ↦ elim (same_or_not j i) [
-          inl f ↦ (let g : IsDistant alpha i t = IsDistant-turned alpha t i (subst (λ z. IsDistant alpha t z) f h) in cc (commute_at t x g m, f))
-        | inr l ↦ commute_off t j x h m l ] ]
+        | inl f ↦ (let g : IsDistant alpha i t = IsDistant-turned alpha t i (subst (λ z. IsDistant alpha t z) f h) in cc (commute_at t x g m, f))
+        | inr l ↦ commute_off t j x h m l
+      ]
+    ]
 
     pub drawn_steps : AreSteps N M
     drawn_steps = record { nil = d.nil; apart = d.apart; twice = twice; commute = commute }

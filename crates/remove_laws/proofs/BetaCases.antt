@@ -1,13 +1,13 @@
 -- Contraction of an edge, a face and a volume of a combinatorial map: what their conditions say of the walks.
 use Rattle.std.proofs.Common.{◌≡◌, ◌≢◌, ◌⊎◌, ◌+◌, ◌≤◌, ℕ, zero, suc, inl, inr, refl, sym, ap, subst, ◌∙◌, arith}
-use Rattle.map_defs.specs.Kind.{beta, inverse, place, IsDistant}
+use Rattle.map_defs.specs.Kind.{beta, inverse, IsDistant}
 use Rattle.map_defs.specs.Links.{Links, IsMadeUpTo}
 use Rattle.map_defs.specs.Laws.{Laws}
 use Rattle.map_defs.specs.Cells.{InCell}
-use Rattle.map_defs.specs.Walks.{Walk, stop, go, step}
-use Rattle.map_defs.specs.Removal.{CommutesAt, IsFlatAt, IsMatchedAt, IsOpenAt}
-use Rattle.link_laws.proofs.Basics.{same_or_not, stable, inverse_own, distant_zero, distant_one_is}
-use Rattle.link_laws.proofs.LawFacts.{dart_of_link, link_one}
+use Rattle.map_defs.specs.Walks.{Walk, stop, go}
+use Rattle.map_defs.specs.Removal.{IsFlatAt, IsMatchedAt, IsOpenAt}
+use Rattle.link_laws.proofs.Basics.{same_or_not, inverse_own, distant_zero, distant_one_is}
+use Rattle.link_laws.proofs.LawFacts.{link_one}
 use Rattle.link_laws.proofs.Relink.{IsEither}
 use Rattle.link_laws.proofs.Walking.{leaves}
 use Rattle.link_laws.proofs.CellFacts.{orbit_bounded, beta_closed, edge_closed}
@@ -64,10 +64,13 @@ module _ (L : Links) (w : Laws beta L) (made d : ℕ) (live : d ≢ 0) (bound : 
       where
         high_j : 4 ≤ j
         high_j = distant_two_is j far
+
         own : inverse beta j ≡ j
         own = inverse_own beta j (omega (arith, high_j))
+
         e : L 1 (L j c) ≡ L j (L 0 c)
         e = w.square 0 j c (distant_zero j (omega (arith, high_j))) ∙ ap (λ s. L s (L 0 c)) own
+
         at : (L j c ≡ 0) ⊎ (L j c ≢ 0) → L 0 (L (inverse beta j) c) ≡ L j (L 0 c)
         at (inl z) = cc (ap (λ s. L 0 (L s c)) own, e, z, w.nil 0, w.nil 1)
         at (inr m) = cc (ap (λ s. L 0 (L s c)) own, e, sides_same (L j c) (cell_inside 0 j c not_face h m))
@@ -123,8 +126,10 @@ module _ (L : Links) (w : Laws beta L) (made d : ℕ) (live : d ≢ 0) (bound : 
       where
         next : InCell beta L 3 d (L 1 c)
         next = cell_inside 1 1 c (not_three 1 (omega arith)) h (after c h)
+
         back : L 0 (L 1 c) ≡ c
         back = w.back 1 c (after c h)
+
         at : IsMatchedAt L (L 1 c) ⊎ IsOpenAt L (L 1 c) → L 2 (L 1 c) ≡ L 0 (L 2 c)
         at (inl m) = cc (w.back 1 (L 2 (L 1 c)) m.0, m.1, back)
         at (inr o) = cc (o.0, o.1, back, w.nil 0)

@@ -1,16 +1,14 @@
 -- The cells of a combinatorial map that are removed or contracted can be crossed, as their conditions say.
-use Rattle.std.proofs.Common.{◌≡◌, ◌≢◌, ◌⊎◌, ◌+◌, ◌≤◌, ℕ, zero, suc, inl, inr, refl, sym, ap, subst, ◌∙◌, arith}
-use Rattle.map_defs.specs.Kind.{beta, inverse, place, IsDistant}
+use Rattle.std.proofs.Common.{◌≡◌, ◌≢◌, ◌⊎◌, ◌+◌, ◌≤◌, ℕ, inl, inr, refl, ap, subst}
+use Rattle.map_defs.specs.Kind.{beta, inverse, IsDistant}
 use Rattle.map_defs.specs.Links.{Links, IsMadeUpTo}
 use Rattle.map_defs.specs.Laws.{Laws}
 use Rattle.map_defs.specs.Cells.{InCell}
-use Rattle.map_defs.specs.Walks.{Walk, stop, go, step}
-use Rattle.map_defs.specs.Removal.{CommutesAt, IsFlatAt, IsMatchedAt, IsOpenAt}
-use Rattle.link_laws.proofs.Basics.{same_or_not, inverse_twice, inverse_own, IsDistant-inverse_right}
-use Rattle.link_laws.proofs.LawFacts.{dart_of_link, link_one}
-use Rattle.link_laws.proofs.Relink.{IsEither, distant_neither}
-use Rattle.link_laws.proofs.Walking.{leaves}
-use Rattle.link_laws.proofs.CellFacts.{orbit_nonzero, orbit_bounded, beta_closed, edge_closed}
+use Rattle.map_defs.specs.Walks.{step}
+use Rattle.map_defs.specs.Removal.{CommutesAt}
+use Rattle.link_laws.proofs.Basics.{inverse_twice, inverse_own, IsDistant-inverse_right}
+use Rattle.link_laws.proofs.Relink.{IsEither}
+use Rattle.link_laws.proofs.CellFacts.{orbit_nonzero, orbit_bounded}
 use Rattle.remove_laws.proofs.Steps.{step_case, links_commute}
 use Rattle.remove_laws.proofs.Walked.{CanBeWalked}
 
@@ -39,8 +37,8 @@ module _ (L : Links) (w : Laws beta L) where
 
     -- A set that is a cell, is crossed along p by way of a link q, and meets link r with the condition
     pub by_link : (p q r : ℕ) → 2 ≤ q → 2 ≤ r → (IsEither beta p q → ⊥) → ((j : ℕ) → IsDistant beta p j → (j ≡ r) ⊎ IsDistant beta q j)
-      → ((t c : ℕ) → (IsEither beta p t → ⊥) → InCell beta L p d c → L t c ≢ 0 → InCell beta L p d (L t c))
-      → ((c : ℕ) → InCell beta L p d c → CommutesAt L q r c) → CanBeWalked p (made + d) (InCell beta L p d) (L q) L
+        → ((t c : ℕ) → (IsEither beta p t → ⊥) → InCell beta L p d c → L t c ≢ 0 → InCell beta L p d (L t c))
+        → ((c : ℕ) → InCell beta L p d c → CommutesAt L q r c) → CanBeWalked p (made + d) (InCell beta L p d) (L q) L
     by_link p q r hq hr other near closed each = record {
       laws = w;
       nowhere = nowhere p;

@@ -1,14 +1,13 @@
 -- Removal and contraction in a combinatorial map along a link, as links that are drawn across a cell.
-use Rattle.std.proofs.Common.{◌≡◌, ◌≢◌, ◌⊎◌, ◌+◌, ◌≤◌, ◌↔◌, ℕ, zero, suc, inl, inr, refl, sym, ap, subst, ◌∙◌, arith}
-use Rattle.map_defs.specs.Kind.{beta, inverse, place, IsDistant}
+use Rattle.std.proofs.Common.{◌≡◌, ◌≢◌, ◌⊎◌, ◌+◌, ◌≤◌, ◌↔◌, ℕ, zero, suc, inl, inr, refl, arith}
+use Rattle.map_defs.specs.Kind.{beta, inverse, IsDistant}
 use Rattle.map_defs.specs.Links.{Links, IsMadeUpTo}
 use Rattle.map_defs.specs.Laws.{Laws}
 use Rattle.map_defs.specs.Cells.{InCell, here}
-use Rattle.map_defs.specs.Walks.{Walk, stop, go, step}
+use Rattle.map_defs.specs.Walks.{Walk}
 use Rattle.map_defs.specs.Removal.{IsBridged, CommutesAt, IsRemovable, IsRemoved, JoinsNoDart}
 use Rattle.map_defs.specs.Contraction.{IsContractible, IsContracted}
 use Rattle.link_laws.proofs.Relink.{IsEither}
-use Rattle.link_laws.proofs.CellFacts.{beta_closed, edge_closed}
 use Rattle.remove_laws.proofs.Walked.{CanBeWalked, IsWalked, walked_laws}
 use Rattle.remove_laws.proofs.BetaCrossed.{by_link}
 use Rattle.remove_laws.proofs.BetaCases.{cell_inside, edge_inside, edge_walked, face_walked, volume_walked}
@@ -53,8 +52,9 @@ walked_of i C Q L N b a = record {
 }
   where
     turned : (i : ℕ) → IsBridged beta (suc i) C (λ z. L (suc i) (Q z)) L N → inverse beta (suc i) ≢ suc i → (x y : ℕ) → x ≢ 0 → y ≢ 0 → (N (suc i) x ≡ y) ↔ (N (inverse beta (suc i)) y ≡ x)
-    turned zero b m = b.turned refl
+    turned zero b m = (b.turned refl).back
     turned (suc i) b m = absurd (m refl)
+
     apart : (i : ℕ) → StaysApart i C Q L → inverse beta (suc i) ≡ suc i → (x : ℕ) → x ≢ 0 → (C x → ⊥) → Walk C (λ z. L (suc i) (Q z)) (L (suc i) x) x → ⊥
     apart zero a e = absurd (omega arith)
     apart (suc i) a e = a
@@ -64,7 +64,7 @@ module _ (L : Links) (w : Laws beta L) (made d : ℕ) (live : d ≢ 0) (bound : 
   removed_walked zero r = by_link L w made d live bound 1 2 3 (omega arith) (omega arith) neither_edge (λ j far. near_above 1 j (omega arith) far) (edge_inside L w made d live bound) r.each
   removed_walked (suc i) r = by_link L w made d live bound (suc (suc i)) (suc (suc (suc i))) (suc (suc (suc (suc i)))) (omega arith) (omega arith) (neither_above i) (λ j far. near_above (suc (suc i)) j (omega arith) far) (cell_inside L w made d live bound i) r.each
 
-  contracted_walked : (i : ℕ) → ((b : ℕ) → InCell beta L (suc (suc (suc (suc i)))) d b → CommutesAt L (suc (suc (suc i))) (suc (suc i)) b) → CanBeWalked (suc (suc (suc (suc i)))) (made + d) (InCell beta L (suc (suc (suc (suc i)))) d) (L (suc (suc (suc i)))) L
+  pub contracted_walked : (i : ℕ) → ((b : ℕ) → InCell beta L (suc (suc (suc (suc i)))) d b → CommutesAt L (suc (suc (suc i))) (suc (suc i)) b) → CanBeWalked (suc (suc (suc (suc i)))) (made + d) (InCell beta L (suc (suc (suc (suc i)))) d) (L (suc (suc (suc i)))) L
   contracted_walked i each = by_link L w made d live bound (suc (suc (suc (suc i)))) (suc (suc (suc i))) (suc (suc i)) (omega arith) (omega arith) (neither_below (suc i)) (λ j far. near_below (suc (suc i)) j (omega arith) far) (cell_inside L w made d live bound (suc (suc i))) each
 
   pub beta_removed : (N : Links) (i : ℕ) → IsRemovable beta L (suc i) d → IsRemoved beta (suc i) d L N → Laws beta N

@@ -8,3 +8,5 @@ pub mod BetaRemoval
 pub mod Smoothed
 pub mod SmoothedLaws
 pub mod Removed
+pub mod Ends
+pub mod Unique

@@ -1,6 +1,6 @@
 -- Removal and contraction keep the laws, for each kind and every dimension of cell.
-use Rattle.std.proofs.Common.{◌≡◌, ◌≢◌, ◌+◌, ◌≤◌, ℕ, zero, suc, inl, inr, refl, sym, ap, subst, arith}
-use Rattle.map_defs.specs.Kind.{Kind, alpha, beta, inverse}
+use Rattle.std.proofs.Common.{◌≢◌, ◌+◌, ℕ, zero, suc, inl, inr, refl, sym, ap, arith}
+use Rattle.map_defs.specs.Kind.{Kind, alpha, beta}
 use Rattle.map_defs.specs.Links.{Links, IsMadeUpTo}
 use Rattle.map_defs.specs.Laws.{Laws}
 use Rattle.map_defs.specs.Words.{two_links}

@@ -1,14 +1,14 @@
 -- A combinatorial map without a vertex obeys the laws. Each remaining dart takes the links of the last dart of its run
 -- into the vertex; beyond a link from 2 upwards the run goes the other way round.
-use Rattle.std.proofs.Common.{◌≡◌, ◌≢◌, ◌⊎◌, ◌≤◌, ◌↔◌, ℕ, zero, suc, inl, inr, refl, sym, ap, subst, ◌∙◌, arith}
-use Rattle.map_defs.specs.Kind.{beta, inverse, IsDistant}
+use Rattle.std.proofs.Common.{◌≡◌, ◌≢◌, ◌⊎◌, ◌≤◌, ℕ, zero, suc, inl, inr, sym, ap, subst, arith}
+use Rattle.map_defs.specs.Kind.{beta}
 use Rattle.map_defs.specs.Links.{Links}
 use Rattle.map_defs.specs.Laws.{Laws}
 use Rattle.map_defs.specs.Walks.{Walk, stop, go}
-use Rattle.map_defs.specs.Removal.{RunsTo, IsFlatAt, IsMatchedAt, IsOpenAt, IsSmoothed}
-use Rattle.link_laws.proofs.Basics.{same_or_not, by_cases, stable, inverse_own, distant_zero, distant_one, distant_zero_is, distant_one_is, IsDistant-turned}
+use Rattle.map_defs.specs.Removal.{IsFlatAt, IsMatchedAt, IsOpenAt}
+use Rattle.link_laws.proofs.Basics.{same_or_not, inverse_own, distant_zero, distant_one}
 use Rattle.link_laws.proofs.LawFacts.{dart_of_link, link_one}
-use Rattle.link_laws.proofs.Walking.{by_not_not, walk_one, walk_outside, leaves, found}
+use Rattle.link_laws.proofs.Walking.{walk_one, walk_outside, leaves, found}
 
 -- the set C is a vertex at which two edges meet on each face
 pub record CanBeSmoothed (made : ℕ) (C : ℕ → Type 0) (L : Links) : Type 0 where
@@ -72,6 +72,7 @@ module _ (made : ℕ) (C : ℕ → Type 0) (L : Links) (c : CanBeSmoothed made C
     where
       step : L 1 (L j (L 1 x)) ≡ L j x
       step = cc (turned j (L 1 x) h k, before x k)
+
       inside : C (L 1 (L j (L 1 x)))
       inside = c.around j (L 1 x) h k (λ e. m (cc (step, e)))
 
@@ -90,6 +91,7 @@ module _ (made : ℕ) (C : ℕ → Type 0) (L : Links) (c : CanBeSmoothed made C
     where
       there : y ≢ 0
       there = dart_of_link beta L c.laws j y m
+
       at : (L 1 y ≡ 0) ⊎ (L 1 y ≢ 0) → ⊥
       at (inl e) = there (cc (own j y h m, free_after j (L j y) h k (cc (turned j (L j y) h k, own j y h m, e))))
       at (inr n) = walk_outside r (subst C is (c.around j (L j y) h k (λ e. n (cc (is, e)))))
@@ -97,8 +99,26 @@ module _ (made : ℕ) (C : ℕ → Type 0) (L : Links) (c : CanBeSmoothed made C
           is : L 1 (L j (L j y)) ≡ L 1 y
           is = ap (L 1) (own j y h m)
 
+  there : (z : ℕ) → C (L 1 z) → L 1 z ≢ 0
+  there z h e = c.nowhere (subst C e h)
+
+  run_low : (z : ℕ) → C (L 1 z) → z ≤ made
+  run_low z h = c.linked z (there z h)
+
+  run_step : (y z : ℕ) → C (L 1 y) → C (L 1 z) → C (L 1 (L 1 y)) → L 1 y ≡ L 1 z → y ≡ z
+  run_step y z p q r e = link_one beta L c.laws 1 y z (there y p) e
+
+  -- each run of a remaining dart ends
   pub run_ends : (x : ℕ) → (C x → ⊥) → ((y : ℕ) → Walk (λ c. C (L 1 c)) (L 1) x y → ⊥) → ⊥
-  run_ends x n = leaves (λ z. C (L 1 z)) (L 1) made x (λ z h. c.linked z (there z h)) (λ y z p q r e. link_one beta L c.laws 1 y z (there y p) e) (λ y h e. n (subst C e h))
-    where
-      there : (z : ℕ) → C (L 1 z) → L 1 z ≢ 0
-      there z h e = c.nowhere (subst C e h)
+  run_ends x n = leaves (λ z. C (L 1 z)) (L 1) made x run_low run_step (λ y h e. n (subst C e h))
+
+  pub run_found : ((x : ℕ) → C x ⊎ (C x → ⊥)) → (x : ℕ) → (C x → ⊥) → (y : ℕ) × Walk (λ c. C (L 1 c)) (L 1) x y
+  run_found decide x n = found (λ z. C (L 1 z)) (L 1) made x run_low run_step (λ y h e. n (subst C e h)) (λ z. decide (L 1 z))
+
+  -- two runs that end at one dart begin at one
+  back_along : {x y : ℕ} → (z : ℕ) → Walk (λ c. C (L 1 c)) (L 1) x y → Walk C (L 0) x z → Walk C (L 0) y z
+  back_along z (stop n) r = r
+  back_along {x = x} z (go h w) r = back_along z w (go h (subst (λ s. Walk C (L 0) s z) (sym (before x h)) r))
+
+  pub run_back_one : (x y z : ℕ) → (C x → ⊥) → (C y → ⊥) → Runs x z → Runs y z → x ≡ y
+  run_back_one x y z n m v w = walk_one (back_along x v (stop n)) (back_along y w (stop m))

@@ -1,17 +1,14 @@
 -- The links of a combinatorial map without a vertex, and that they obey the laws.
-use Rattle.std.proofs.Common.{◌≡◌, ◌≢◌, ◌⊎◌, ◌+◌, ◌≤◌, ◌↔◌, ℕ, zero, suc, inl, inr, refl, sym, ap, subst, ◌∙◌, arith}
+use Rattle.std.proofs.Common.{◌≡◌, ◌≢◌, ◌⊎◌, ◌≤◌, ℕ, zero, suc, inl, inr, refl, sym, ap, subst, ◌∙◌, arith}
 use Rattle.map_defs.specs.Kind.{beta, inverse, IsDistant}
-use Rattle.map_defs.specs.Links.{Links, IsMadeUpTo}
+use Rattle.map_defs.specs.Links.{Links}
 use Rattle.map_defs.specs.Laws.{Laws}
-use Rattle.map_defs.specs.Cells.{InCell}
-use Rattle.map_defs.specs.Words.{two_links}
 use Rattle.map_defs.specs.Walks.{Walk, stop, go}
-use Rattle.map_defs.specs.Removal.{RunsTo, IsRemovable, IsRemoved, IsSmoothed}
+use Rattle.map_defs.specs.Removal.{RunsTo, IsSmoothed}
 use Rattle.link_laws.proofs.Basics.{same_or_not, by_cases, stable, inverse_own, distant_zero, distant_zero_is, distant_one_is, IsDistant-turned}
-use Rattle.link_laws.proofs.LawFacts.{dart_of_link, link_one}
-use Rattle.link_laws.proofs.Walking.{by_not_not, walk_one, walk_outside, leaves}
-use Rattle.link_laws.proofs.CellFacts.{orbit_nonzero, orbit_bounded, by_two_links}
-use Rattle.remove_laws.proofs.Smoothed.{CanBeSmoothed, own, turned, free_after, free_on, free_back, beyond, beyond_out, run_ends}
+use Rattle.link_laws.proofs.LawFacts.{link_one}
+use Rattle.link_laws.proofs.Walking.{by_not_not, walk_outside, leaves}
+use Rattle.remove_laws.proofs.Smoothed.{CanBeSmoothed, own, free_on, free_back, beyond, beyond_out, run_ends}
 
 module _ (made : ℕ) (C : ℕ → Type 0) (L N : Links) (c : CanBeSmoothed made C L) (b : IsSmoothed C L N)
     (apart_runs : (j x y : ℕ) → 2 ≤ j → x ≢ 0 → (C x → ⊥) → RunsTo L C x y → L j y ≢ x) where
@@ -36,8 +33,8 @@ module _ (made : ℕ) (C : ℕ → Type 0) (L N : Links) (c : CanBeSmoothed made
           cc (is, b.lands (L t y) (L t x) t (beyond_out made C L c t x y h r far) (omega arith) (beyond made C L c t x y h n r near), own_at t x h near)
 
   back : (t x : ℕ) → N t x ≢ 0 → N (inverse beta t) (N t x) ≡ x
-  back zero x h = (b.turned (N 0 x) x h (dart_at 0 x h)).1 refl
-  back (suc zero) x h = (b.turned x (N 1 x) (dart_at 1 x h) h).0 refl
+  back zero x h = (b.turned.back (N 0 x) x h (dart_at 0 x h)).1 refl
+  back (suc zero) x h = (b.turned.back x (N 1 x) (dart_at 1 x h) h).0 refl
   back (suc (suc t)) x h = back_high (suc (suc t)) x (omega arith) h
 
   apart : (t x : ℕ) → inverse beta t ≡ t → x ≢ 0 → N t x ≢ x
@@ -61,9 +58,11 @@ module _ (made : ℕ) (C : ℕ → Type 0) (L N : Links) (c : CanBeSmoothed made
   none_before x n m e = stable _ _ (λ k. run_ends made C L c (N 0 x) (stays k) (λ u r. m (at k u r)))
     where
       leads : N 0 x ≢ 0 → N 1 (N 0 x) ≡ x
-      leads k = (b.turned (N 0 x) x k m).1 refl
+      leads k = (b.turned.back (N 0 x) x k m).1 refl
+
       stays : N 0 x ≢ 0 → C (N 0 x) → ⊥
       stays k h = m (cc (b.gone (N 0 x) 1 h, leads k))
+
       at : N 0 x ≢ 0 → (u : ℕ) → RunsTo L C (N 0 x) u → x ≡ 0
       at k u r =
           let is : L 1 u ≡ x = sym (b.lands (N 0 x) u 1 (stays k) (omega arith) r) ∙ leads k in
@@ -88,15 +87,18 @@ module _ (made : ℕ) (C : ℕ → Type 0) (L N : Links) (c : CanBeSmoothed made
     where
       led : L 0 x ≢ 0 → L 1 (L 0 x) ≡ x
       led m = c.laws.back 0 x m
+
       found_back : x ≢ 0 → L 0 x ≢ 0 → (w : ℕ) → Walk C (L 0) (L 0 x) w → N j (N 0 x) ≡ L j (L 0 x)
       found_back k m w v =
           let out : C w → ⊥ = walk_outside v in
           let run : RunsTo L C w (L 0 x) = back_run (L 0 x) v (stop (λ g. n (subst C (led m) g))) in
           let there : w ≢ 0 = back_there v m in
           let onward : N 1 w ≡ x = b.lands w (L 0 x) 1 out (omega arith) run ∙ led m in
-          cc ((b.turned w x there k).0 onward, b.lands w (L 0 x) j out (omega arith) run)
+          cc ((b.turned.back w x there k).0 onward, b.lands w (L 0 x) j out (omega arith) run)
+
       ends_back : L 0 x ≢ 0 → ((w : ℕ) → Walk C (L 0) (L 0 x) w → ⊥) → ⊥
       ends_back m = leaves C (L 0) made (L 0 x) c.bounded (λ y z p q r e. link_one beta L c.laws 0 y z (c.flat y p).0 e) (λ y g e. n (subst C (link_one beta L c.laws 0 y x (c.flat y g).0 e) g))
+
       at : (x ≡ 0) ⊎ (x ≢ 0) → (L 0 x ≡ 0) ⊎ (L 0 x ≢ 0) → N j (N 0 x) ≡ L j (L 0 x)
       at (inl e) r = cc (e, b.nothing 0, b.nothing j, c.laws.nil 0, c.laws.nil j)
       at (inr k) (inl e) = cc (none_before x n k e, e, b.nothing j, c.laws.nil j)
@@ -132,12 +134,16 @@ module _ (made : ℕ) (C : ℕ → Type 0) (L N : Links) (c : CanBeSmoothed made
     where
       back_x : N j (N j x) ≡ x
       back_x = back_high j x (omega arith) k
+
       x_there : x ≢ 0
       x_there = dart_at j x k
+
       out : C (N j x) → ⊥
       out g = x_there (cc (back_x, b.gone (N j x) j g))
+
       before_free : N j (N 0 (N j x)) ≡ 0
       before_free = sym (square_zero j (N j x) h (distant_zero j h)) ∙ (ap (N 1) back_x ∙ e)
+
       at : N 0 (N j x) ≢ 0 → (L 0 (N j x) ≡ 0) ⊎ (L 0 (N j x) ≢ 0) → ⊥
       at m (inl z) = m (none_before (N j x) out k z)
       at m (inr l) =

@@ -1,5 +1,5 @@
 -- The laws of a generalized map in total steps, where a free dart is a fixed one: two laws, and they are plain.
-use Rattle.std.proofs.Common.{◌≡◌, ◌≢◌, ◌⊎◌, ℕ, zero, suc, inl, inr, refl, sym, ap, ◌∙◌, arith}
+use Rattle.std.proofs.Common.{◌≡◌, ◌≢◌, ◌⊎◌, ℕ, zero, suc, inl, inr, refl, arith}
 use Rattle.map_defs.specs.Kind.{alpha, IsDistant}
 use Rattle.map_defs.specs.Links.{Links}
 use Rattle.map_defs.specs.Laws.{Laws}
@@ -43,6 +43,7 @@ module _ (L S : Links) (at : (i x : ℕ) → IsStep (L i x) x (S i x)) (i j : �
     where
       linked : (t : ℕ) → L t 0 ≡ 0 → L t x ≢ 0 → x ≢ 0
       linked t n h z = h (cc (z, n))
+
       go : IsStep (L i x) x (S i x) → IsStep (L j x) x (S j x) → IsStep (L i (L j x)) (L j x) (S i (L j x)) → IsStep (L j (L i x)) (L i x) (S j (L i x)) → L i (L j x) ≡ L j (L i x)
       go (inl p) (inl q) r t = cc (p.0, q.0, nil_i, nil_j)
       go (inl p) (inr q) (inl r) t = cc (p.0, r.0, nil_j)
@@ -69,6 +70,7 @@ module _ (L S : Links) (at : (i x : ℕ) → IsStep (L i x) x (S i x)) where
       where
         e : L i (L j x) ≡ L j (L i x)
         e = w.square i j x h
+
         go : IsStep (L i x) x (S i x) → IsStep (L j x) x (S j x) → IsStep (L i (L j x)) (L j x) (S i (L j x)) → IsStep (L j (L i x)) (L i x) (S j (L i x)) → S i (S j x) ≡ S j (S i x)
         go (inl p) (inl q) r t = cc (p.1, q.1)
         go (inl p) (inr q) (inl r) t = cc (p.1, q.1, r.1)

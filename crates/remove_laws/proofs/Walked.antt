@@ -1,13 +1,13 @@
 -- A combinatorial map whose link p is drawn across a cell obeys the laws. The walk follows link p and a step Q in turn.
 -- Its reverse, and its mirror beyond a distant link, follow the inverse of p and Q, so one form serves both.
-use Rattle.std.proofs.Common.{◌≡◌, ◌≢◌, ◌⊎◌, ◌≤◌, ◌↔◌, ℕ, zero, suc, inl, inr, refl, sym, ap, subst, ◌∙◌, arith}
-use Rattle.map_defs.specs.Kind.{Kind, beta, inverse, IsDistant}
+use Rattle.std.proofs.Common.{◌≡◌, ◌≢◌, ◌⊎◌, ◌≤◌, ◌↔◌, ℕ, inl, inr, refl, sym, ap, subst, ◌∙◌}
+use Rattle.map_defs.specs.Kind.{beta, inverse, IsDistant}
 use Rattle.map_defs.specs.Links.{Links}
 use Rattle.map_defs.specs.Laws.{Laws}
 use Rattle.map_defs.specs.Walks.{Walk, stop, go}
 use Rattle.link_laws.proofs.Basics.{same_or_not, by_cases, stable, inverse_twice, IsDistant-turned, IsDistant-inverse_right}
 use Rattle.link_laws.proofs.LawFacts.{dart_of_link, link_one}
-use Rattle.link_laws.proofs.Relink.{IsEither, either_inverse, either_or_not, either_distant, either_distant_back, distant_neither}
+use Rattle.link_laws.proofs.Relink.{IsEither, either_inverse, either_or_not, either_distant_back, distant_neither}
 use Rattle.link_laws.proofs.Walking.{by_not_not, walk_one, walk_outside, leaves, found}
 
 -- the set C can be crossed along link p and the step Q
@@ -40,10 +40,13 @@ module _ (p made : ℕ) (C : ℕ → Type 0) (Q : ℕ → ℕ) (L : Links) (c : 
     where
       there : L t (Q x) ≢ 0
       there = begins t w m
+
       beside : Along (inverse beta t) (Q x) z
       beside = f h (dart_of_link beta L c.laws t (Q x) there)
+
       out_there : (C (L t (Q x)) → ⊥) → Along (inverse beta t) (L (inverse beta t) (L t (Q x))) z
       out_there n = subst (λ v. Along (inverse beta t) v z) (sym (back_at t (Q x) there)) beside
+
       onward : C (L t (Q x)) → Q (L t (Q x)) ≢ 0 → Along (inverse beta t) (Q (L t (Q x))) z
       onward k q = go (c.inside (L t (Q x)) k q) (subst (λ v. Along (inverse beta t) v z) (cc (back_at t (Q x) there, c.twice (L t (Q x)) k q)) beside)
 
@@ -53,8 +56,10 @@ module _ (p made : ℕ) (C : ℕ → Type 0) (Q : ℕ → ℕ) (L : Links) (c : 
     where
       back : L (inverse beta t) (L t x) ≡ x
       back = back_at t x (begins t w m)
+
       out_there : (C (L t x) → ⊥) → Along (inverse beta t) (L (inverse beta t) (L t x)) x
       out_there k = subst (λ v. Along (inverse beta t) v x) (sym back) (stop n)
+
       onward : C (L t x) → Q (L t x) ≢ 0 → Along (inverse beta t) (Q (L t x)) x
       onward k q = go (c.inside (L t x) k q) (subst (λ v. Along (inverse beta t) v x) (cc (back, c.twice (L t x) k q)) (stop n))
 
@@ -66,6 +71,7 @@ module _ (p made : ℕ) (C : ℕ → Type 0) (Q : ℕ → ℕ) (L : Links) (c : 
     where
       there : L t x ≢ 0
       there z = c.nowhere (subst C z h)
+
       back : L (inverse beta t) (L t x) ≡ x
       back = back_at t x there
 
@@ -76,29 +82,47 @@ module _ (p made : ℕ) (C : ℕ → Type 0) (Q : ℕ → ℕ) (L : Links) (c : 
     where
       step : L (inverse beta t) (Q (L (inverse beta j) x)) ≡ L (inverse beta j) (L t (Q x))
       step = cc (c.mirror j x far h, c.laws.square t j (Q x) far_t)
+
       nowhere : Along (inverse beta t) (L (inverse beta j) (L t (Q x))) (L (inverse beta j) y) → L (inverse beta j) x ≡ 0 → Along (inverse beta t) (L (inverse beta j) x) (L (inverse beta j) y)
       nowhere rest e = subst (λ v. Along (inverse beta t) v (L (inverse beta j) y)) (cc (e, step, c.nil, c.laws.nil (inverse beta t))) rest
+
       onward : Along (inverse beta t) (L (inverse beta j) (L t (Q x))) (L (inverse beta j) y) → L (inverse beta j) x ≢ 0 → Along (inverse beta t) (L (inverse beta j) x) (L (inverse beta j) y)
       onward rest m = go (c.closed (inverse beta j) x (distant_neither beta p (inverse beta j) (IsDistant-inverse_right beta p j far)) h m) (subst (λ v. Along (inverse beta t) v (L (inverse beta j) y)) (sym step) rest)
+
       before : Along (inverse beta t) (L (inverse beta j) (L t (Q x))) (L (inverse beta j) y) → Along (inverse beta t) (L (inverse beta j) x) (L (inverse beta j) y)
       before rest = elim (same_or_not (L (inverse beta j) x) 0) [ inl e ↦ nowhere rest e | inr m ↦ onward rest m ]
+
+  one_step : (t y z : ℕ) → C y → C z → C (L t (Q y)) → L t (Q y) ≡ L t (Q z) → y ≡ z
+  one_step t y z hy hz hs e =
+      let there : L t (Q y) ≢ 0 = λ q. c.nowhere (subst C q hs) in
+      let same : Q y ≡ Q z = link_one beta L c.laws t (Q y) (Q z) there e in
+      let m : Q y ≢ 0 = dart_of_link beta L c.laws t (Q y) there in
+      cc (same, c.twice y hy m, c.twice z hz (λ q. m (cc (same, q))))
+
+  fresh_step : (t x : ℕ) → (C x → ⊥) → L t x ≢ 0 → (y : ℕ) → C y → L t (Q y) ≢ L t x
+  fresh_step t x n m y h e =
+      let there : L t (Q y) ≢ 0 = λ q. m (cc (q, e)) in
+      n (subst C (link_one beta L c.laws t (Q y) x there e) (c.inside y h (dart_of_link beta L c.laws t (Q y) there)))
+
+  stop_free : (t x : ℕ) → L t x ≡ 0 → Along t (L t x) 0
+  stop_free t x e = subst (λ v. Along t v 0) (sym e) (stop c.nowhere)
 
   -- each walk from a remaining dart ends
   pub walk_ends : (t x : ℕ) → (C x → ⊥) → ((y : ℕ) → Walk C (λ z. L t (Q z)) (L t x) y → ⊥) → ⊥
   walk_ends t x n = elim (same_or_not (L t x) 0) [
-      inl e ↦ (λ never. never 0 (subst (λ v. Along t v 0) (sym e) (stop c.nowhere)))
-    | inr m ↦ leaves C (λ z. L t (Q z)) made (L t x) c.bounded one (fresh m) ]
-    where
-      one : (y z : ℕ) → C y → C z → C (L t (Q y)) → L t (Q y) ≡ L t (Q z) → y ≡ z
-      one y z hy hz hs e =
-          let there : L t (Q y) ≢ 0 = λ q. c.nowhere (subst C q hs) in
-          let same : Q y ≡ Q z = link_one beta L c.laws t (Q y) (Q z) there e in
-          let m : Q y ≢ 0 = dart_of_link beta L c.laws t (Q y) there in
-          cc (same, c.twice y hy m, c.twice z hz (λ q. m (cc (same, q))))
-      fresh : L t x ≢ 0 → (y : ℕ) → C y → L t (Q y) ≢ L t x
-      fresh m y h e =
-          let there : L t (Q y) ≢ 0 = λ q. m (cc (q, e)) in
-          n (subst C (link_one beta L c.laws t (Q y) x there e) (c.inside y h (dart_of_link beta L c.laws t (Q y) there)))
+    | inl e ↦ (λ never. never 0 (stop_free t x e))
+    | inr m ↦ leaves C (λ z. L t (Q z)) made (L t x) c.bounded (one_step t) (fresh_step t x n m)
+  ]
+
+  pub walk_found : ((x : ℕ) → C x ⊎ (C x → ⊥)) → (t x : ℕ) → (C x → ⊥) → (y : ℕ) × Walk C (λ z. L t (Q z)) (L t x) y
+  walk_found decide t x n = elim (same_or_not (L t x) 0) [
+    | inl e ↦ (0, stop_free t x e)
+    | inr m ↦ found C (λ z. L t (Q z)) made (L t x) c.bounded (one_step t) (fresh_step t x n m) decide
+  ]
+
+  -- two walks that end at one dart begin at one
+  pub walk_back_one : (t x y z : ℕ) → (C x → ⊥) → (C y → ⊥) → z ≢ 0 → Walk C (λ z. L t (Q z)) (L t x) z → Walk C (λ z. L t (Q z)) (L t y) z → x ≡ y
+  walk_back_one t x y z n m k v w = walk_one (reverse t x z n v k) (reverse t y z m w k)
 
 -- N are the links after link p is drawn across C
 pub record IsWalked (p : ℕ) (C : ℕ → Type 0) (Q : ℕ → ℕ) (L N : Links) : Type 0 where
@@ -120,15 +144,18 @@ module _ (p made : ℕ) (C : ℕ → Type 0) (Q : ℕ → ℕ) (L N : Links) (c 
     where
       q : ℕ
       q = inverse beta p
+
       there : y ≢ 0 → N (inverse beta p) x ≡ y
       there k =
           let x_there : x ≢ 0 = λ e. k (sym (walk_one (stop c.nowhere) (subst (λ z. Walk C (λ z'. L (inverse beta p) (Q z')) z y) (ap (L (inverse beta p)) e ∙ c.laws.nil (inverse beta p)) w))) in
           (b.turned m y x k x_there).0 (b.lands y x (walk_outside w) (reverse_from_inverse x y n w k))
+
       none : (v u : ℕ) → v ≢ 0 → (C v → ⊥) → N p v ≡ x → x ≢ 0 → y ≡ 0 → Walk C (λ z. L p (Q z)) (L p v) u → ⊥
       none v u k g e h z a =
           let u_is : u ≡ x = sym (b.lands v u g a) ∙ e in
           let r : Walk C (λ z'. L (inverse beta p) (Q z')) (L (inverse beta p) x) v = reverse p made C Q L c p v x g (subst (λ s. Walk C (λ z'. L p (Q z')) (L p v) s) u_is a) h in
           k (walk_one r w ∙ z)
+
       free : y ≡ 0 → N (inverse beta p) x ≡ y
       free e = stable _ _ (λ k.
           let v_there : N (inverse beta p) x ≢ 0 = λ z. k (cc (z, e)) in
@@ -143,6 +170,7 @@ module _ (p made : ℕ) (C : ℕ → Type 0) (Q : ℕ → ℕ) (L N : Links) (c 
     where
       v : Walk C (λ z. L (inverse beta p) (Q z)) (L (inverse beta p) x) y
       v = subst (λ s. Walk C (λ z. L s (Q z)) (L s x) y) e w
+
       at : (inverse beta p ≡ p) ⊎ (inverse beta p ≢ p) → N (inverse beta p) x ≡ y
       at (inl f) = subst (λ s. N s x ≡ y) (sym f) (b.lands x y n (subst (λ s. Walk C (λ z. L s (Q z)) (L s x) y) f v))
       at (inr m) = lands_back m x y n v
@@ -171,8 +199,10 @@ module _ (p made : ℕ) (C : ℕ → Type 0) (Q : ℕ → ℕ) (L N : Links) (c 
     where
       no : (C x → ⊥) → ((C x → ⊥) → ⊥) → ⊥
       no f g = g f
+
       at_p : (C x → ⊥) → t ≡ p → ⊥
       at_p n f = walk_ends p made C Q L c p x n (λ y w. b.apart (subst (λ s. inverse beta s ≡ s) f own) x k n (subst (Walk C (λ z. L p (Q z)) (L p x)) (cc (b.lands x y n w, f, e)) w))
+
       at : (C x → ⊥) → IsEither beta p t ⊎ (IsEither beta p t → ⊥) → ⊥
       at n (inl (inl f)) = at_p n f
       at n (inl (inr f)) = at_p n (cc (own, f, inverse_twice beta p))
@@ -183,6 +213,7 @@ module _ (p made : ℕ) (C : ℕ → Type 0) (Q : ℕ → ℕ) (L N : Links) (c 
     where
       far : IsDistant beta p j
       far = either_distant_back beta p t j e far_t
+
       at : (C x → ⊥) → (y : ℕ) → Walk C (λ z. L t (Q z)) (L t x) y → N (inverse beta t) (N j x) ≡ N (inverse beta j) (N t x)
       at n y w =
           let m : IsEither beta p j → ⊥ = distant_neither beta p j far in
