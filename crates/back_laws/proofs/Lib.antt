@@ -1,0 +1,6 @@
+pub mod CellOf
+pub mod Grown
+pub mod Taken
+pub mod TakenBack
+pub mod GrownFrom
+pub mod FaceBack
