@@ -4,3 +4,5 @@ pub mod Taken
 pub mod TakenBack
 pub mod GrownFrom
 pub mod FaceBack
+pub mod VertexBack
+pub mod EdgeBack
