@@ -1,0 +1,2 @@
+//! Laws of dangling edges and centres: both keep the laws of a map.
+#![tactic(auto)]
