@@ -1,1 +1,3 @@
 pub mod Hung
+pub mod HangingSets
+pub mod BetaCentre
