@@ -1,3 +1,4 @@
 pub mod Hung
 pub mod HangingSets
 pub mod BetaCentre
+pub mod BetaDangle
