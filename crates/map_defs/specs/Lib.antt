@@ -4,3 +4,11 @@ pub mod Laws
 pub mod Words
 pub mod Cells
 pub mod Rows
+pub mod Values
+pub mod Refusal
+pub mod State
+pub mod Polygon
+pub mod Listing
+pub mod Text
+pub mod Script
+pub mod Machine
