@@ -1,16 +1,12 @@
 -- The plain map machine: what each line answers and leaves. Source: this project's.
 use Rattle.std.specs.Prelude.{ℕ, ◌≡◌, ◌<◌, ◌+◌, ◌*◌, ◌⊎◌, List, [], ◌∷◌, ◌++◌, Some, None}
-use Rattle.map_defs.specs.Rows.{made}
+use Rattle.map_defs.specs.Rows.{made, made_max}
 use Rattle.map_defs.specs.Polygon.{per_side, polygon_rows}
 use Rattle.map_defs.specs.State.{State, Content, with_born, steps_to}
 use Rattle.map_defs.specs.Refusal.{Refusal, Syntax, BadCount, Full}
 use Rattle.map_defs.specs.Listing.{ListValue, ListsValues, listing_with}
 use Rattle.map_defs.specs.Text.{Reply, Done, Shown, Refused}
 use Rattle.map_defs.specs.Script.{Line, Polygon, Show, words_of, line_of}
-
--- at most so many darts are ever made
-abbrev pub made_max : ℕ
-made_max = 4194304
 
 -- a refusal with the condition under which a line fails by it, and that under which it passes
 pub record Check : Type 1 where
