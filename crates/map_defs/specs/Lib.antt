@@ -4,3 +4,4 @@ pub mod Laws
 pub mod Words
 pub mod Cells
 pub mod Rows
+pub mod Outside
