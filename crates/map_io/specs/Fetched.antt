@@ -14,3 +14,10 @@ IsFetched holds name limit (Err (TooLong seen)) =
     (limit < seen) × WhereTold holds (λ files. (bytes : List ℕ) × (held files name ≡ Some bytes) × (limit < length bytes))
 IsFetched holds name limit (Err Failed) = Unit {0}
 IsFetched holds name limit (Err NoMemory) = Unit {0}
+
+-- the answer of a reader to the end: all the bytes that were left, where those are told
+abbrev pub IsReadWhole : Option (List ℕ) → ℕ → Result (Vec ℕ Global) FetchFault → Type 0
+IsReadWhole left limit (Ok bytes) = (length bytes.items ≤ limit) × WhereTold left (λ all. bytes.items ≡ all)
+IsReadWhole left limit (Err (TooLong seen)) = (limit < seen) × WhereTold left (λ all. limit < length all)
+IsReadWhole left limit (Err Failed) = Unit {0}
+IsReadWhole left limit (Err NoMemory) = Unit {0}

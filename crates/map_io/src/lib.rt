@@ -5,8 +5,12 @@
 //! nothing, what is said of its status stays.
 #![tactic(auto)]
 
+pub mod file_shelf;
 pub mod shelf;
 pub mod sink;
+pub mod sure;
 
+pub use file_shelf::FileShelf;
 pub use shelf::{FetchFault, Shelf};
 pub use sink::{PutFault, Sink};
+pub use sure::{Held, SureShelf, SureSink};
