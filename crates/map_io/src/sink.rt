@@ -1,5 +1,5 @@
 //! Where text is put.
-ghost use Rattle.std.specs.Prelude.{◌≡◌, ◌≢◌, ℕ, List, Option, IsErrOf};
+ghost use Rattle.std.specs.Prelude.{◌≡◌, ◌≢◌, ℕ, List, [], Option, IsErrOf};
 ghost use Rattle.map_defs.specs.Outside.{Appended};
 ghost use Rattle.map_io.specs.Put.{IsPut};
 ghost use Rattle.map_io.specs.Cause.{HasCause};
@@ -39,7 +39,7 @@ pub trait Sink {
     ///
     /// Errors: [`PutFault::Failed`] only together with a fault that is counted. Never [`PutFault::NoMemory`].
     fn flush(&mut self) -> Result<(), PutFault>
-        ensures same { written self.new ≡ written self.old }
+        ensures nothing { Appended (written self.old) (written self.new) [] }
         ensures needs_no_memory { result ≢ Err PutFault.NoMemory }
         ensures cause { HasCause (faults self.old) (faults self.new) (IsErrOf result PutFault.Failed) };
 }
