@@ -12,3 +12,4 @@ pub mod Listing
 pub mod Text
 pub mod Script
 pub mod Machine
+pub mod Outside

@@ -1,0 +1,2 @@
+mod HeldFiles
+mod ReadWhole

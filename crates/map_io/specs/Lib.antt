@@ -1,0 +1,4 @@
+pub mod Fetched
+pub mod Put
+pub mod Cause
+pub mod Held
