@@ -13,3 +13,15 @@ pub mod Text
 pub mod Script
 pub mod Machine
 pub mod Outside
+pub mod Pairs
+pub mod Sewing
+pub mod Births
+pub mod Walks
+pub mod Insertion
+pub mod Closing
+pub mod Removal
+pub mod Contraction
+pub mod Dual
+pub mod Touched
+pub mod Carry
+pub mod Program
