@@ -2,3 +2,4 @@ pub mod Fetched
 pub mod Put
 pub mod Cause
 pub mod Held
+pub mod Writer
