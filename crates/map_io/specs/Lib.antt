@@ -3,3 +3,4 @@ pub mod Put
 pub mod Cause
 pub mod Held
 pub mod Writer
+pub mod FileShelf

@@ -1,8 +1,10 @@
 //! A shelf over the files of the system.
-ghost use Rattle.std.specs.Prelude.{◌≡◌, ◌≢◌, ℕ, ◌++◌, ◌-◌, ◌^◌, ◌<◌, ◌≤◌, List, None, length, take, IfOk, IfErr};
+ghost use Rattle.std.specs.Prelude.{◌≡◌, ◌≢◌, ℕ, ◌++◌, ◌-◌, ◌^◌, ◌<◌, ◌≤◌, List, None, length, take, IfOk, IfErr, IsErrOf};
 ghost use Rattle.std.specs.Io.{ReadsAtMost};
 ghost use Rattle.std.specs.Io.KnownBytes.{Consumes, IsAtEnd};
-ghost use Rattle.map_io.specs.Fetched.{IsReadWhole};
+ghost use Rattle.map_io.specs.Cause.{HasCause};
+ghost use Rattle.map_io.specs.Fetched.{IsFetched, IsReadWhole};
+ghost use Rattle.map_io.specs.FileShelf.{faults_of};
 
 use crate::{FetchFault, Shelf};
 use std::alloc::Global;
@@ -26,7 +28,7 @@ pub struct FileShelf<R> {
 impl<R: Files> FileShelf<R> {
     /// A shelf over the files that `system` reaches, without faults so far.
     pub fn new(system: R) -> FileShelf<R>
-        ensures { ⟦<FileShelf<R> as Shelf>⟧.faults result ≡ 0 }
+        ensures { faults_of result ≡ 0 }
     {
         FileShelf { system, faults: 0 }
     }
@@ -45,11 +47,17 @@ impl<R: Files> FileShelf<R> {
 impl<R: Files> Shelf for FileShelf<R> {
     ghost holds = { λ _. None };
 
-    ghost faults = { λ shelf. shelf.faults };
+    ghost faults = { faults_of };
 
     ghost may_ask = { λ _ _. Unit {0} };
 
-    fn fetch(&mut self, alloc: Global, name: &str, limit: u64) -> Result<Vec<u8>, FetchFault> {
+    fn fetch(&mut self, alloc: Global, name: &str, limit: u64) -> Result<Vec<u8>, FetchFault>
+        requires { limit < 2 ^ 64 - 1 }
+        ensures bytes { IsFetched None name.now limit result }
+        ensures cause { HasCause (faults_of self.old) (faults_of self.new) (IsErrOf result FetchFault.Failed) }
+        // a fault is counted only where the call fails
+        ensures quiet { result ≢ Err FetchFault.Failed → faults_of self.new ≡ faults_of self.old }
+    {
         match self.read_file(alloc, name, limit) {
             Ok(bytes) => Ok(bytes),
             Err(FetchFault::Failed) => {

@@ -10,6 +10,8 @@ pub mod shelf;
 pub mod sink;
 pub mod std_sink;
 pub mod sure;
+#[cfg(test)]
+mod tests;
 
 pub use file_shelf::FileShelf;
 pub use shelf::{FetchFault, Shelf};
