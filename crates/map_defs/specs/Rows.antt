@@ -1,5 +1,6 @@
 -- The rows of a map: the plain data that a listing shows. Source: this project's.
-use Rattle.std.specs.Prelude.{ℕ, ◌-◌, List, length, Option, Some, None, slice_index, slice_index_or, IsSome}
+use Rattle.std.specs.Prelude.{ℕ, ◌≡◌, ◌≢◌, ◌+◌, ◌-◌, ◌≤◌, List, length, Option, Some, None, slice_index, slice_index_or, IsSome}
+use Rattle.map_defs.specs.Kind.{Kind, inverse}
 use Rattle.map_defs.specs.Links.{Links}
 
 -- The row of dart d stands at place d, with its entries 0 to n, an entry being 0 if the link is free. Place 0, which is
@@ -25,3 +26,19 @@ entry_of (Some row) i = slice_index row i
 -- the links that rows tell
 abbrev pub links_of : Rows → Links
 links_of rows i d = entry_of (row_at rows d) i
+
+-- at most so many darts are ever made
+abbrev pub made_max : ℕ
+made_max = 4194304
+
+-- What the rows of every map of kind k and dimension n keep.
+pub record IsSound (k : Kind) (n : ℕ) (rows : Rows) : Type 0 where
+  -- 0 is no dart
+  pub nothing : row_at rows 0 ≡ None
+  -- entries name live darts
+  pub live : (i x : ℕ) → links_of rows i x ≢ 0 → IsLive rows (links_of rows i x)
+  -- the inverse link leads back
+  pub back : (i x : ℕ) → links_of rows i x ≢ 0 → links_of rows (inverse k i) (links_of rows i x) ≡ x
+  -- a row has the entries 0 to n
+  pub wide : (x : ℕ) (row : List ℕ) → row_at rows x ≡ Some row → length row ≡ n + 1
+  pub few : made rows ≤ made_max

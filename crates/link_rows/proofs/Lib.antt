@@ -1,0 +1,2 @@
+pub mod PolygonSides
+pub mod PolygonSound

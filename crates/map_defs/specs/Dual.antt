@@ -1,0 +1,36 @@
+-- The dual of a map without free links. Source: the textbook for generalized maps; the condition and the formula of
+-- combinatorial maps are this project's.
+use Rattle.std.specs.Prelude.{ℕ, ◌≡◌, ◌≢◌, ◌<◌, ◌≤◌, ◌-◌}
+use Rattle.map_defs.specs.Kind.{Kind, alpha, beta}
+use Rattle.map_defs.specs.Links.{Links, IsTurned, HasDimension}
+
+-- in the dual of a combinatorial map no dart would be joined to itself
+abbrev pub StaysApartDual : Kind → ℕ → Links → (ℕ → Type 0) → Type 0
+StaysApartDual alpha n L Live = Unit {0}
+StaysApartDual beta n L Live = (i d : ℕ) → Live d → 2 ≤ i → i < n → L (n - i) (L n d) ≢ d
+
+-- a map of dimension n has a dual
+pub record IsDualable (k : Kind) (n : ℕ) (L : Links) (Live : ℕ → Type 0) : Type 0 where
+  -- no link of a live dart is free
+  pub closed : (i d : ℕ) → Live d → i ≤ n → L i d ≢ 0
+  pub apart : StaysApartDual k n L Live
+
+-- N are the links of the dual of a generalized map: alpha i becomes alpha n - i
+pub record IsAlphaDual (n : ℕ) (L N : Links) : Type 0 where
+  pub reversed : (i d : ℕ) → i ≤ n → N i d ≡ L (n - i) d
+  pub above : HasDimension n N
+
+-- N are the links of the dual of a combinatorial map
+pub record IsBetaDual (n : ℕ) (L N : Links) : Type 0 where
+  -- beta i becomes beta n, then beta n - i
+  pub reversed : (i d : ℕ) → 1 ≤ i → i < n → N i d ≡ L (n - i) (L n d)
+  -- beta n stays
+  pub kept : (d : ℕ) → N n d ≡ L n d
+  pub turned : IsTurned N
+  pub nothing : N 0 0 ≡ 0
+  pub above : HasDimension n N
+
+-- N are the links of the dual of a map of dimension n
+abbrev pub IsDual : Kind → ℕ → Links → Links → Type 0
+IsDual alpha n L N = IsAlphaDual n L N
+IsDual beta n L N = IsBetaDual n L N

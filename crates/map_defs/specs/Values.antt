@@ -1,0 +1,81 @@
+-- Values, and the rules by which they merge and split. Source: the manual's merge and split functions; the table is this
+-- project's.
+use Rattle.std.specs.Prelude.{ℕ, ◌≡◌, ◌+ℤ◌, ℤ, pos, int_lt, cond, nat_eq, Option, Some, None}
+use Rattle.std.specs.Int.{w64, saturate_signed, int_min, int_max, int_div_euclid, int_rem_euclid}
+
+-- a value: three whole numbers, which a map keeps within 64 bits
+pub record Value : Type 0 where
+  pub a : ℤ
+  pub b : ℤ
+  pub c : ℤ
+
+-- how two values become one
+pub data Merge : Type 0 where
+  First : Merge
+  Last : Merge
+  Sum : Merge
+  Min : Merge
+  Max : Merge
+  Mid : Merge
+  Host : Merge
+
+-- how a value goes to the pieces of its cell
+pub data Split : Type 0 where
+  Copied : Split
+  Keep : Split
+  Share : Split
+  Host : Split
+
+pub record Rule : Type 0 where
+  pub merge : Merge
+  pub split : Split
+
+-- What a rule does: two values merged, and what piece p of k pieces gets of a value, if it gets anything.
+pub record Meaning : Type 0 where
+  pub merged : Value → Value → Value
+  pub share : Value → ℕ → ℕ → Option Value
+
+-- each of the three numbers by itself
+abbrev pub on_each : (ℤ → ℤ → ℤ) → Value → Value → Value
+on_each f x y = record { a = f x.a y.a; b = f x.b y.b; c = f x.c y.c }
+
+-- the sum, held within 64 bits
+abbrev pub held_sum : ℤ → ℤ → ℤ
+held_sum x y = saturate_signed w64 (x +ℤ y)
+
+-- the floor of half of the sum
+abbrev pub middle : ℤ → ℤ → ℤ
+middle x y = int_div_euclid (x +ℤ y) (pos 2)
+
+-- The part of v that piece p of k gets where v is dealt out: the floor of v / k, and one more for the first pieces, as
+-- many as the rest says.
+abbrev pub dealt : ℕ → ℕ → ℤ → ℤ
+dealt k p v = cond (int_lt (pos p) (int_rem_euclid v (pos k))) (int_div_euclid v (pos k) +ℤ pos 1) (int_div_euclid v (pos k))
+
+abbrev pub dealt_value : ℕ → ℕ → Value → Value
+dealt_value k p v = record { a = dealt k p v.a; b = dealt k p v.b; c = dealt k p v.c }
+
+-- the table of merges; the last row is what the hook does
+abbrev pub merged_by : Meaning → Merge → Value → Value → Value
+merged_by hook First x y = x
+merged_by hook Last x y = y
+merged_by hook Sum x y = on_each held_sum x y
+merged_by hook Min x y = on_each int_min x y
+merged_by hook Max x y = on_each int_max x y
+merged_by hook Mid x y = on_each middle x y
+merged_by hook Host x y = hook.merged x y
+
+-- the table of splits; the last row is what the hook does
+abbrev pub share_by : Meaning → Split → Value → ℕ → ℕ → Option Value
+share_by hook Copied v k p = Some v
+share_by hook Keep v k p = cond (nat_eq p 0) (Some v) None
+share_by hook Share v k p = Some (dealt_value k p v)
+share_by hook Host v k p = hook.share v k p
+
+-- what a rule does, by the tables, beside a hook
+abbrev pub meaning_of : Meaning → Rule → Meaning
+meaning_of hook rule = record { merged = merged_by hook rule.merge; share = share_by hook rule.split }
+
+-- a cell that is not split keeps its value
+abbrev pub KeepsWhole : Meaning → Type 0
+KeepsWhole rule = (v : Value) → rule.share v 1 0 ≡ Some v
