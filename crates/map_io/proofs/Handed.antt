@@ -1,5 +1,5 @@
 -- What a sink over a writer took: what the writer holds, and then what the sink keeps back.
-use Rattle.std.proofs.Common.{◌≡◌, ℕ, List, [], ◌++◌, take, drop, Option, None, Some, Result, Ok, Err, OnOk, IfErr, refl, sym, ap, ◌∙◌, append_assoc, append-nil, take-append-drop}
+use Rattle.std.proofs.Common.{◌≡◌, ℕ, List, [], ◌++◌, length, take, drop, Option, None, Some, Result, Ok, Err, OnOk, IfErr, refl, sym, ap, ◌∙◌, append_assoc, append-nil, take-append-drop, take_all, arith}
 use Rattle.std.specs.Io.KnownBytes.{Appends, Keeps, append_known}
 use Rattle.map_defs.specs.Outside.{Appended}
 use Rattle.map_io.specs.Put.{IsPut}
@@ -38,10 +38,11 @@ put-kept held old new piece (Err NoMemory) more same = ([], Appended-kept held o
 put-kept held old new piece (Err Failed) more same = absurd (cc (same.0))
 
 -- a piece that is handed on, or a front of it
-pub put-handed : (old new : Option (List ℕ)) (kept piece : List ℕ) (r : Result (Unit {0}) PutFault) (P Q : Type 0) → kept ≡ [] →
-    OnOk r (Appends old new piece × P) → IfErr r (λ fault. (fault ≡ Failed) × Q × ((taken : ℕ) × Appends old new (take taken piece))) →
+pub put-handed : (old new : Option (List ℕ)) (kept piece : List ℕ) (r : Result (Unit {0}) PutFault) (Q : Type 0) → kept ≡ [] →
+    ((taken : ℕ) × Appends old new (take taken piece) × OnOk r (taken ≡ length piece)) → IfErr r (λ fault. (fault ≡ Failed) × Q) →
     (text : List ℕ) × Appended (append_known old kept) (append_known new kept) text × IsPut piece r text
-put-handed old new kept piece (Ok done) P Q none all front = (piece, Appended-handed old new kept piece none all.0, refl)
-put-handed old new kept piece (Err Failed) P Q none all front =
-    (take front.2.0 piece, Appended-handed old new kept (take front.2.0 piece) none front.2.1, (drop front.2.0 piece, sym (take-append-drop front.2.0 piece)))
-put-handed old new kept piece (Err NoMemory) P Q none all front = absurd (cc (front.0))
+put-handed old new kept piece (Ok done) Q none took failed =
+    (take took.0 piece, Appended-handed old new kept (take took.0 piece) none took.1, take_all took.0 piece (omega (arith, took.2)))
+put-handed old new kept piece (Err Failed) Q none took failed =
+    (take took.0 piece, Appended-handed old new kept (take took.0 piece) none took.1, (drop took.0 piece, sym (take-append-drop took.0 piece)))
+put-handed old new kept piece (Err NoMemory) Q none took failed = absurd (cc (failed.0))

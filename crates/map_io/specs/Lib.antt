@@ -2,5 +2,5 @@ pub mod Fetched
 pub mod Put
 pub mod Cause
 pub mod Held
-pub mod Writer
+pub mod WriterSink
 pub mod FileShelf

@@ -45,5 +45,6 @@ pub trait Shelf {
         ensures bytes { IsFetched (holds self.old) name.now limit result }
         ensures same { holds self.new ≡ holds self.old }
         ensures kept { (other : List ℕ) → may_ask self.old other ↔ may_ask self.new other }
-        ensures cause { HasCause (faults self.old) (faults self.new) (IsErrOf result FetchFault.Failed) };
+        ensures cause { HasCause (faults self.old) (faults self.new)
+            (IsErrOf result FetchFault.Failed) };
 }

@@ -32,7 +32,8 @@ pub trait Sink {
     /// appended. [`PutFault::NoMemory`], and then nothing was appended.
     fn put(&mut self, piece: &[u8]) -> Result<(), PutFault>
         // `text` is what was appended
-        ensures appended { (text : List ℕ) × Appended (written self.old) (written self.new) text × IsPut piece.now result text }
+        ensures appended { (text : List ℕ) × Appended (written self.old) (written self.new) text
+            × IsPut piece.now result text }
         ensures cause { HasCause (faults self.old) (faults self.new) (IsErrOf result PutFault.Failed) };
 
     /// Hands on the text that the sink kept back, and appends nothing.

@@ -1,10 +1,10 @@
 //! A sink over a writer, and so over the standard output.
-ghost use Rattle.std.specs.Prelude.{◌≡◌, ◌≢◌, ℕ, ◌++◌, ◌+◌, ◌-◌, ◌^◌, ◌<◌, ◌≤◌, ◌↔◌, List, [], length, take, drop, min, vec_len, IfSome, IfNone, OnOk, OnErr, IfErr, IsErrOf};
-ghost use Rattle.std.specs.Io.KnownBytes.{Appends, Keeps, append_known};
+ghost use Rattle.std.specs.Prelude.{◌≡◌, ◌≢◌, ℕ, ◌++◌, ◌+◌, ◌-◌, ◌^◌, ◌<◌, ◌≤◌, List, [], length, take, drop, None, IfSome, IfNone, OnOk, IfErr, IsErrOf};
+ghost use Rattle.std.specs.Io.KnownBytes.{Appends, Keeps};
 ghost use Rattle.map_defs.specs.Outside.{Appended};
 ghost use Rattle.map_io.specs.Put.{IsPut};
 ghost use Rattle.map_io.specs.Cause.{HasCause};
-ghost use Rattle.map_io.specs.Writer.{writer_of, written_of, faults_of};
+ghost use Rattle.map_io.specs.WriterSink.{writer_of, written_of, faults_of, Fails};
 
 use crate::{PutFault, Sink};
 use std::alloc::Global;
@@ -34,7 +34,8 @@ pub type StdSink<'a, P> = WriterSink<Printer<'a, P>>;
 impl<'a, P: Print> WriterSink<Printer<'a, P>> {
     /// A sink over the standard output of this runtime, without faults so far. It takes no memory yet.
     pub fn new(alloc: Global, runtime: &'a P) -> StdSink<'a, P>
-        ensures { faults_of result ≡ 0 }
+        ensures untold { ⟦<WriterSink<Printer<'a, P>> as Sink>⟧.written result ≡ None }
+        ensures sound { faults_of result ≡ 0 }
     {
         WriterSink::over(alloc, io::writer(runtime))
     }
@@ -63,10 +64,9 @@ impl<W: Write> WriterSink<W> {
 
     /// Counts a fault.
     fn fail(&mut self) -> PutFault
-        ensures fault { result ≡ PutFault.Failed }
+        ensures counted { Fails self.old self.new result }
         ensures writer { self.new.writer ≡ self.old.writer }
         ensures kept { self.new.kept ≡ self.old.kept }
-        ensures counted { self.new.faults ≡ min (self.old.faults + 1) (2 ^ 64 - 1) }
     {
         self.faults = self.faults.saturating_add(1);
         PutFault::Failed
@@ -75,7 +75,8 @@ impl<W: Write> WriterSink<W> {
     /// Takes a piece, to hand it on later.
     fn keep(&mut self, piece: &[u8]) -> Result<(), PutFault>
         ensures ok { OnOk result (self.new.kept.items ≡ self.old.kept.items ++ piece.now) }
-        ensures err { IfErr result (λ fault. (fault ≡ PutFault.NoMemory) × (self.new.kept.items ≡ self.old.kept.items)) }
+        ensures err { IfErr result (λ fault. (fault ≡ PutFault.NoMemory)
+            × (self.new.kept.items ≡ self.old.kept.items)) }
         ensures writer { self.new.writer ≡ self.old.writer }
         ensures faults { self.new.faults ≡ self.old.faults }
     {
@@ -87,9 +88,9 @@ impl<W: Write> WriterSink<W> {
 
     /// Hands on what was kept back.
     fn hand_on_kept(&mut self) -> Result<(), PutFault>
-        ensures text { Keeps (append_known (W.contents self.old.writer) self.old.kept.items) (append_known (W.contents self.new.writer) self.new.kept.items) }
+        ensures text { Keeps (written_of W.contents self.old) (written_of W.contents self.new) }
         ensures ok { OnOk result ((self.new.kept.items ≡ []) × (self.new.faults ≡ self.old.faults)) }
-        ensures err { IfErr result (λ fault. (fault ≡ PutFault.Failed) × (self.new.faults ≡ min (self.old.faults + 1) (2 ^ 64 - 1))) }
+        ensures err { IfErr result (Fails self.old self.new) }
     {
         let taken = hand_on(&mut self.writer, self.kept.as_slice());
         let whole = taken == self.kept.len();
@@ -101,9 +102,10 @@ impl<W: Write> WriterSink<W> {
     fn hand_on_now(&mut self, piece: &[u8]) -> Result<(), PutFault>
         requires { self.old.kept.items ≡ [] }
         ensures kept { self.new.kept ≡ self.old.kept }
-        ensures ok { OnOk result (Appends (W.contents self.old.writer) (W.contents self.new.writer) piece.now × (self.new.faults ≡ self.old.faults)) }
-        ensures err { IfErr result (λ fault. (fault ≡ PutFault.Failed) × (self.new.faults ≡ min (self.old.faults + 1) (2 ^ 64 - 1))
-            × ((taken : ℕ) × Appends (W.contents self.old.writer) (W.contents self.new.writer) (take taken piece.now))) }
+        ensures taken { (taken : ℕ) × Appends (W.contents self.old.writer) (W.contents self.new.writer) (take taken piece.now)
+            × OnOk result (taken ≡ length piece.now) }
+        ensures ok { OnOk result (self.new.faults ≡ self.old.faults) }
+        ensures err { IfErr result (Fails self.old self.new) }
     {
         let taken = hand_on(&mut self.writer, piece);
         if taken == piece.len() {
@@ -120,12 +122,14 @@ impl<W: Write> Sink for WriterSink<W> {
     ghost faults = { faults_of };
 
     fn put(&mut self, piece: &[u8]) -> Result<(), PutFault>
-        ensures appended { (text : List ℕ) × Appended (written_of W.contents self.old) (written_of W.contents self.new) text × IsPut piece.now result text }
+        ensures appended { (text : List ℕ) × Appended (written_of W.contents self.old) (written_of W.contents self.new) text
+            × IsPut piece.now result text }
         ensures cause { HasCause (faults_of self.old) (faults_of self.new) (IsErrOf result PutFault.Failed) }
         // a fault is counted only where the call fails
         ensures quiet { result ≢ Err PutFault.Failed → faults_of self.new ≡ faults_of self.old }
         // after a fault it fails, and hands nothing on
-        ensures stopped { 0 < faults_of self.old → (result ≡ Err PutFault.Failed) × (writer_of self.new ≡ writer_of self.old) }
+        ensures stopped { 0 < faults_of self.old → IsErrOf result PutFault.Failed
+            × (writer_of self.new ≡ writer_of self.old) }
     {
         if self.faults > 0 {
             return Err(self.fail());
@@ -147,7 +151,8 @@ impl<W: Write> Sink for WriterSink<W> {
         // the writer has all the text
         ensures handed_on { OnOk result (Keeps (written_of W.contents self.old) (W.contents (writer_of self.new))) }
         ensures quiet { result ≢ Err PutFault.Failed → faults_of self.new ≡ faults_of self.old }
-        ensures stopped { 0 < faults_of self.old → (result ≡ Err PutFault.Failed) × (writer_of self.new ≡ writer_of self.old) }
+        ensures stopped { 0 < faults_of self.old → IsErrOf result PutFault.Failed
+            × (writer_of self.new ≡ writer_of self.old) }
     {
         if self.faults > 0 {
             return Err(self.fail());
@@ -178,7 +183,8 @@ fn hand_on<W: Write>(writer: &mut W, text: &[u8]) -> usize
 /// One write, tried again where a signal interrupts it, and how many bytes it took. None is a fault: the writer failed
 /// or took nothing.
 fn write_some<W: Write>(writer: &mut W, text: &[u8]) -> Option<usize>
-    ensures some { IfSome result (λ count. (0 < count) × (count ≤ length text.now) × Appends (W.contents writer.old) (W.contents writer.new) (take count text.now)) }
+    ensures some { IfSome result (λ count. (0 < count) × (count ≤ length text.now)
+        × Appends (W.contents writer.old) (W.contents writer.new) (take count text.now)) }
     ensures none { IfNone result (Keeps (W.contents writer.old) (W.contents writer.new)) }
 {
     for _ in 0..u64::MAX {
