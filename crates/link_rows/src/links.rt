@@ -1,6 +1,6 @@
-ghost use Rattle.std.specs.Prelude.{◌≡◌, ℕ, ◌+◌, ◌*◌, ◌≤◌, ◌<◌, ◌↔◌, [], ◌∷◌, ◌++◌, None, Some, map, IsNone, IfOk, IfSome, OnOk, OnErr, IsErrOf, ◌^◌, vec_len, vec_capacity};
+ghost use Rattle.std.specs.Prelude.{◌≡◌, ℕ, ◌+◌, ◌*◌, ◌≤◌, ◌<◌, ◌↔◌, [], ◌∷◌, ◌++◌, None, Some, map, IsNone, IsTrue, IfOk, IfSome, OnOk, OnErr, IsErrOf, ◌^◌, vec_len, vec_capacity};
 ghost use Rattle.map_defs.specs.Kind.{alpha};
-ghost use Rattle.map_defs.specs.Rows.{links_of, made, IsSound};
+ghost use Rattle.map_defs.specs.Rows.{links_of, made, live_count, IsLive, IsSound};
 ghost use Rattle.map_defs.specs.Polygon.{polygon_rows, next_side, previous_side};
 
 use crate::row::{DIM_MAX, Row};
@@ -58,6 +58,20 @@ impl<K: Kind, const DIM: usize> Links<K, DIM> {
         ensures sound { IsSound K.kind DIM self.now }
     {
         self.rows.len() as u32
+    }
+
+    /// How many darts are live.
+    pub fn live_count(&self) -> u32
+        ensures { result ≡ live_count self.now }
+    {
+        self.rows.len() as u32
+    }
+
+    /// Whether a dart is live.
+    pub fn is_live(&self, dart: Dart) -> bool
+        ensures { IsTrue result ↔ IsLive self.now dart }
+    {
+        dart.number() as usize <= self.rows.len()
     }
 
     /// The dart at a link of a dart; none exactly where the dart is not live or the link is free.

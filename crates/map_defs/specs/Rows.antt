@@ -1,5 +1,5 @@
 -- The rows of a map: the plain data that a listing shows. Source: this project's.
-use Rattle.std.specs.Prelude.{ℕ, ◌≡◌, ◌≢◌, ◌+◌, ◌-◌, ◌≤◌, List, length, Option, Some, None, slice_index, slice_index_or, IsSome}
+use Rattle.std.specs.Prelude.{ℕ, ◌≡◌, ◌≢◌, ◌+◌, ◌-◌, ◌≤◌, List, length, Option, Some, None, slice_index, slice_index_or, IsSome, is_some, filter}
 use Rattle.map_defs.specs.Kind.{Kind, inverse}
 use Rattle.map_defs.specs.Links.{Links}
 
@@ -17,6 +17,10 @@ row_at rows d = slice_index_or rows d None
 
 abbrev pub IsLive : Rows → ℕ → Type 0
 IsLive rows d = IsSome (row_at rows d)
+
+-- how many darts are live
+abbrev pub live_count : Rows → ℕ
+live_count rows = length (filter is_some rows)
 
 -- an entry of a row; a dart that is not live has all entries 0
 abbrev pub entry_of : Option (List ℕ) → ℕ → ℕ

@@ -1,32 +1,22 @@
 -- The script: its lines, their words, and the grammar of a line. Source: this project's.
-use Rattle.std.specs.Prelude.{ℕ, ◌+◌, ◌-◌, ◌*◌, ◌==◌, nat_le, ◌||◌, ◌&&◌, not, Bool, true, false, List, [], ◌∷◌, length, fold, Option, Some, None, codes, if◌then◌else◌}
-use Rattle.std.specs.List.{list_all}
+use Rattle.std.specs.Prelude.{ℕ, ◌+◌, ◌-◌, ◌*◌, ◌==◌, nat_le, ◌||◌, ◌&&◌, not, Bool, true, false, List, [], ◌∷◌, length, fold, filter, Option, Some, None, codes, if◌then◌else◌}
+use Rattle.std.specs.List.{list_all, slice_split}
 use Rattle.std.specs.Str.{bytes_eq}
 
--- put a byte before the first piece
-abbrev pub onto_first : ℕ → List (List ℕ) → List (List ℕ)
-onto_first b [] = (b ∷ []) ∷ []
-onto_first b (piece ∷ pieces) = (b ∷ piece) ∷ pieces
-
--- the lines of a script: each ends with a line feed, and a last piece without one is a line if it is not empty
+-- the lines of a script: the pieces between line feeds; an empty line has no reply, so neither has an empty last piece
 abbrev pub lines_of : List ℕ → List (List ℕ)
-lines_of [] = []
-lines_of (b ∷ bytes) = if b == 10 then [] ∷ lines_of bytes else onto_first b (lines_of bytes)
+lines_of script = slice_split (λ b. b == 10) script
 
 -- a space, a tab or a carriage return
 abbrev pub is_blank : ℕ → Bool
 is_blank b = (b == 32) || (b == 9) || (b == 13)
 
--- a blank, or the end of the line, stands here
-abbrev pub ends_word : List ℕ → Bool
-ends_word [] = true
-ends_word (b ∷ bytes) = is_blank b
+abbrev pub is_word : List ℕ → Bool
+is_word piece = not (length piece == 0)
 
--- the words of a line: the pieces between blanks
+-- the words of a line: the pieces between blanks that are not empty
 abbrev pub words_of : List ℕ → List (List ℕ)
-words_of [] = []
-words_of (b ∷ bytes) =
-    if is_blank b then words_of bytes else (if ends_word bytes then (b ∷ []) ∷ words_of bytes else onto_first b (words_of bytes))
+words_of line = filter is_word (slice_split is_blank line)
 
 abbrev pub is_digit : ℕ → Bool
 is_digit b = nat_le 48 b && nat_le b 57

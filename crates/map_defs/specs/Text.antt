@@ -1,5 +1,5 @@
 -- What the machine answers, and the text of an answer. Source: this project's script and listing formats.
-use Rattle.std.specs.Prelude.{ℕ, ℤ, List, [], ◌∷◌, ◌++◌, length, Bool, true, false, codes, zero, suc}
+use Rattle.std.specs.Prelude.{ℕ, ℤ, List, [], ◌∷◌, ◌++◌, length, Bool, true, false, codes, ◌==◌, if◌then◌else◌}
 use Rattle.std.specs.Fmt.{decimal, signed_decimal}
 use Rattle.std.specs.List.{flat_map, list_any}
 use Rattle.map_defs.specs.Kind.{Kind, alpha, beta}
@@ -50,8 +50,7 @@ listing_text l = header_text l ++ flat_map row_text l.rows ++ flat_map value_tex
 
 -- a changing line that made no darts says `ok` alone
 abbrev pub done_text : ℕ → ℕ → List ℕ
-done_text first zero = ended (codes "ok")
-done_text first (suc count) = ended (codes "ok" ++ spaced first ++ spaced (suc count))
+done_text first count = if count == 0 then ended (codes "ok") else ended (codes "ok" ++ spaced first ++ spaced count)
 
 abbrev pub refusal_text : Refusal → List ℕ
 refusal_text r = ended (codes "no" ++ spaced (number r) ++ 32 ∷ name r)
