@@ -60,7 +60,8 @@ impl<R: Files> Shelf for FileShelf<R> {
         ensures bytes { IsFetched None name.now limit result }
         // no more than one byte past the limit is read
         ensures most { (seen : ℕ) → IsErrOf result (FetchFault.TooLong seen) → seen ≡ limit + 1 }
-        ensures cause { HasCause (faults_of self.old) (faults_of self.new) (IsErrOf result FetchFault.Failed) }
+        ensures cause { HasCause (faults_of self.old) (faults_of self.new)
+            (IsErrOf result FetchFault.Failed) }
         // a fault is counted only where the call fails
         ensures quiet { result ≢ Err FetchFault.Failed → faults_of self.new ≡ faults_of self.old }
     {
@@ -125,7 +126,8 @@ fn read_some<F: Read>(file: &mut F, chunk: &mut [u8]) -> Result<usize, FetchFaul
     ensures bound { ReadsAtMost result chunk.new }
     ensures read { IfOk result (λ count.
         Consumes (F.remaining file.old) (F.remaining file.new) (take count chunk.new)) }
-    ensures end { IfOk result (λ count. count ≡ 0 → 0 < length chunk.old → IsAtEnd (F.remaining file.new)) }
+    ensures end { IfOk result
+        (λ count. count ≡ 0 → 0 < length chunk.old → IsAtEnd (F.remaining file.new)) }
     ensures fault { IfErr result (λ fault. fault ≡ FetchFault.Failed) }
 {
     for _ in 0..u64::MAX {

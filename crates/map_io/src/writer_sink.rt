@@ -102,7 +102,8 @@ impl<W: Write> WriterSink<W> {
     fn hand_on_now(&mut self, piece: &[u8]) -> Result<(), PutFault>
         requires { self.old.kept.items ≡ [] }
         ensures kept { self.new.kept ≡ self.old.kept }
-        ensures taken { (taken : ℕ) × Appends (W.contents self.old.writer) (W.contents self.new.writer) (take taken piece.now)
+        ensures taken { (taken : ℕ)
+            × Appends (W.contents self.old.writer) (W.contents self.new.writer) (take taken piece.now)
             × OnOk result (taken ≡ length piece.now) }
         ensures ok { OnOk result (self.new.faults ≡ self.old.faults) }
         ensures err { IfErr result (Fails self.old self.new) }
@@ -122,9 +123,11 @@ impl<W: Write> Sink for WriterSink<W> {
     ghost faults = { faults_of };
 
     fn put(&mut self, piece: &[u8]) -> Result<(), PutFault>
-        ensures appended { (text : List ℕ) × Appended (written_of W.contents self.old) (written_of W.contents self.new) text
+        ensures appended { (text : List ℕ)
+            × Appended (written_of W.contents self.old) (written_of W.contents self.new) text
             × IsPut piece.now result text }
-        ensures cause { HasCause (faults_of self.old) (faults_of self.new) (IsErrOf result PutFault.Failed) }
+        ensures cause { HasCause (faults_of self.old) (faults_of self.new)
+            (IsErrOf result PutFault.Failed) }
         // a fault is counted only where the call fails
         ensures quiet { result ≢ Err PutFault.Failed → faults_of self.new ≡ faults_of self.old }
         // after a fault it fails, and hands nothing on
@@ -147,9 +150,11 @@ impl<W: Write> Sink for WriterSink<W> {
     fn flush(&mut self) -> Result<(), PutFault>
         ensures nothing { Appended (written_of W.contents self.old) (written_of W.contents self.new) [] }
         ensures needs_no_memory { result ≢ Err PutFault.NoMemory }
-        ensures cause { HasCause (faults_of self.old) (faults_of self.new) (IsErrOf result PutFault.Failed) }
+        ensures cause { HasCause (faults_of self.old) (faults_of self.new)
+            (IsErrOf result PutFault.Failed) }
         // the writer has all the text
-        ensures handed_on { OnOk result (Keeps (written_of W.contents self.old) (W.contents (writer_of self.new))) }
+        ensures handed_on { OnOk result
+            (Keeps (written_of W.contents self.old) (W.contents (writer_of self.new))) }
         ensures quiet { result ≢ Err PutFault.Failed → faults_of self.new ≡ faults_of self.old }
         ensures stopped { 0 < faults_of self.old → IsErrOf result PutFault.Failed
             × (writer_of self.new ≡ writer_of self.old) }
