@@ -69,7 +69,8 @@ impl<K: Kind, const DIM: usize> Links<K, DIM> {
 
     /// Whether a dart is live.
     pub fn is_live(&self, dart: Dart) -> bool
-        ensures { IsTrue result ↔ IsLive self.now dart }
+        ensures live { IsTrue result ↔ IsLive self.now dart }
+        ensures sound { IsSound K.kind DIM self.now }
     {
         dart.number() as usize <= self.rows.len()
     }

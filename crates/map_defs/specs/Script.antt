@@ -1,6 +1,7 @@
 -- The script: its lines, their words, and the grammar of a line. Source: this project's.
 use Rattle.std.specs.Prelude.{ℕ, ◌+◌, ◌-◌, ◌*◌, ◌==◌, nat_le, ◌||◌, ◌&&◌, not, Bool, true, false, List, [], ◌∷◌, length, fold, filter, Option, Some, None, codes, if◌then◌else◌}
 use Rattle.std.specs.List.{list_all, slice_split}
+use Rattle.std.specs.Char.{is_ascii_digit}
 use Rattle.std.specs.Str.{bytes_eq}
 
 -- the lines of a script: the pieces between line feeds; an empty line has no reply, so neither has an empty last piece
@@ -18,9 +19,6 @@ is_word piece = not (length piece == 0)
 abbrev pub words_of : List ℕ → List (List ℕ)
 words_of line = filter is_word (slice_split is_blank line)
 
-abbrev pub is_digit : ℕ → Bool
-is_digit b = nat_le 48 b && nat_le b 57
-
 -- the number that a word of digits writes
 abbrev pub value_of : List ℕ → ℕ
 value_of word = fold (λ value digit. 10 * value + (digit - 48)) 0 word
@@ -28,7 +26,8 @@ value_of word = fold (λ value digit. 10 * value + (digit - 48)) 0 word
 -- `0`, or at most 19 digits of which the first is not 0
 abbrev pub is_numeral : List ℕ → Bool
 is_numeral [] = false
-is_numeral (b ∷ word) = is_digit b && list_all is_digit word && ((not (b == 48) && nat_le (length word) 18) || (length word == 0))
+is_numeral (first ∷ others) =
+    list_all is_ascii_digit (first ∷ others) && (if first == 48 then length others == 0 else nat_le (length others) 18)
 
 -- the numbers of these words, if each is a numeral
 abbrev pub put_first : Option (List ℕ) → ℕ → Option (List ℕ)

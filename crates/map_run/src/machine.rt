@@ -1,12 +1,12 @@
 //! One line of a script, obeyed.
-ghost use Rattle.std.specs.Prelude.{◌≡◌, IfOk, IsErrOf};
+ghost use Rattle.std.specs.Prelude.{◌≡◌, Ok, Err, IfOk, IfErr, OnOk, IsErrOf};
 ghost use Rattle.map_defs.specs.Script.{words_of, Polygon};
 ghost use Rattle.map_defs.specs.Machine.{Step};
 ghost use Rattle.map_defs.specs.Text.{is_refused};
 ghost use Rattle.map_io.specs.Cause.{HasCause};
 ghost use Rattle.map_run.specs.Bare.{state_of};
 ghost use Rattle.map_run.specs.Lines.{reply_meaning};
-ghost use Rattle.map_run.specs.Writing.{AnswersLine};
+ghost use Rattle.map_run.specs.Writing.{AnswersLine, AnswersStep};
 
 use crate::reply;
 use crate::script::{self, Line};
@@ -53,14 +53,11 @@ pub fn obey_line<S: Sink>(
     }
     match script::read_line(words.as_slice()) {
         Some(Line::Polygon(sides)) => obey_polygon(alloc, sides, links, out),
-        Some(Line::Show) => {
-            reply::write_listing(alloc, out, links)?;
-            Ok(false)
-        }
-        None => {
-            reply::write_reply(alloc, out, Reply::Refused(Refusal::Syntax))?;
-            Ok(true)
-        }
+        Some(Line::Show) => answered(reply::write_listing(alloc, out, links), false),
+        None => answered(
+            reply::write_reply(alloc, out, Reply::Refused(Refusal::Syntax)),
+            true,
+        ),
     }
 }
 
@@ -69,13 +66,24 @@ fn obey_polygon<S: Sink>(
     sides: u64,
     links: &mut Links<Alpha, 2>,
     out: &mut S,
-) -> Result<bool, PutFault> {
+) -> Result<bool, PutFault>
+    ensures answered { AnswersStep (S.written out.old) (S.written out.new) (state_of links.old) (state_of links.new) (Polygon sides) result }
+    ensures cause { HasCause (S.faults out.old) (S.faults out.new) (IsErrOf result PutFault.Failed) }
+{
     match polygon(links, sides) {
-        Ok(reply) => {
-            reply::write_reply(alloc, out, reply)?;
-            Ok(reply.is_refused())
-        }
+        Ok(reply) => answered(reply::write_reply(alloc, out, reply), reply.is_refused()),
         Err(_) => Err(PutFault::NoMemory),
+    }
+}
+
+/// Whether the line was refused, once its reply is written.
+fn answered(written: Result<(), PutFault>, refused: bool) -> Result<bool, PutFault>
+    ensures ok { OnOk written (result ≡ Ok refused) }
+    ensures err { IfErr written (λ fault. result ≡ Err fault) }
+{
+    match written {
+        Ok(()) => Ok(refused),
+        Err(fault) => Err(fault),
     }
 }
 
@@ -83,7 +91,7 @@ fn obey_polygon<S: Sink>(
 fn polygon(links: &mut Links<Alpha, 2>, sides: u64) -> Result<Reply, AllocError>
     ensures { IfOk result (λ reply. Step (state_of links.old) (Polygon sides) (reply_meaning reply) (state_of links.new)) }
 {
-    if !(3..=65536).contains(&sides) {
+    if sides < 3 || sides > 65536 {
         return Ok(Reply::Refused(Refusal::BadCount));
     }
     match links.polygon(sides as u32) {

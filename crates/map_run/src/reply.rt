@@ -1,7 +1,9 @@
 //! Replies, written line by line.
-ghost use Rattle.std.specs.Prelude.{◌≡◌, ℕ, ◌+◌, ◌++◌, [], IfOk, IsErrOf};
-ghost use Rattle.map_defs.specs.Text.{reply_text, listing_text};
-ghost use Rattle.map_defs.specs.Listing.{listing_with};
+ghost use Rattle.std.specs.Prelude.{◌≡◌, ℕ, ◌+◌, ◌++◌, ◌∷◌, [], IfOk, IsErrOf};
+ghost use Rattle.std.specs.List.{flat_map};
+ghost use Rattle.map_defs.specs.Rows.{row_at};
+ghost use Rattle.map_defs.specs.Text.{reply_text, listing_text, header_text, row_text};
+ghost use Rattle.map_defs.specs.Listing.{listing_with, live_rows_from};
 ghost use Rattle.map_io.specs.Cause.{HasCause};
 ghost use Rattle.map_run.specs.Bare.{state_of};
 ghost use Rattle.map_run.specs.Lines.{reply_meaning};

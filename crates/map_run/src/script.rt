@@ -1,8 +1,9 @@
 //! The script: its words and what they tell.
-ghost use Rattle.std.specs.Prelude.{◌≡◌, ℕ, ◌+◌, ◌*◌, ◌^◌, ◌<◌, ◌≤◌, List, Some, None, length, map, fold, IfOk};
+ghost use Rattle.std.specs.Prelude.{◌≡◌, ℕ, ◌+◌, ◌*◌, ◌^◌, ◌<◌, ◌≤◌, List, Some, None, length, map, fold, ◌∷◌, IfOk, IfSome, position, nat_le, ◌==◌, if◌then◌else◌};
+ghost use Rattle.std.specs.Char.{is_ascii_digit};
 ghost use Rattle.std.specs.List.{list_all};
-ghost use Rattle.map_defs.specs.Script.{words_of, line_of, is_blank, is_digit, is_numeral, numerals, value_of};
-ghost use Rattle.map_run.specs.Lines.{option_line, now_of};
+ghost use Rattle.map_defs.specs.Script.{lines_of, words_of, line_of, is_blank, is_numeral, numerals, polygon_line, show_line, value_of};
+ghost use Rattle.map_run.specs.Lines.{option_line, now_of, lines_after};
 
 use std::alloc::{AllocError, Global};
 
@@ -11,6 +12,25 @@ use std::alloc::{AllocError, Global};
 pub enum Line {
     Polygon(u64),
     Show,
+}
+
+/// The first line of a text, and the text behind its line feed, if it ends with one.
+pub fn next_line(text: &[u8]) -> (&[u8], Option<&[u8]>)
+    ensures lines { lines_of text.now ≡ result.0.now ∷ lines_after result.1 }
+    ensures shorter { IfSome result.1 (λ after. length after.now < length text.now) }
+{
+    match line_end(text) {
+        Some(end) => (&text[..end], Some(&text[end + 1..])),
+        None => (text, None),
+    }
+}
+
+/// Where the first line feed stands.
+fn line_end(text: &[u8]) -> Option<usize>
+    ensures place { result ≡ position (λ b. b == 10) text.now }
+    ensures within { IfSome result (λ end. end < length text.now) }
+{
+    text.iter().position(|byte| *byte == b'\n')
 }
 
 /// The words of a line: the pieces between spaces, tabs and carriage returns.
@@ -36,9 +56,18 @@ pub fn read_line(words: &[&[u8]]) -> Option<Line>
     if *first == b"polygon".as_slice() {
         read_polygon(arguments)
     } else if *first == b"show".as_slice() {
-        arguments.is_empty().then_some(Line::Show)
+        read_show(arguments)
     } else {
         None
+    }
+}
+
+fn read_show(arguments: &[&[u8]]) -> Option<Line>
+    ensures { option_line result ≡ show_line (map now_of arguments.now) }
+{
+    match arguments {
+        [] => Some(Line::Show),
+        _ => None,
     }
 }
 
@@ -71,9 +100,19 @@ fn is_numeral(word: &[u8]) -> bool
 {
     match word {
         [] => false,
-        [b'0'] => true,
-        [first, others @ ..] => {
-            first.is_ascii_digit() && *first != b'0' && others.len() <= 18 && others.iter().all(u8::is_ascii_digit)
-        }
+        [first, others @ ..] => is_digits(word) && is_length_of_numeral(*first, others.len()),
     }
+}
+
+fn is_digits(word: &[u8]) -> bool
+    ensures { result ≡ list_all is_ascii_digit word.now }
+{
+    word.iter().all(|byte| byte.is_ascii_digit())
+}
+
+/// Whether so many digits may stand behind the first one.
+fn is_length_of_numeral(first: u8, others: usize) -> bool
+    ensures { result ≡ (if first == 48 then others == 0 else nat_le others 18) }
+{
+    if first == b'0' { others == 0 } else { others <= 18 }
 }

@@ -1,7 +1,7 @@
 //! The text of lines, appended piece by piece.
-ghost use Rattle.std.specs.Prelude.{◌≡◌, ℕ, ◌+◌, ◌-◌, ◌≤◌, ◌<◌, ◌∷◌, ◌++◌, [], Some, length, IfOk, OnOk, codes};
+ghost use Rattle.std.specs.Prelude.{◌≡◌, ℕ, ◌+◌, ◌-◌, ◌≤◌, ◌<◌, ◌∷◌, ◌++◌, [], List, Some, length, IfOk, OnOk, codes};
 ghost use Rattle.std.specs.Fmt.{decimal};
-ghost use Rattle.map_defs.specs.Rows.{row_at, made, live_count};
+ghost use Rattle.map_defs.specs.Rows.{row_at, links_of, made, live_count};
 ghost use Rattle.map_defs.specs.Text.{spaced, ended, row_text, header_text, done_text, refusal_text};
 ghost use Rattle.map_defs.specs.Listing.{ListRow, listing_with};
 ghost use Rattle.map_kind.specs.Refusals.{meaning};
@@ -56,7 +56,8 @@ pub fn append_refusal(text: &mut Vec<u8>, refusal: Refusal) -> Result<(), AllocE
 pub fn append_header(text: &mut Vec<u8>, links: &Links<Alpha, 2>) -> Result<(), AllocError>
     ensures { OnOk result (text.new.items ≡ text.old.items ++ header_text (listing_with (state_of links.now).present [])) }
 {
-    text.extend_from_slice(b"cellmap 1 g 2")?;
+    text.extend_from_slice(b"cellmap 1 g")?;
+    append_spaced(text, 2)?;
     append_spaced(text, links.made())?;
     append_spaced(text, links.live_count())?;
     text.push(b'\n')?;
@@ -65,14 +66,25 @@ pub fn append_header(text: &mut Vec<u8>, links: &Links<Alpha, 2>) -> Result<(), 
 
 /// Appends the row of a live dart.
 pub fn append_row(text: &mut Vec<u8>, links: &Links<Alpha, 2>, dart: Dart) -> Result<(), AllocError>
-    ensures { OnOk result ((row : List ℕ) → row_at links.now dart ≡ Some row →
+    ensures { OnOk result ((row : List ℕ) → row_at links.now dart ≡ Some row → length row ≡ 3 →
         text.new.items ≡ text.old.items ++ row_text (record { dart = dart; links = row })) }
 {
     append_number(text, dart.number())?;
     text.push(b':')?;
     for link in 0..=2 {
-        append_spaced(text, links.link(dart, link).map_or(0, Dart::number))?;
+        append_spaced(text, entry(links, dart, link))?;
     }
     text.push(b'\n')?;
     Ok(())
+}
+
+/// The number of the dart at a link, or 0.
+fn entry(links: &Links<Alpha, 2>, dart: Dart, link: usize) -> u32
+    requires { link ≤ 2 }
+    ensures { result ≡ links_of links.now link dart }
+{
+    match links.link(dart, link) {
+        Some(other) => other.number(),
+        None => 0,
+    }
 }

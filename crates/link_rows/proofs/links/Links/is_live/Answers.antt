@@ -4,8 +4,8 @@ use Rattle.map_defs.specs.Rows.{Rows, IsLive}
 use Rattle.link_rows.proofs.LiveRows.{live-all, all-live}
 use Rattle.link_rows.proofs.links.Links.is_live.Goals as goal
 
-pub returns : goal.returns
-returns g c =
+pub returns-clause-live : goal.returns-clause-live
+returns-clause-live g c =
     let rows : List (List ℕ) = c.self.inside.rows.items in
     let d : ℕ = c.args.dart in
     let len : c.len.result ≡ length rows = c.len.ensures ∙ c.self.inside.rows.ok.0 in
