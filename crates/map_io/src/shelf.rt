@@ -17,6 +17,7 @@ pub enum FetchFault {
     /// limit.
     #[error("the file is too long: it has {seen} bytes or more")]
     TooLong { seen: u64 },
+    /// There is no memory for the bytes of the file.
     #[error("out of memory")]
     NoMemory,
 }

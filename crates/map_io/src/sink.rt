@@ -12,6 +12,7 @@ pub enum PutFault {
     /// The sink could not take all of the piece.
     #[error("the text cannot be written")]
     Failed,
+    /// There is no memory to take the piece.
     #[error("out of memory")]
     NoMemory,
 }
