@@ -134,7 +134,7 @@ module _ (n : ℕ) (L N : Links) (c : IsClosedMap n L) (b : IsBetaDual n L N) (w
       go (inl r) = along i o e s.0 r x y s.2 s.3
       go (inr r) =
           let back : through N r.0 y ≡ x = subst (λ v. through N v y ≡ x) (ap (inverse_word beta) r.2 ∙ inverse_word_twice beta r.0) (word_back beta N wn s.0 x y s.2 s.3) in
-          cell_back beta L c.laws o y x s.3 (along i o e r.0 r.1 y x back m)
+          cell_back beta L c.laws o y x (along i o e r.0 r.1 y x back m)
 
   pub beta_cells : (i o d x : ℕ) → i + o ≡ n → d ≢ 0 → InCell beta N i d x → InCell beta L o d x
   beta_cells i o d x e m h = orbit_map (Leads N (IsCellWord beta i)) (Leads L (IsCellWord beta o)) (λ u v s. s.3) (λ u v n s. beta_step i o u v e n s) d x m h
