@@ -11,3 +11,4 @@ pub mod Orbits
 pub mod Turned
 pub mod Walking
 pub mod CellFacts
+pub mod RowFacts

@@ -62,6 +62,7 @@ not_not_low P x made low nn = go (low_or_not x made)
   where
     low_or_not : (a b : ℕ) → (a ≤ b) ⊎ ((a ≤ b) → ⊥)
     low_or_not a b = grind arith
+
     go : (x ≤ made) ⊎ ((x ≤ made) → ⊥) → x ≤ made
     go (inl h) = h
     go (inr n) = absurd (nn (λ p. n (low p)))
