@@ -13,7 +13,7 @@ use Rattle.link_laws.proofs.Orbits.{orbit_dart}
 use Rattle.insert_laws.proofs.Fresh.{IsNew, InOrNone, fresh_link, fresh_old, fresh_none}
 use Rattle.insert_laws.proofs.BetaParts.{HasParts, laws_from_parts, onward_of, backward_of, high_of, back_of, apart_of}
 
-module _ (L : Links) (w : Laws beta L) (d : ℕ) (hd : d ≢ 0) (star tip : ℕ → ℕ) (fresh_star : IsFresh L (InCell beta L 2 d) star) (fresh_tip : IsFresh L (InCell beta L 2 d) tip) (two : (x y : ℕ) → InCell beta L 2 d x → InCell beta L 2 d y → star x ≢ tip y) (closed : (x : ℕ) → InCell beta L 2 d x → (L 0 x ≢ 0) × (L 1 x ≢ 0)) (N : Links) (s : IsBetaCentred d star tip L N) where
+module _ (L : Links) (w : Laws beta L) (d : ℕ) (hd : d ≢ 0) (star tip : ℕ → ℕ) (fresh_star : IsFresh L (InCell beta L 2 d) star) (fresh_tip : IsFresh L (InCell beta L 2 d) tip) (two : (x y : ℕ) → InCell beta L 2 d x → InCell beta L 2 d y → star x ≢ tip y) (N : Links) (s : IsBetaCentred d star tip L N) where
   dart : (x : ℕ) → InCell beta L 2 d x → x ≢ 0
   dart x h = orbit_dart _ (λ u v q. q.3) d x hd h
 
@@ -121,7 +121,7 @@ module _ (L : Links) (w : Laws beta L) (d : ℕ) (hd : d ≢ 0) (star tip : ℕ 
     (λ (e : j ≡ 2).
       let a : N 2 (star x) ≡ tip (L 1 x) = s.sides x h in
       let b : N 2 (tip (L 1 x)) ≡ star (L 0 (L 1 x)) = tip_two (L 1 x) (on 1 x (omega arith) (inl h)) in
-      let c : L 0 (L 1 x) ≡ x = w.back 1 x (closed x h).1 in cc)
+      let c : L 0 (L 1 x) ≡ x = w.back 1 x (λ o. n (ap (λ t. N t (star x)) e ∙ (a ∙ (ap tip o ∙ fresh_tip.nothing)))) in cc)
     (λ (m : j ≢ 2).
       let l3 : 3 ≤ j = omega arith in
       let a : N j (star x) ≡ tip (L j x) = s.along x j h l3 in
@@ -134,7 +134,7 @@ module _ (L : Links) (w : Laws beta L) (d : ℕ) (hd : d ≢ 0) (star tip : ℕ 
     (λ (e : j ≡ 2).
       let a : N 2 (tip x) ≡ star (L 0 x) = s.sides_back x h in
       let b : N 2 (star (L 0 x)) ≡ tip (L 1 (L 0 x)) = star_two (L 0 x) (on 0 x (omega arith) (inl h)) in
-      let c : L 1 (L 0 x) ≡ x = w.back 0 x (closed x h).0 in cc)
+      let c : L 1 (L 0 x) ≡ x = w.back 0 x (λ o. n (ap (λ t. N t (tip x)) e ∙ (a ∙ (ap star o ∙ fresh_star.nothing)))) in cc)
     (λ (m : j ≢ 2).
       let l3 : 3 ≤ j = omega arith in
       let a : N j (tip x) ≡ star (L j x) = s.along_tip x j h l3 in

@@ -12,7 +12,7 @@ ghost use Rattle.map_defs.specs.Laws.{Laws};
 ghost use Rattle.map_defs.specs.Cells.{InCell};
 ghost use Rattle.map_defs.specs.Births.{IsFresh};
 ghost use Rattle.map_defs.specs.Insertion.{InAlphaCorner, InBetaCorner};
-ghost use Rattle.map_defs.specs.Closing.{IsAlphaDangled, IsBetaDangled, IsAlphaCentred, IsBetaCentred, IsClosedFace};
+ghost use Rattle.map_defs.specs.Closing.{IsAlphaDangled, IsBetaDangled, IsAlphaCentred, IsBetaCentred};
 
 /// A dangling edge at a corner keeps the laws of a generalized map.
 ///
@@ -38,10 +38,10 @@ pub fn centre_keeps_the_laws_of_alpha()
 {
 }
 
-/// A vertex in the middle of a closed face keeps the laws of a combinatorial map.
+/// A vertex in the middle of a face keeps the laws of a combinatorial map.
 ///
-/// For whoever plans it and applies it. Of a face that is not closed the last new side would have no side to lie along.
+/// For whoever plans it and applies it: the laws do not need that the face is closed, though the operation asks for it.
 pub fn centre_keeps_the_laws_of_beta()
-    ensures { (d : ℕ) (star tip : ℕ → ℕ) (L N : Links) → Laws beta L → d ≢ 0 → IsClosedFace beta L d → IsFresh L (InCell beta L 2 d) star → IsFresh L (InCell beta L 2 d) tip → ((x y : ℕ) → InCell beta L 2 d x → InCell beta L 2 d y → star x ≢ tip y) → IsBetaCentred d star tip L N → Laws beta N }
+    ensures { (d : ℕ) (star tip : ℕ → ℕ) (L N : Links) → Laws beta L → d ≢ 0 → IsFresh L (InCell beta L 2 d) star → IsFresh L (InCell beta L 2 d) tip → ((x y : ℕ) → InCell beta L 2 d x → InCell beta L 2 d y → star x ≢ tip y) → IsBetaCentred d star tip L N → Laws beta N }
 {
 }
