@@ -1,5 +1,5 @@
 -- The darts of a corner and of a face of a generalized map are sets on which edges can be hung.
-use Rattle.std.proofs.Common.{ℕ, zero, suc, ◌≡◌, ◌≢◌, ◌+◌, ◌≤◌, ◌⊎◌, refl, inl, inr, ⊎_elim, arith}
+use Rattle.std.proofs.Common.{ℕ, ◌≡◌, ◌≢◌, ◌≤◌, ◌⊎◌, refl, inl, inr, arith}
 use Rattle.map_defs.specs.Kind.{alpha}
 use Rattle.map_defs.specs.Links.{Links}
 use Rattle.map_defs.specs.Words.{one_link}
@@ -18,7 +18,7 @@ pub corner_hangs : (L : Links) (d : ℕ) → d ≢ 0 → IsHangingSet 1 L (InAlp
 corner_hangs L d hd = record {
   low = omega arith;
   dart = λ x h. orbit_dart _ (λ u v s. s.3) d x hd h;
-  on = λ x j h c n. onward h (j, corner_link j c, refl, n)
+  on = λ x j h c n. onward h (j, corner_link j c, refl, n);
 }
 
 face_link : (j : ℕ) → (j ≡ 1) ⊎ ((3 ≤ j) ⊎ (j ≡ 0)) → j ≢ 2
@@ -30,5 +30,5 @@ pub face_hangs : (L : Links) (d : ℕ) → d ≢ 0 → IsHangingSet 0 L (InCell 
 face_hangs L d hd = record {
   low = omega arith;
   dart = λ x h. orbit_dart _ (λ u v s. s.3) d x hd h;
-  on = λ x j h c n. onward h (one_link j, inl (j, face_link j c, refl), refl, n)
+  on = λ x j h c n. onward h (one_link j, inl (j, face_link j c, refl), refl, n);
 }
