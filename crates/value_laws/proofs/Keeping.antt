@@ -3,7 +3,7 @@ use Rattle.std.proofs.Common.{ℕ, zero, suc, ◌≡◌, ◌≢◌, ◌⊎◌, �
 use Rattle.std.proofs.lemmas.List.Elements.{Contains-get_or}
 use Rattle.map_defs.specs.Values.{Value, Meaning, KeepsWhole}
 use Rattle.map_defs.specs.Carry.{merged_with, merged_all, NamesPiece, ArePieces, Gets, IsCarried}
-use Rattle.value_laws.proofs.Rising.{held_first, held_none, rising_alone, has_least}
+use Rattle.value_laws.proofs.Rising.{held_case, held_first, held_none, rising_alone, has_least}
 
 -- the new cell of d is an old one: all its darts live, and New is one cell
 pub record IsKeptCell (Live : ℕ → Type 0) (New : ℕ → ℕ → Type 0) (d : ℕ) : Type 0 where
@@ -63,3 +63,55 @@ module _ (rule : Meaning) (value : ℕ → Value) (Live : ℕ → Type 0) (Old N
             let h = (are.members m).0 (held_first m p) in
             let same : m ∷ p ≡ m ∷ [] = alone (New d) (m ∷ p) m are h.0 h.1 (λ x n. ((λ k. k), λ k. k)) in
             one m q (e ∙ ap length same) h.0 h.1 (each 0 (omega arith)) is
+
+-- And the value that it keeps is the one that the definition gives it.
+module _ (rule : Meaning) (value : ℕ → Value) (Live : ℕ → Type 0) (Old New : ℕ → ℕ → Type 0) (d : ℕ) (c : IsKeptCell Live New d) where
+  pub without_is_carried : ((x : ℕ) → New d x → Old x x → ⊥) → IsCarried rule value Live Old New d None
+  without_is_carried none = record {
+    pieces = [];
+    are = record { ascending = λ k h. absurd (omega arith); members = λ m. ((λ h. absurd (held_none m h)), λ h. absurd (let n : NamesPiece Live Old New m = h.0 in none m h.1 n.valued)) };
+    parts = [];
+    even = refl;
+    each = λ at h. absurd (omega arith);
+    is = refl;
+  }
+
+  module _ (valued : (m x : ℕ) → New d m → Live x → Old m x ↔ New d x) (whole : KeepsWhole rule) (constant : (m : ℕ) → New d m → value m ≡ value d)
+      (m : ℕ) (inside : New d m) (least : (x : ℕ) → New d x → m ≤ x) where
+    one_piece : (Cell : ℕ → Type 0) → ((x : ℕ) → NamesPiece Live Old New x → Cell x ↔ New d x) → ArePieces Live Old New Cell (m ∷ [])
+    one_piece Cell e = record { ascending = λ k h. absurd (omega arith); members = λ x. (to x, from x) }
+      where
+        named : NamesPiece Live Old New m
+        named = names_least rule value Live Old New d c valued m inside least
+        to : (x : ℕ) → Contains (m ∷ []) x → NamesPiece Live Old New x × Cell x
+        to x h = at (held_case m [] x h)
+          where
+            at : (m ≡ x) ⊎ Contains [] x → NamesPiece Live Old New x × Cell x
+            at (inl f) = subst (λ z. NamesPiece Live Old New z × Cell z) f (named, (e m named).1 inside)
+            at (inr g) = absurd (held_none x g)
+        from : (x : ℕ) → NamesPiece Live Old New x × Cell x → Contains (m ∷ []) x
+        from x h = let n : NamesPiece Live Old New x = h.0 in subst (Contains (m ∷ [])) (named_one rule value Live Old New d c valued m x named inside n ((e x n).0 h.1)) (held_first m [])
+
+    piece_gets : Gets rule value Live Old New m (Some (value d))
+    piece_gets = record {
+      pieces = m ∷ [];
+      are = one_piece (Old m) (λ x n. valued m x inside n.live);
+      at = 0;
+      within = omega arith;
+      named = refl;
+      is = sym (whole (value m) ∙ ap Some (constant m inside));
+    }
+
+    pub with_is_carried : IsCarried rule value Live Old New d (Some (value d))
+    with_is_carried = record {
+      pieces = m ∷ [];
+      are = one_piece (New d) (λ x n. ((λ k. k), λ k. k));
+      parts = Some (value d) ∷ [];
+      even = refl;
+      each = each;
+      is = refl;
+    }
+      where
+        each : (at : ℕ) → at < 1 → Gets rule value Live Old New (slice_index (m ∷ []) at) (slice_index_or (Some (value d) ∷ []) at None)
+        each zero h = piece_gets
+        each (suc at) h = absurd (omega arith)

@@ -5,3 +5,5 @@ pub mod Carrying
 pub mod Renaming
 pub mod Keeping
 pub mod Rules
+pub mod MapValues
+pub mod OfRows

@@ -95,3 +95,16 @@ none_below P never (suc b) x h p = never x p (λ y q. elim (low_or_above x y) [ 
 
 pub has_least : (P : ℕ → Type 0) (x : ℕ) → P x → ((m : ℕ) → P m → ((y : ℕ) → P y → m ≤ y) → ⊥) → ⊥
 has_least P x p never = none_below P never (suc x) x (omega arith) p
+
+-- where it is told which numbers lie in the set, it has one
+pub find_least : (P : ℕ → Type 0) → ((x : ℕ) → P x ⊎ (P x → ⊥)) → (b : ℕ) → ((m : ℕ) × P m × ((y : ℕ) → P y → m ≤ y)) ⊎ ((y : ℕ) → y < b → P y → ⊥)
+find_least P told zero = inr (λ y h p. omega arith)
+find_least P told (suc b) = on (find_least P told b) (told b)
+  where
+    on : ((m : ℕ) × P m × ((y : ℕ) → P y → m ≤ y)) ⊎ ((y : ℕ) → y < b → P y → ⊥) → P b ⊎ (P b → ⊥) → ((m : ℕ) × P m × ((y : ℕ) → P y → m ≤ y)) ⊎ ((y : ℕ) → y < suc b → P y → ⊥)
+    on (inl f) t = inl f
+    on (inr n) (inl p) = inl (b, p, λ y q. elim (low_or_above b y) [ inl l ↦ l | inr l ↦ absurd (n y l q) ])
+    on (inr n) (inr m) = inr (λ y h q. elim (low_or_above b y) [ inl l ↦ m (subst P (last y h l) q) | inr l ↦ n y l q ])
+      where
+        last : (y : ℕ) → y < suc b → b ≤ y → y ≡ b
+        last y h l = omega arith

@@ -77,7 +77,7 @@ module _ (k : Kind) (Live : ℕ → Type 0) (L N : Links) (w : Laws k L) (wn : L
     to_new (onward {x = x} {y = y} o s) = onward (to_new o) (s.0, s.1, word_off s.0 (one_word i s.0 s.1) x y (all x (to_new o)) s.3 s.2, s.3)
 
   -- the darts of a new cell of a live dart live
-  cell_live : (LiveAfter : ℕ → Type 0) → LeadsToLive LiveAfter N → (i d : ℕ) → LiveAfter d → {x : ℕ} → InOrbit (Leads N (IsCellWord k i)) d x → LiveAfter x
+  pub cell_live : (LiveAfter : ℕ → Type 0) → LeadsToLive LiveAfter N → (i d : ℕ) → LiveAfter d → {x : ℕ} → InOrbit (Leads N (IsCellWord k i)) d x → LiveAfter x
   cell_live LiveAfter leads i d l here = l
   cell_live LiveAfter leads i d l (onward {x = x} {y = y} o s) = go s.0.first s.0.second s.2
     where
