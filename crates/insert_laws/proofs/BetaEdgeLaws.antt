@@ -13,26 +13,26 @@ use Rattle.insert_laws.proofs.BetaEdge.{IsTurning, IsCorner, before_copy, ComesB
 use Rattle.insert_laws.proofs.BetaEdge as edge
 
 module _ (L : Links) (w : Laws beta L) (Turn : ℕ → ℕ → Type 0) (turn : IsTurning L Turn) (star : ℕ → ℕ) (fresh : IsFresh L (IsCorner Turn) star) (N : Links) (s : IsCut Turn star L N) where
-  high_out : (t z : ℕ) → 2 ≤ t → (IsNew (IsCorner Turn) star z → ⊥) → N t z ≡ L t z
+  pub high_out : (t z : ℕ) → 2 ≤ t → (IsNew (IsCorner Turn) star z → ⊥) → N t z ≡ L t z
   high_out = edge.high_out L w Turn turn star fresh N s
 
   nil : (t : ℕ) → 1 ≤ t → N t 0 ≡ 0
   nil = edge.nil L w Turn turn star fresh N s
 
-  not_link : (t z : ℕ) → IsNew (IsCorner Turn) star (L t z) → ⊥
+  pub not_link : (t z : ℕ) → IsNew (IsCorner Turn) star (L t z) → ⊥
   not_link = edge.not_link L w Turn turn star fresh N s
 
   copy_zero : (x j : ℕ) → x ≡ 0 → L j (L 0 x) ≡ 0
   copy_zero x j o = cc (w.nil 0, w.nil j)
 
   -- the links of the new dart of a corner's copy
-  side_at : (x y j : ℕ) → Turn x y → 3 ≤ j → N 2 (star (L j (L 0 y))) ≡ star (L j (L 0 x))
+  pub side_at : (x y j : ℕ) → Turn x y → 3 ≤ j → N 2 (star (L j (L 0 y))) ≡ star (L j (L 0 x))
   side_at x y j p l = ⊎_elim
     (λ (o : L j (L 0 y) ≡ 0). let a : L j (L 0 x) ≡ 0 = turn.even y x j (turn.both x y p) l o in let b : N 2 0 ≡ 0 = nil 2 (omega arith) in cc (fresh.nothing))
     (λ (n : L j (L 0 y) ≢ 0). s.sides (L j (L 0 y)) (L j (L 0 x)) (turn.across y x j (turn.both x y p) l n))
     (same_or_not (L j (L 0 y)) 0)
 
-  along_at : (x y j t : ℕ) → Turn x y → 3 ≤ j → 3 ≤ t → N t (star (L j (L 0 y))) ≡ star (L t (L 0 (L j (L 0 x))))
+  pub along_at : (x y j t : ℕ) → Turn x y → 3 ≤ j → 3 ≤ t → N t (star (L j (L 0 y))) ≡ star (L t (L 0 (L j (L 0 x))))
   along_at x y j t p l m = ⊎_elim
     (λ (o : L j (L 0 y) ≡ 0). let a : L t (L 0 (L j (L 0 x))) ≡ 0 = copy_zero (L j (L 0 x)) t (turn.even y x j (turn.both x y p) l o) in
       let b : N t 0 ≡ 0 = nil t (omega arith) in cc (fresh.nothing))

@@ -138,13 +138,13 @@ module _ (L : Links) (w : Laws beta L) (d e : ℕ) (can : AreBetaEdgePaired L d 
     rw e (triple_on u v c j (edge_triple u v c p) l hu (λ o. hv (e ∙ o)))
 
   module _ (apart : InBetaCorner L d e → ⊥) where
-    not_common : (x : ℕ) → InBetaCorner L d x → InBetaCorner L e x → ⊥
+    pub not_common : (x : ℕ) → InBetaCorner L d x → InBetaCorner L e x → ⊥
     not_common x p q = apart (common_copy L w d e x (dart_of_link beta L w 0 e can.far) p q)
 
     lead : (x y : ℕ) → BetaEdgeLeads L d e x y → IsEdgeTriple L d e (L 0 x) y 1
     lead x y p = edge_triple (L 0 x) y 1 p.1
 
-    lead_copies : (x y : ℕ) → BetaEdgeLeads L d e x y → AreCopies L d e x y
+    pub lead_copies : (x y : ℕ) → BetaEdgeLeads L d e x y → AreCopies L d e x y
     lead_copies x y p = rw (w.back 0 x p.0) at (lead x y p).corners
 
     lead_both : (x y : ℕ) → BetaEdgeLeads L d e x y → BetaEdgeLeads L d e y x

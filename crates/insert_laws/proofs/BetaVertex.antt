@@ -25,45 +25,45 @@ edge_set L d hd = record {
 }
 
 module _ (L : Links) (w : Laws beta L) (K : ℕ → Type 0) (set : IsEdgeSet L K) (star : ℕ → ℕ) (fresh : IsFresh L K star) (N : Links) (s : IsSplit K star L N) where
-  on_or_none : (x j : ℕ) → InOrNone K x → 2 ≤ j → InOrNone K (L j x)
+  pub on_or_none : (x j : ℕ) → InOrNone K x → 2 ≤ j → InOrNone K (L j x)
   on_or_none x j (inl h) l = ⊎_elim (λ o. inr o) (λ n. inl (set.on x j h l n)) (same_or_not (L j x) 0)
   on_or_none x j (inr o) l = inr (ap (L j) o ∙ w.nil j)
 
-  on_back : (x j : ℕ) → 2 ≤ j → K (L j x) → K x
+  pub on_back : (x j : ℕ) → 2 ≤ j → K (L j x) → K x
   on_back x j l h =
     let n : L j x ≢ 0 = set.dart (L j x) h in
     let b : L j (L j x) ≡ x = back_of L w j x l n in
     rw b at (set.on (L j x) j h l (λ o. dart_of_link beta L w j x n (sym b ∙ o)))
 
-  out : (t z : ℕ) → 1 ≤ t → (IsNew K star z → ⊥) → (K z → ⊥) → N t z ≡ L t z
+  pub out : (t z : ℕ) → 1 ≤ t → (IsNew K star z → ⊥) → (K z → ⊥) → N t z ≡ L t z
   out t z l n m = s.kept z t l m (λ y h e. n (y, h, e))
 
-  nil : (t : ℕ) → 1 ≤ t → N t 0 ≡ 0
+  pub nil : (t : ℕ) → 1 ≤ t → N t 0 ≡ 0
   nil t l = out t 0 l (fresh_none beta L w K star fresh) (λ h. set.dart 0 h refl) ∙ w.nil t
 
   -- the same for a dart of K or none
-  new_at : (j u : ℕ) → 2 ≤ j → InOrNone K u → N j u ≡ star (L j u)
+  pub new_at : (j u : ℕ) → 2 ≤ j → InOrNone K u → N j u ≡ star (L j u)
   new_at j u l (inl h) = s.new u j h l
   new_at j u l (inr o) = let a : N j 0 ≡ 0 = nil j (omega arith) in cc (fresh.nothing, w.nil j)
 
-  old_at : (j u : ℕ) → 2 ≤ j → InOrNone K u → N j (star u) ≡ L j u
+  pub old_at : (j u : ℕ) → 2 ≤ j → InOrNone K u → N j (star u) ≡ L j u
   old_at j u l (inl h) = s.old u j h l
   old_at j u l (inr o) = let a : N j 0 ≡ 0 = nil j (omega arith) in cc (fresh.nothing, w.nil j)
 
-  first_at : (u : ℕ) → InOrNone K u → N 1 u ≡ star u
+  pub first_at : (u : ℕ) → InOrNone K u → N 1 u ≡ star u
   first_at u (inl h) = s.first u h
   first_at u (inr o) = let a : N 1 0 ≡ 0 = nil 1 (omega arith) in cc (fresh.nothing)
 
-  second_at : (u : ℕ) → InOrNone K u → N 1 (star u) ≡ L 1 u
+  pub second_at : (u : ℕ) → InOrNone K u → N 1 (star u) ≡ L 1 u
   second_at u (inl h) = s.second u h
   second_at u (inr o) = let a : N 1 0 ≡ 0 = nil 1 (omega arith) in cc (fresh.nothing, w.nil 1)
 
   -- link 0 of a new dart, and of an old one
-  back_new : (u : ℕ) → InOrNone K u → N 0 (star u) ≡ u
+  pub back_new : (u : ℕ) → InOrNone K u → N 0 (star u) ≡ u
   back_new u (inl h) = (s.turned.back u (star u) (set.dart u h) (fresh.dart u h)).0 (s.first u h)
   back_new u (inr o) = let a : N 0 0 ≡ 0 = s.turned.nothing in cc (fresh.nothing)
 
-  back_in : (u : ℕ) → K (L 0 u) → N 0 u ≡ star (L 0 u)
+  pub back_in : (u : ℕ) → K (L 0 u) → N 0 u ≡ star (L 0 u)
   back_in u h =
     let n : L 0 u ≢ 0 = set.dart (L 0 u) h in
     let e : N 1 (star (L 0 u)) ≡ u = s.second (L 0 u) h ∙ w.back 0 u n in
@@ -78,7 +78,7 @@ module _ (L : Links) (w : Laws beta L) (K : ℕ → Type 0) (set : IsEdgeSet L K
     let out_b : K b → ⊥ = λ h. old (b, h, sym e ∙ s.first b h) in
     led b (sym (out 1 b (omega arith) fresh_b out_b) ∙ e) hb
 
-  back_out : (u : ℕ) → (IsNew K star u → ⊥) → (K (L 0 u) → ⊥) → N 0 u ≡ L 0 u
+  pub back_out : (u : ℕ) → (IsNew K star u → ⊥) → (K (L 0 u) → ⊥) → N 0 u ≡ L 0 u
   back_out u old far = ⊎_elim
     (λ (z : u ≡ 0). let a : N 0 0 ≡ 0 = s.turned.nothing in cc (w.nil 0))
     (λ (hu : u ≢ 0). ⊎_elim

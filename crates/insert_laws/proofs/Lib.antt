@@ -12,3 +12,6 @@ pub mod BetaVertex
 pub mod BetaEdge
 pub mod BetaEdgeLaws
 pub mod BetaEdgePairs
+pub mod Around
+pub mod Closed
+pub mod ClosedFree

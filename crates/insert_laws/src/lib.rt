@@ -4,13 +4,14 @@
 //! of every dimension. A proof uses it by a call. The lemmas behind them are in `proofs/`, for other laws to build on.
 #![tactic(auto)]
 
-ghost use Rattle.std.specs.Prelude.{◌≡◌, ◌≢◌, ◌≤◌, ℕ, List, Bool, Contains, IsTrue};
-ghost use Rattle.map_defs.specs.Kind.{Kind, alpha, beta};
-ghost use Rattle.map_defs.specs.Links.{Links};
+ghost use Rattle.std.specs.Prelude.{◌≡◌, ◌≢◌, ◌<◌, ◌≤◌, ℕ, List, length, Bool, Contains, IsTrue};
+ghost use Rattle.map_defs.specs.Kind.{Kind, alpha, beta, inverse};
+ghost use Rattle.map_defs.specs.Links.{Links, LeadsToLive};
 ghost use Rattle.map_defs.specs.Laws.{Laws};
 ghost use Rattle.map_defs.specs.Cells.{InCell};
-ghost use Rattle.map_defs.specs.Births.{IsFresh, IsNumbered};
+ghost use Rattle.map_defs.specs.Births.{IsFresh, IsNumbered, AreBorn, IsCounted};
 ghost use Rattle.map_defs.specs.Insertion.{IsInsertable, IsInserted, IsAlphaVertex, AlphaEdgeDarts, AreAlphaEdgePaired, IsAlphaEdge, IsBetaVertex, InBetaCorner, AreBetaEdgePaired, BetaEdgeDarts, IsBetaEdge, FaceDarts, IsClosedPath, IsFacePaired, IsFace};
+ghost use Rattle.map_defs.specs.Closing.{IsOpen, IsClosed};
 
 /// An insertion in general keeps the laws, at any link and in both kinds, where its set and its pairs meet the premises.
 ///
@@ -68,5 +69,30 @@ pub fn edge_keeps_the_laws_of_beta()
 /// For whoever plans it and applies it: the laws need no path on one volume.
 pub fn face_keeps_the_laws()
     ensures { (k : Kind) (path : List ℕ) (star : ℕ → ℕ) (L N : Links) → Laws k L → ((b : ℕ) → Contains path b → b ≢ 0) → IsClosedPath k L path → IsFacePaired k L path → IsFresh L (FaceDarts k L path) star → IsFace k path star L N → Laws k N }
+{
+}
+
+/// Closing at a link keeps the laws of a map of either kind.
+///
+/// For whoever plans it and applies it: its condition is that the link is its own inverse, which all links of a generalized
+/// map are, and those from 2 upwards in a combinatorial map.
+pub fn closing_keeps_the_laws()
+    ensures { (k : Kind) (i : ℕ) (Live : ℕ → Bool) (keys : List ℕ) (made : ℕ) (star : ℕ → ℕ) (L N : Links) → inverse k i ≡ i → Laws k L → IsCounted made (λ x. IsTrue (Live x)) → LeadsToLive (λ x. IsTrue (Live x)) L → IsNumbered (IsOpen (λ x. IsTrue (Live x)) i L) keys made star → IsClosed k i (λ x. IsTrue (Live x)) star L N → Laws k N }
+{
+}
+
+/// After closing at a link no live dart is free there.
+///
+/// For whoever closes a map because a later step, as the dual, asks for a map without a boundary.
+pub fn closing_leaves_no_free_dart()
+    ensures { (k : Kind) (i : ℕ) (Live LiveAfter : ℕ → Bool) (keys : List ℕ) (made : ℕ) (star : ℕ → ℕ) (L N : Links) → inverse k i ≡ i → Laws k L → IsCounted made (λ x. IsTrue (Live x)) → LeadsToLive (λ x. IsTrue (Live x)) L → IsNumbered (IsOpen (λ x. IsTrue (Live x)) i L) keys made star → IsClosed k i (λ x. IsTrue (Live x)) star L N → AreBorn made (length keys) (λ x. IsTrue (Live x)) (λ x. IsTrue (LiveAfter x)) → (x : ℕ) → IsTrue (LiveAfter x) → N i x ≢ 0 }
+{
+}
+
+/// Where no live dart was free below a link, after closing at it none is free up to it.
+///
+/// For whoever closes a map link by link, upwards: closing at one link opens no link below it.
+pub fn closing_upwards_closes_all()
+    ensures { (k : Kind) (i : ℕ) (Live LiveAfter : ℕ → Bool) (keys : List ℕ) (made : ℕ) (star : ℕ → ℕ) (L N : Links) → inverse k i ≡ i → Laws k L → IsCounted made (λ x. IsTrue (Live x)) → LeadsToLive (λ x. IsTrue (Live x)) L → IsNumbered (IsOpen (λ x. IsTrue (Live x)) i L) keys made star → IsClosed k i (λ x. IsTrue (Live x)) star L N → AreBorn made (length keys) (λ x. IsTrue (Live x)) (λ x. IsTrue (LiveAfter x)) → ((t x : ℕ) → IsTrue (Live x) → t < i → L t x ≢ 0) → (t x : ℕ) → IsTrue (LiveAfter x) → t ≤ i → N t x ≢ 0 }
 {
 }
