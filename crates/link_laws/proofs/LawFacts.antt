@@ -22,11 +22,12 @@ link_one k L w i x y h e = sym (w.back i x h) ∙ (ap (L (inverse k i)) e ∙ w.
 
 -- the two ends of a link are alike free at each distant link
 pub alike : (k : Kind) (L : Links) → Laws k L → (i j x : ℕ) → IsDistant k i j → L i x ≢ 0 → (L j x ≡ 0) ↔ (L (inverse k j) (L i x) ≡ 0)
-alike k L w i j x far h =
-  ( (λ e. sym (w.square i j x far) ∙ (ap (L (inverse k i)) e ∙ w.nil (inverse k i)))
-  , λ e. stable (L j x) 0 (λ n. h (
+alike k L w i j x far h = (
+  (λ e. sym (w.square i j x far) ∙ (ap (L (inverse k i)) e ∙ w.nil (inverse k i))),
+  λ e. stable (L j x) 0 (λ n. h (
       ap (λ t. L t x) (sym (inverse_twice k i))
       ∙ (ap (L (inverse k (inverse k i))) (sym (w.back j x n))
       ∙ (w.square (inverse k i) (inverse k j) (L j x) (IsDistant-inverses k i j far)
       ∙ (ap (L (inverse k (inverse k j))) (w.square i j x far ∙ e)
-      ∙ w.nil (inverse k (inverse k j))))))))
+      ∙ w.nil (inverse k (inverse k j))))))),
+)

@@ -76,6 +76,7 @@ share_by hook Host v k p = hook.share v k p
 abbrev pub meaning_of : Meaning → Rule → Meaning
 meaning_of hook rule = record { merged = merged_by hook rule.merge; share = share_by hook rule.split }
 
--- a cell that is not split keeps its value
+-- A cell that is not split keeps its value. Without this a cell far from a change would lose it, under a hook that gives
+-- each piece nothing.
 abbrev pub KeepsWhole : Meaning → Type 0
 KeepsWhole rule = (v : Value) → rule.share v 1 0 ≡ Some v

@@ -1,10 +1,10 @@
 -- The values of a map, carried over a change of its links.
-use Rattle.std.proofs.Common.{ℕ, suc, ◌≡◌, ◌≢◌, ◌⊎◌, ◌↔◌, ◌≤◌, ◌<◌, inl, inr, refl, sym, ap, subst, ◌∙◌, List, Contains, Option, Some, None, IsSome, arith}
+use Rattle.std.proofs.Common.{ℕ, suc, ◌≡◌, ◌⊎◌, ◌↔◌, ◌≤◌, ◌<◌, inl, inr, refl, sym, ap, subst, ◌∙◌, Option, Some, None, IsSome, arith}
 use Rattle.map_defs.specs.Kind.{Kind}
 use Rattle.map_defs.specs.Links.{Links, LeadsToLive}
 use Rattle.map_defs.specs.Laws.{Laws}
 use Rattle.map_defs.specs.Words.{IsCellWord}
-use Rattle.map_defs.specs.Cells.{InOrbit, here, Leads, InCell}
+use Rattle.map_defs.specs.Cells.{here, Leads, InCell}
 use Rattle.map_defs.specs.Walks.{IsTold}
 use Rattle.map_defs.specs.Touched.{IsOldCell, IsAlike}
 use Rattle.map_defs.specs.Values.{Value, Meaning, KeepsWhole}
@@ -50,8 +50,10 @@ module _ (k : Kind) (i : ℕ) (rule : Meaning) (L N : Links) (Live LiveAfter : �
       where
         old_m : InCell k L i d m
         old_m = (o.same m).0 h
+
         to : IsValuedWith k i L values m x → InCell k N i d x
         to p = (o.same x).1 (cell_trans k L i d m x old_m p.0)
+
         from : InCell k N i d x → IsValuedWith k i L values m x
         from p = (cell_trans k L i m d x (cell_back k L w i d m old_m) ((o.same x).0 p), subst IsSome (sym e ∙ same_value m h) refl)
 
@@ -85,15 +87,16 @@ module _ (k : Kind) (i : ℕ) (rule : Meaning) (L N : Links) (Live LiveAfter : �
 -- The names of the old cells do not matter: labels that tell the same cells carry the same values.
 module _ (k : Kind) (i : ℕ) (rule : Meaning) (N : Links) (Live LiveAfter : ℕ → Type 0) (after : ℕ → Option Value) where
   pub other_labels : (label other : ℕ → Option ℕ) (value worth : ℕ → Value) → ((x y : ℕ) → Live x → Live y → IsAlike label x y ↔ IsAlike other x y) → ((x : ℕ) → Live x → IsAlike label x x → value x ≡ worth x)
-    → AreCarriedByLabel k i rule Live label value N LiveAfter after → AreCarriedByLabel k i rule Live other worth N LiveAfter after
+      → AreCarriedByLabel k i rule Live label value N LiveAfter after → AreCarriedByLabel k i rule Live other worth N LiveAfter after
   other_labels label other value worth e v a d l = renamed (λ x. Live x × LiveAfter x) (IsAlike label) (IsAlike other) (InCell k N i) (λ x y p q. e x y p.0 q.0) rule value worth (λ m p. v m p.0) d (after d) (a d l)
 
   -- and so do labels that tell the valued cells of a map
   pub by_labels : (L : Links) (values : ℕ → Option Value) (label : ℕ → Option ℕ) (value : ℕ → Value) → ((x y : ℕ) → Live x → Live y → IsAlike label x y ↔ IsValuedWith k i L values x y) → ((x : ℕ) → Live x → IsAlike label x x → value x ≡ known (values x))
-    → AreCarriedByLabel k i rule Live label value N LiveAfter after ↔ AreCarried k i rule L Live values N LiveAfter after
+      → AreCarriedByLabel k i rule Live label value N LiveAfter after ↔ AreCarried k i rule L Live values N LiveAfter after
   by_labels L values label value e v = (to, from)
     where
       to : AreCarriedByLabel k i rule Live label value N LiveAfter after → AreCarried k i rule L Live values N LiveAfter after
       to a d l = renamed (λ x. Live x × LiveAfter x) (IsAlike label) (IsValuedWith k i L values) (InCell k N i) (λ x y p q. e x y p.0 q.0) rule value (λ x. known (values x)) (λ m p. v m p.0) d (after d) (a d l)
+
       from : AreCarried k i rule L Live values N LiveAfter after → AreCarriedByLabel k i rule Live label value N LiveAfter after
       from a d l = renamed (λ x. Live x × LiveAfter x) (IsValuedWith k i L values) (IsAlike label) (InCell k N i) (λ x y p q. ((e x y p.0 q.0).1, (e x y p.0 q.0).0)) rule (λ x. known (values x)) value (λ m p o. sym (v m p.0 ((e m m p.0 p.0).1 o))) d (after d) (a d l)

@@ -1,11 +1,11 @@
 -- A cell without a touched dart is an old cell. Of the laws only this is used: a link leads back.
-use Rattle.std.proofs.Common.{ℕ, ◌≡◌, ◌≢◌, ◌⊎◌, ◌↔◌, inl, inr, refl, sym, ap, subst, ◌∙◌, Option, Some, None}
+use Rattle.std.proofs.Common.{ℕ, ◌≡◌, ◌≢◌, ◌⊎◌, inl, inr, refl, sym, ap, subst, ◌∙◌, Option, Some, None}
 use Rattle.map_defs.specs.Kind.{Kind, alpha, beta, inverse}
 use Rattle.map_defs.specs.Links.{Links, LeadsToLive}
 use Rattle.map_defs.specs.Laws.{Laws}
-use Rattle.map_defs.specs.Words.{Word, one_link, through, through_second, inverse_word, IsCellWord}
+use Rattle.map_defs.specs.Words.{Word, through, through_second, inverse_word, IsCellWord}
 use Rattle.map_defs.specs.Cells.{InOrbit, here, onward, Leads, InCell}
-use Rattle.map_defs.specs.Touched.{IsChanged, IsBesideChanged, IsReached, IsTouched, IsOldCell, Touches}
+use Rattle.map_defs.specs.Touched.{IsReached, IsTouched, Touches}
 use Rattle.link_laws.proofs.Basics.{stable}
 use Rattle.link_laws.proofs.LawFacts.{back_to}
 

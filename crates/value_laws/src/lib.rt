@@ -5,7 +5,21 @@
 #![tactic(auto)]
 
 ghost use Rattle.std.specs.Prelude.{
-    ◌≡◌, ◌≢◌, ◌↔◌, ◌⊎◌, ◌<◌, ◌+ℤ◌, ◌*ℤ◌, ℕ, ℤ, pos, List, Contains, Option, Some, None,
+  ◌≡◌,
+  ◌≢◌,
+  ◌↔◌,
+  ◌⊎◌,
+  ◌<◌,
+  ◌+ℤ◌,
+  ◌*ℤ◌,
+  ℕ,
+  ℤ,
+  pos,
+  List,
+  Contains,
+  Option,
+  Some,
+  None,
 };
 ghost use Rattle.std.specs.Int.{int_div_euclid, int_rem_euclid};
 ghost use Rattle.map_defs.specs.Kind.{Kind};
@@ -26,8 +40,7 @@ pub fn touched_darts_touch()
     ensures { (k : Kind) (i : ℕ) (old new : Rows) (touched : List ℕ) → Laws k (links_of old) → Laws k (links_of new)
         → ((x : ℕ) → IsTouched k (links_of old) (IsLive old) (links_of new) (IsLive new) x → Contains touched x)
         → Touches k i (links_of old) (IsLive old) (links_of new) (IsLive new) (Contains touched) }
-{
-}
+{}
 
 /// Darts that touch a dimension cover the old labels there, where these tell the cells that have a value and no dart just
 /// born has one: each new cell without one of the darts has no label, or a label of its own.
@@ -38,8 +51,7 @@ pub fn touching_darts_cover()
         → ((x : ℕ) → IsLive new x → (IsLive old x → ⊥) → label x ≡ None) → IsLabelled k i (links_of old) (IsLive old) label
         → Touches k i (links_of old) (IsLive old) (links_of new) (IsLive new) (Contains touched)
         → Covers k i (links_of new) (IsLive new) label (Contains touched) }
-{
-}
+{}
 
 /// A new cell has one value or none: the values of its darts are the same, and two accounts of the values are the same.
 ///
@@ -50,8 +62,7 @@ pub fn new_cells_have_one_value()
     ensures one { (k : Kind) (i : ℕ) (rule : Meaning) (old new : Rows) (values after other : ℕ → Option Value) → Laws k (links_of old) → Laws k (links_of new)
         → AreCarried k i rule (links_of old) (IsLive old) values (links_of new) (IsLive new) after → AreCarried k i rule (links_of old) (IsLive old) values (links_of new) (IsLive new) other
         → (d : ℕ) → IsLive new d → after d ≡ other d }
-{
-}
+{}
 
 /// A new cell that is an old one keeps its value, or its want of one, under each rule that leaves whole what is not split.
 /// And the value that it keeps is the one that the definition gives it, where it is told which darts lie in the cell.
@@ -64,8 +75,7 @@ pub fn old_cells_keep_their_values()
     ensures given { (k : Kind) (i : ℕ) (rule : Meaning) (old new : Rows) (values : ℕ → Option Value) → Laws k (links_of old) → Laws k (links_of new) → KeepsWhole rule → AreEqualOnCells k i (links_of old) (IsLive old) values
         → (d : ℕ) → IsLive new d → IsOldCell k i (links_of old) (IsLive old) (links_of new) d → IsTold (InCell k (links_of new) i d) ⊎ (values d ≡ None)
         → IsCarried rule (λ x. known (values x)) (λ x. IsLive old x × IsLive new x) (IsValuedWith k i (links_of old) values) (InCell k (links_of new) i) d (values d) }
-{
-}
+{}
 
 /// The names of the old cells do not matter: other labels for the same cells carry the same values, and labels that tell
 /// the valued cells carry the values of the map.
@@ -78,16 +88,14 @@ pub fn names_of_cells_do_not_matter()
     ensures cells { (k : Kind) (i : ℕ) (rule : Meaning) (old new : Rows) (values : ℕ → Option Value) (label : ℕ → Option ℕ) (value : ℕ → Value) (after : ℕ → Option Value)
         → ((x y : ℕ) → IsLive old x → IsLive old y → IsAlike label x y ↔ IsValuedWith k i (links_of old) values x y) → ((x : ℕ) → IsLive old x → IsAlike label x x → value x ≡ known (values x))
         → AreCarriedByLabel k i rule (IsLive old) label value (links_of new) (IsLive new) after ↔ AreCarried k i rule (links_of old) (IsLive old) values (links_of new) (IsLive new) after }
-{
-}
+{}
 
 /// Every rule of the table leaves whole the value of a cell that is not split, if the hook does.
 ///
 /// For whoever hands in a hook: this is all that is asked of it.
 pub fn rules_leave_whole_what_is_not_split()
     ensures { (hook : Meaning) (rule : Rule) → KeepsWhole hook → KeepsWhole (meaning_of hook rule) }
-{
-}
+{}
 
 /// A number is dealt out by its quotient and its rest: it is k times the quotient and the rest, and the rest is from 0
 /// to k - 1.
@@ -96,5 +104,4 @@ pub fn rules_leave_whole_what_is_not_split()
 pub fn numbers_are_dealt_out_by_quotient_and_rest()
     ensures sum { (k : ℕ) (v : ℤ) → 0 < k → v ≡ int_div_euclid v (pos k) *ℤ pos k +ℤ int_rem_euclid v (pos k) }
     ensures rest { (k : ℕ) (v : ℤ) → 0 < k → (r : ℕ) × (r < k) × (int_rem_euclid v (pos k) ≡ pos r) }
-{
-}
+{}
