@@ -1,6 +1,6 @@
 -- Values, and the rules by which they merge and split. Source: the manual's merge and split functions; the table is this
 -- project's.
-use Rattle.std.specs.Prelude.{ℕ, ◌≡◌, ◌+ℤ◌, ℤ, pos, int_lt, cond, nat_eq, Option, Some, None}
+use Rattle.std.specs.Prelude.{ℕ, zero, suc, ◌≡◌, ◌+ℤ◌, ℤ, pos, int_lt, cond, nat_eq, Option, Some, None}
 use Rattle.std.specs.Int.{w64, saturate_signed, int_min, int_max, int_div_euclid, int_rem_euclid}
 
 -- a value: three whole numbers, which a map keeps within 64 bits
@@ -51,6 +51,11 @@ middle x y = int_div_euclid (x +ℤ y) (pos 2)
 -- many as the rest says.
 abbrev pub dealt : ℕ → ℕ → ℤ → ℤ
 dealt k p v = cond (int_lt (pos p) (int_rem_euclid v (pos k))) (int_div_euclid v (pos k) +ℤ pos 1) (int_div_euclid v (pos k))
+
+-- the numbers f 0 to f (n - 1) added up
+abbrev pub total : ℕ → (ℕ → ℤ) → ℤ
+total zero f = pos 0
+total (suc n) f = total n f +ℤ f n
 
 abbrev pub dealt_value : ℕ → ℕ → Value → Value
 dealt_value k p v = record { a = dealt k p v.a; b = dealt k p v.b; c = dealt k p v.c }

@@ -7,3 +7,4 @@ pub mod Keeping
 pub mod Rules
 pub mod MapValues
 pub mod OfRows
+pub mod Dealing

@@ -29,7 +29,7 @@ ghost use Rattle.map_defs.specs.Rows.{Rows, IsLive, links_of};
 ghost use Rattle.map_defs.specs.Cells.{InCell};
 ghost use Rattle.map_defs.specs.Walks.{IsTold};
 ghost use Rattle.map_defs.specs.Touched.{IsTouched, IsOldCell, Touches, IsAlike, IsLabelled, Covers};
-ghost use Rattle.map_defs.specs.Values.{Value, Rule, Meaning, meaning_of, KeepsWhole};
+ghost use Rattle.map_defs.specs.Values.{Value, Rule, Meaning, meaning_of, KeepsWhole, dealt, total};
 ghost use Rattle.map_defs.specs.Carry.{IsCarried, AreCarried, AreCarriedByLabel, IsValuedWith, AreEqualOnCells, known};
 
 /// The touched darts touch every dimension: each new cell without one of them is an old cell.
@@ -97,11 +97,12 @@ pub fn rules_leave_whole_what_is_not_split()
     ensures { (hook : Meaning) (rule : Rule) → KeepsWhole hook → KeepsWhole (meaning_of hook rule) }
 {}
 
-/// A number is dealt out by its quotient and its rest: it is k times the quotient and the rest, and the rest is from 0
-/// to k - 1.
+/// The parts of a number that is dealt out add up to it: it is k times its quotient and its rest, the rest is from 0 to
+/// k - 1, and as many of the k parts are greater by one.
 ///
-/// For whoever adds up the parts that the pieces of a cell get.
-pub fn numbers_are_dealt_out_by_quotient_and_rest()
-    ensures sum { (k : ℕ) (v : ℤ) → 0 < k → v ≡ int_div_euclid v (pos k) *ℤ pos k +ℤ int_rem_euclid v (pos k) }
+/// For whoever relies on totals: dealing out neither makes nor loses anything, for numbers below 0 too.
+pub fn dealt_numbers_add_up()
+    ensures quotient { (k : ℕ) (v : ℤ) → 0 < k → v ≡ int_div_euclid v (pos k) *ℤ pos k +ℤ int_rem_euclid v (pos k) }
     ensures rest { (k : ℕ) (v : ℤ) → 0 < k → (r : ℕ) × (r < k) × (int_rem_euclid v (pos k) ≡ pos r) }
+    ensures parts { (k : ℕ) (v : ℤ) → 0 < k → total k (λ p. dealt k p v) ≡ v }
 {}
