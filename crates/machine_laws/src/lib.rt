@@ -13,10 +13,12 @@ ghost use Rattle.map_defs.specs.Program.{Answers, Starts};
 /// The refusal that a line gets is one whose condition holds, with the least number of all whose condition holds; and the
 /// state is as it was. So a user can read the table of refusals line by line.
 pub fn least_refusal()
-    ensures holds { (s : State) (line : Line) (r : Refusal) (new : State) → Step s line (Refused r) new → FailsFor (checks s line) r }
+    ensures holds { (s : State) (line : Line) (r : Refusal) (new : State) → Step s line (Refused r) new
+        → FailsFor (checks s line) r }
     ensures least { (s : State) (line : Line) (r : Refusal) (new : State) → Step s line (Refused r) new →
         (q : Refusal) → FailsFor (checks s line) q → number r ≤ number q }
-    ensures unchanged { (s : State) (line : Line) (r : Refusal) (new : State) → Step s line (Refused r) new → new ≡ s }
+    ensures unchanged { (s : State) (line : Line) (r : Refusal) (new : State) → Step s line (Refused r) new
+        → new ≡ s }
 {
 }
 
@@ -29,8 +31,10 @@ pub fn accepted_without_refusal()
 
 /// A line has one reply and leads to one state.
 pub fn one_step()
-    ensures reply { (s : State) (line : Line) (one other : Reply) (new new' : State) → Step s line one new → Step s line other new' → one ≡ other }
-    ensures state { (s : State) (line : Line) (one other : Reply) (new new' : State) → Step s line one new → Step s line other new' → new ≡ new' }
+    ensures reply { (s : State) (line : Line) (one other : Reply) (new new' : State) → Step s line one new
+        → Step s line other new' → one ≡ other }
+    ensures state { (s : State) (line : Line) (one other : Reply) (new new' : State) → Step s line one new
+        → Step s line other new' → new ≡ new' }
 {
 }
 

@@ -42,7 +42,8 @@ fn either(one: bool, other: bool) -> bool
 
 /// Writes the one line that ends the program, and answers the status.
 fn write_last<S: Sink>(out: &mut S, line: &[u8], status: u8) -> u8
-    ensures written { WritesLast (S.written out.old) (S.written out.new) (Rose (S.faults out.old) (S.faults out.new)) line.now status result }
+    ensures written { WritesLast (S.written out.old) (S.written out.new)
+        (Rose (S.faults out.old) (S.faults out.new)) line.now status result }
     ensures unwritten { result ≡ 6 → (status ≡ 6) ⊎ Rose (S.faults out.old) (S.faults out.new) }
     ensures later { S.faults out.old ≤ S.faults out.new }
 {
@@ -69,8 +70,10 @@ fn script_status(obeyed: Result<bool, PutFault>) -> u8
 /// it was not fetched.
 fn run_script<F: Shelf, S: Sink>(alloc: Global, script: &str, shelf: &mut F, out: &mut S) -> u8
     requires { F.may_ask shelf.old script.now }
-    ensures outcome { (words : List (List ℕ)) (files : Files) → Tells words (RunScript alpha 2 script.now) → F.holds shelf.old ≡ Some files →
-        Ends (S.written out.old) (S.written out.new) words files (Rose (F.faults shelf.old) (F.faults shelf.new)) (Rose (S.faults out.old) (S.faults out.new)) result }
+    ensures outcome { (words : List (List ℕ)) (files : Files) → Tells words (RunScript alpha 2 script.now)
+        → F.holds shelf.old ≡ Some files →
+        Ends (S.written out.old) (S.written out.new) words files
+            (Rose (F.faults shelf.old) (F.faults shelf.new)) (Rose (S.faults out.old) (S.faults out.new)) result }
     ensures command { result ≢ 2 }
     ensures range { result ≤ 7 }
     ensures unread { result ≡ 5 → Rose (F.faults shelf.old) (F.faults shelf.new) }
