@@ -1,9 +1,9 @@
 -- What the laws of a map say of single links.
-use Rattle.std.proofs.Common.{ℕ, ◌≡◌, ◌≢◌, ◌↔◌, refl, sym, ap, inl, inr, ⊎_elim, ◌∙◌}
+use Rattle.std.proofs.Common.{ℕ, ◌≡◌, ◌≢◌, ◌↔◌, sym, ap, ◌∙◌}
 use Rattle.map_defs.specs.Kind.{Kind, inverse, IsDistant}
 use Rattle.map_defs.specs.Links.{Links}
 use Rattle.map_defs.specs.Laws.{Laws}
-use Rattle.link_laws.proofs.Basics.{stable, same_or_not, inverse_twice, IsDistant-inverses}
+use Rattle.link_laws.proofs.Basics.{stable, inverse_twice, IsDistant-inverses}
 
 -- what a linked dart is linked to is a dart, and so is it itself
 pub dart_of_link : (k : Kind) (L : Links) → Laws k L → (i x : ℕ) → L i x ≢ 0 → x ≢ 0

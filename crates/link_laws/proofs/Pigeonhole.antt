@@ -1,5 +1,5 @@
 -- More numbers than places: two of them have the same place.
-use Rattle.std.proofs.Common.{ℕ, zero, suc, ◌≡◌, ◌≢◌, ◌+◌, ◌<◌, ◌≤◌, ◌⊎◌, refl, sym, ap, inl, inr, ⊎_elim, ◌∙◌, arith}
+use Rattle.std.proofs.Common.{ℕ, zero, suc, ◌≡◌, ◌≢◌, ◌<◌, ◌≤◌, ◌⊎◌, sym, ap, inl, inr, ⊎_elim, ◌∙◌, arith}
 use Rattle.link_laws.proofs.Basics.{same_or_not}
 
 -- f meets v below n, or not

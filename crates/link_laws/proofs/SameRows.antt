@@ -1,5 +1,5 @@
 -- Rows are told by how many there are, which darts live, and the links.
-use Rattle.std.proofs.Common.{ℕ, zero, suc, ◌≡◌, ◌≢◌, ◌+◌, ◌<◌, ◌≤◌, ◌⊎◌, ◌↔◌, refl, sym, ap, inl, inr, ⊎_elim, ◌∙◌, arith, List, length, Option, Some, None, slice_index, slice_index_or, IsSome, true≢false}
+use Rattle.std.proofs.Common.{ℕ, ◌≡◌, ◌+◌, ◌≤◌, ◌↔◌, refl, sym, ap, ◌∙◌, arith, List, length, Option, Some, None, slice_index, IsSome, true≢false}
 use Rattle.std.proofs.lemmas.List.{ext_get_or}
 use Rattle.map_defs.specs.Rows.{Rows, row_at, IsLive, entry_of, links_of, AreWide}
 

@@ -1,13 +1,13 @@
 -- Sewing with good pairs keeps the laws of a map.
-use Rattle.std.proofs.Common.{ℕ, ◌≡◌, ◌≢◌, ◌↔◌, refl, sym, ap, inl, inr, ⊎_elim, ◌∙◌}
+use Rattle.std.proofs.Common.{ℕ, ◌≡◌, ◌≢◌, refl, sym, ap, inl, ⊎_elim, ◌∙◌}
 use Rattle.map_defs.specs.Kind.{Kind, inverse, IsDistant}
 use Rattle.map_defs.specs.Links.{Links}
 use Rattle.map_defs.specs.Laws.{Laws}
-use Rattle.map_defs.specs.Pairs.{InPairs, seed, turned, across, JustOne, IsGood, IsJoined}
+use Rattle.map_defs.specs.Pairs.{seed, turned, across}
 use Rattle.map_defs.specs.Sewing.{SewnPairs, IsSewable, IsSewn}
-use Rattle.link_laws.proofs.Basics.{by_cases, same_or_not, inverse_twice, IsDistant-turned, IsDistant-inverse_right, IsDistant-inverses}
+use Rattle.link_laws.proofs.Basics.{by_cases, same_or_not, inverse_twice, IsDistant-turned, IsDistant-inverses}
 use Rattle.link_laws.proofs.LawFacts.{alike, dart_of_link}
-use Rattle.link_laws.proofs.Relink.{IsEither, either_inverse, either_distant, either_distant_back, IsRelinked, relinked}
+use Rattle.link_laws.proofs.Relink.{IsEither, either_inverse, either_distant, either_distant_back, relinked}
 
 -- what holds of each triple of a sewing
 pub record IsSewnTriple (k : Kind) (L : Links) (i x y t : ℕ) : Type 0 where

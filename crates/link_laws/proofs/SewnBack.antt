@@ -1,9 +1,9 @@
 -- Unsewing a dart right after it was sewn gives all links back.
-use Rattle.std.proofs.Common.{ℕ, ◌≡◌, ◌≢◌, ◌↔◌, refl, sym, ap, inl, inr, ◌∙◌}
+use Rattle.std.proofs.Common.{ℕ, ◌≡◌, ◌≢◌, refl, sym, ap, inl, inr, ◌∙◌}
 use Rattle.map_defs.specs.Kind.{Kind, inverse, IsDistant}
 use Rattle.map_defs.specs.Links.{Links}
 use Rattle.map_defs.specs.Laws.{Laws}
-use Rattle.map_defs.specs.Pairs.{InPairs, seed, turned, across}
+use Rattle.map_defs.specs.Pairs.{seed, turned, across}
 use Rattle.map_defs.specs.Sewing.{SewnPairs, IsSewable, IsSewn, IsParted, here, IsFreed, IsUnsewn}
 use Rattle.map_defs.specs.Sewing as sewing
 use Rattle.link_laws.proofs.Basics.{by_cases, inverse_twice, IsDistant-inverse_right, IsDistant-inverses}

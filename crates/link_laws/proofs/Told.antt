@@ -1,9 +1,9 @@
 -- The two forms of the laws of a map say the same.
-use Rattle.std.proofs.Common.{ℕ, zero, suc, ◌≡◌, ◌≢◌, ◌+◌, ◌<◌, ◌≤◌, ◌⊎◌, ◌↔◌, refl, sym, ap, inl, inr, ⊎_elim, ◌∙◌, arith}
-use Rattle.map_defs.specs.Kind.{Kind, alpha, beta, inverse, place, IsDistant}
+use Rattle.std.proofs.Common.{ℕ, zero, suc, ◌≡◌, ◌≢◌, ◌+◌, ◌<◌, ◌≤◌, ◌⊎◌, ◌↔◌, refl, sym, ap, ⊎_elim, ◌∙◌, arith}
+use Rattle.map_defs.specs.Kind.{Kind, alpha, beta, inverse, IsDistant}
 use Rattle.map_defs.specs.Links.{Links}
 use Rattle.map_defs.specs.Laws.{IsLawful, Laws}
-use Rattle.link_laws.proofs.Basics.{stable, same_or_not, inverse_twice, inverse_own, IsDistant-turned, IsDistant-inverse_left, IsDistant-apart}
+use Rattle.link_laws.proofs.Basics.{stable, same_or_not, inverse_twice, IsDistant-turned, IsDistant-inverse_left, IsDistant-apart}
 use Rattle.link_laws.proofs.LawFacts.{back_to, back_from, alike}
 
 -- of two distant links the higher is its own inverse, and the inverse of the lower is lower too

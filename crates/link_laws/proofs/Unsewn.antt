@@ -1,12 +1,12 @@
 -- Unsewing keeps the laws of a map.
-use Rattle.std.proofs.Common.{ℕ, ◌≡◌, ◌≢◌, ◌↔◌, refl, sym, ap, inl, inr, ⊎_elim, ◌∙◌}
+use Rattle.std.proofs.Common.{ℕ, ◌≡◌, ◌≢◌, refl, sym, ap, inl, inr, ⊎_elim, ◌∙◌}
 use Rattle.map_defs.specs.Kind.{Kind, inverse, IsDistant}
 use Rattle.map_defs.specs.Links.{Links}
 use Rattle.map_defs.specs.Laws.{Laws}
 use Rattle.map_defs.specs.Sewing.{IsParted, here, across, IsFreed, IsUnsewn}
-use Rattle.link_laws.proofs.Basics.{by_cases, same_or_not, inverse_twice, IsDistant-turned, IsDistant-inverse_left, IsDistant-inverses}
+use Rattle.link_laws.proofs.Basics.{by_cases, same_or_not, inverse_twice, IsDistant-turned, IsDistant-inverses}
 use Rattle.link_laws.proofs.LawFacts.{dart_of_link}
-use Rattle.link_laws.proofs.Relink.{IsEither, either_inverse, either_distant, either_distant_back, IsRelinked, relinked}
+use Rattle.link_laws.proofs.Relink.{IsEither, either_inverse, either_distant_back, relinked}
 
 module _ (k : Kind) (L : Links) (w : Laws k L) (i d : ℕ) where
   parted_label : (x t : ℕ) → IsParted k L i d x t → IsEither k i t

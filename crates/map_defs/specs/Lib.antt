@@ -4,6 +4,15 @@ pub mod Laws
 pub mod Words
 pub mod Cells
 pub mod Rows
+pub mod Values
+pub mod Refusal
+pub mod State
+pub mod Polygon
+pub mod Listing
+pub mod Text
+pub mod Script
+pub mod Machine
+pub mod Outside
 pub mod Pairs
 pub mod Sewing
 pub mod Births
@@ -14,5 +23,5 @@ pub mod Removal
 pub mod Contraction
 pub mod Dual
 pub mod Touched
-pub mod Values
 pub mod Carry
+pub mod Program

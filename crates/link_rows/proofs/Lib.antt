@@ -1,0 +1,3 @@
+pub mod PolygonSides
+pub mod PolygonSound
+pub mod LiveRows

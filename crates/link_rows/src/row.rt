@@ -1,0 +1,44 @@
+ghost use Rattle.std.specs.Prelude.{◌≡◌, ℕ, ◌+◌, ◌≤◌, ◌<◌, List, length, take, slice_index, slice_set};
+ghost use Rattle.map_defs.specs.Polygon.{row_of};
+
+use std::marker::Model;
+
+/// The greatest dimension of a map.
+pub const DIM_MAX: usize = 8;
+
+/// The entries of one dart, seen as the list of its entries 0 to `DIM`, each a dart's number or 0 where the link is
+/// free.
+#[derive(Drop)]
+pub struct Row<const DIM: usize> {
+    entries: [u32; 9],
+}
+
+impl<const DIM: usize> Model for Row<DIM> {
+    ghost use Rattle.std.specs.Prelude.{ℕ, List, take, length, ◌+◌, ◌≡◌};
+
+    ghost Value = { List ℕ };
+
+    ghost view = { λ row. take (DIM + 1) row.entries };
+}
+
+impl<const DIM: usize> Row<DIM> {
+    /// The row of a dart that is linked by links 0 and 1 alone.
+    pub fn flat(zeroth: u32, first: u32) -> Self
+        requires low { 1 ≤ DIM }
+        requires high { DIM ≤ DIM_MAX }
+        ensures { result ≡ row_of DIM zeroth first }
+    {
+        Row {
+            entries: [zeroth, first, 0, 0, 0, 0, 0, 0, 0],
+        }
+    }
+
+    /// The entry of a link.
+    pub fn entry(&self, link: usize) -> u32
+        requires low { link ≤ DIM }
+        requires high { DIM ≤ DIM_MAX }
+        ensures { result ≡ slice_index self.now link }
+    {
+        self.entries[link]
+    }
+}

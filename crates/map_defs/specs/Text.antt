@@ -1,0 +1,68 @@
+-- What the machine answers, and the text of an answer. Source: this project's script and listing formats.
+use Rattle.std.specs.Prelude.{ℕ, ℤ, List, [], ◌∷◌, ◌++◌, length, Bool, true, false, codes, ◌==◌, if◌then◌else◌}
+use Rattle.std.specs.Fmt.{decimal, signed_decimal}
+use Rattle.std.specs.List.{flat_map, list_any}
+use Rattle.map_defs.specs.Kind.{Kind, alpha, beta}
+use Rattle.map_defs.specs.Refusal.{Refusal, number, name}
+use Rattle.map_defs.specs.Listing.{ListRow, ListValue, Listing}
+
+-- One reply: a changing line's first new dart and how many were made, both 0 if none was; a listing; or a refusal.
+pub data Reply : Type 0 where
+  Done : ℕ → ℕ → Reply
+  Shown : Listing → Reply
+  Refused : Refusal → Reply
+
+abbrev pub is_refused : Reply → Bool
+is_refused (Done first count) = false
+is_refused (Shown listing) = false
+is_refused (Refused r) = true
+
+-- a line of text ends with a line feed
+abbrev pub ended : List ℕ → List ℕ
+ended text = text ++ 10 ∷ []
+
+-- numbers on a line stand behind a space each
+abbrev pub spaced : ℕ → List ℕ
+spaced n = 32 ∷ decimal n
+
+abbrev pub spaced_signed : ℤ → List ℕ
+spaced_signed z = 32 ∷ signed_decimal z
+
+-- a kind's letter: g for generalized maps, c for combinatorial maps
+abbrev pub letter : Kind → ℕ
+letter alpha = 103
+letter beta = 99
+
+-- a listing's first line: its version, the kind, the dimension, the darts made and the live ones
+abbrev pub header_text : Listing → List ℕ
+header_text l = ended (codes "cellmap 1 " ++ letter l.kind ∷ [] ++ spaced l.dim ++ spaced l.made ++ spaced (length l.rows))
+
+-- a row is its dart, a colon and its entries
+abbrev pub row_text : ListRow → List ℕ
+row_text row = ended (decimal row.dart ++ 58 ∷ [] ++ flat_map spaced row.links)
+
+-- a valued cell is its dimension, its least dart and the three numbers of its value
+abbrev pub value_text : ListValue → List ℕ
+value_text v = ended (codes "val" ++ spaced v.dim ++ spaced v.dart ++ spaced_signed v.value.a ++ spaced_signed v.value.b ++ spaced_signed v.value.c)
+
+abbrev pub listing_text : Listing → List ℕ
+listing_text l = header_text l ++ flat_map row_text l.rows ++ flat_map value_text l.values ++ ended (codes "end")
+
+-- a changing line that made no darts says `ok` alone
+abbrev pub done_text : ℕ → ℕ → List ℕ
+done_text first count = if count == 0 then ended (codes "ok") else ended (codes "ok" ++ spaced first ++ spaced count)
+
+abbrev pub refusal_text : Refusal → List ℕ
+refusal_text r = ended (codes "no" ++ spaced (number r) ++ 32 ∷ name r)
+
+abbrev pub reply_text : Reply → List ℕ
+reply_text (Done first count) = done_text first count
+reply_text (Shown listing) = listing_text listing
+reply_text (Refused r) = refusal_text r
+
+abbrev pub replies_text : List Reply → List ℕ
+replies_text replies = flat_map reply_text replies
+
+-- whether some line was refused
+abbrev pub any_refused : List Reply → Bool
+any_refused replies = list_any is_refused replies

@@ -1,0 +1,3 @@
+mod HeldFiles
+mod ReadWhole
+mod Handed

@@ -1,0 +1,60 @@
+ghost use Rattle.std.specs.Prelude.{◌≡◌, ℕ, ◌≤◌, ◌<◌, ◌↔◌, IsTrue};
+ghost use Rattle.map_defs.specs.Kind.{Kind as MapKind, alpha, inverse, IsDistant};
+ghost use Rattle.map_defs.specs.Polygon.{per_side};
+ghost use Rattle.map_defs.specs.Text.{letter};
+ghost use Rattle.map_kind.specs.KindLaws.{inverse-inverse, IsDistant-symmetric};
+
+/// A kind of map: generalized, or combinatorial. What a kind means is its ghost member `kind`, so that all that is
+/// said of links is said once, for both kinds.
+pub trait Kind {
+    ghost kind: { MapKind };
+
+    /// The kind's letter in scripts and listings, as a byte: `g` for generalized, `c` for combinatorial maps.
+    fn letter() -> u8
+        ensures { result ≡ letter kind };
+
+    /// How many darts one side of a face has: 2 in a generalized map, 1 in a combinatorial map.
+    fn per_side() -> u32
+        ensures { result ≡ per_side kind };
+
+    /// The link that leads back: each link is its own inverse, but 0 and 1 of a combinatorial map are each other's.
+    fn inverse(link: usize) -> usize
+        ensures { result ≡ inverse kind link };
+
+    /// Whether two links stand at least two places apart, where 0 of a combinatorial map stands with 1.
+    fn distant(one: usize, other: usize) -> bool
+        ensures { IsTrue result ↔ IsDistant kind one other };
+
+    ghost inverse_twice: { (i : ℕ) → inverse kind (inverse kind i) ≡ i };
+
+    ghost distant_symmetric: { (i j : ℕ) → IsDistant kind i j → IsDistant kind j i };
+}
+
+/// The kind of generalized maps, whose links are the involutions alpha 0 to n.
+#[derive(Clone, Copy, Debug, PartialEq, Eq)]
+pub struct Alpha;
+
+impl Kind for Alpha {
+    ghost kind = { alpha };
+
+    ghost inverse_twice = { inverse-inverse alpha };
+
+    ghost distant_symmetric = { IsDistant-symmetric alpha };
+
+    fn letter() -> u8 {
+        b'g'
+    }
+
+    fn per_side() -> u32 {
+        2
+    }
+
+    fn inverse(link: usize) -> usize {
+        link
+    }
+
+    #[tactic(auto, unfolding(map_defs::specs::Kind::IsDistant))]
+    fn distant(one: usize, other: usize) -> bool {
+        one.abs_diff(other) >= 2
+    }
+}

@@ -1,0 +1,10 @@
+//! The words that every layer of the kernel shares: darts, kinds of map and refusals.
+#![tactic(auto)]
+
+mod dart;
+mod kind;
+mod refusal;
+
+pub use dart::Dart;
+pub use kind::{Alpha, Kind};
+pub use refusal::Refusal;

@@ -1,0 +1,13 @@
+pub mod Commands
+pub mod BareStates
+pub mod Digits
+pub mod ListingRows
+pub mod PolygonWords
+pub mod WritingFacts
+pub mod Pieces
+pub mod FirstLines
+pub mod RowTexts
+pub mod LineFacts
+pub mod RunFacts
+pub mod Rest
+pub mod EndingFacts

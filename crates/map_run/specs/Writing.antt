@@ -1,0 +1,57 @@
+-- What a writing function has written, whole or cut short.
+use Rattle.std.specs.Prelude.{ℕ, ◌≡◌, ◌⊎◌, List, [], Option, Result, Ok, Err, Bool}
+use Rattle.map_io.specs.declared.sink.PutFault.{PutFault}
+use Rattle.map_io.specs.declared.sink.PutFault.TheVariants.{Failed, NoMemory}
+use Rattle.map_defs.specs.Outside.{Appended, IsFront}
+use Rattle.map_defs.specs.Program.{EndsLine}
+use Rattle.map_defs.specs.State.{State}
+use Rattle.map_defs.specs.Text.{Reply, reply_text, replies_text, is_refused, any_refused}
+use Rattle.map_defs.specs.Machine.{Step, Obeys}
+use Rattle.map_defs.specs.Script.{Line}
+
+-- the whole text; or a front of it; or for want of memory a front that ends with a line
+abbrev pub IsWritten : List ℕ → Result (Unit {0}) PutFault → List ℕ → Type 0
+IsWritten text (Ok done) piece = piece ≡ text
+IsWritten text (Err Failed) piece = IsFront piece text
+IsWritten text (Err NoMemory) piece = EndsLine piece × IsFront piece text
+
+pub record Writes (before after : Option (List ℕ)) (result : Result (Unit {0}) PutFault) (text : List ℕ) : Type 0 where
+  pub piece : List ℕ
+  pub appended : Appended before after piece
+  pub is : IsWritten text result piece
+
+-- a front of what a line answers
+abbrev pub IsFrontOfLine : State → List (List ℕ) → List ℕ → Type 0
+IsFrontOfLine s words piece = (replies : List Reply) × (new : State) × Obeys s words replies new × IsFront piece (replies_text replies)
+
+-- The answer to one line: whether it was refused. Want of memory may come before the reply is known.
+abbrev pub IsAnswered : State → State → List (List ℕ) → Result Bool PutFault → List ℕ → Type 0
+IsAnswered s new words (Ok refused) piece =
+    (replies : List Reply) × Obeys s words replies new × (piece ≡ replies_text replies) × (refused ≡ any_refused replies)
+IsAnswered s new words (Err Failed) piece = IsFrontOfLine s words piece
+IsAnswered s new words (Err NoMemory) piece = EndsLine piece × ((piece ≡ []) ⊎ IsFrontOfLine s words piece)
+
+-- a front of the reply to a line that was read
+abbrev pub IsFrontOfStep : State → Line → List ℕ → Type 0
+IsFrontOfStep s line piece = (reply : Reply) × (new : State) × Step s line reply new × IsFront piece (reply_text reply)
+
+abbrev pub IsAnsweredStep : State → State → Line → Result Bool PutFault → List ℕ → Type 0
+IsAnsweredStep s new line (Ok refused) piece = (reply : Reply) × Step s line reply new × (piece ≡ reply_text reply) × (refused ≡ is_refused reply)
+IsAnsweredStep s new line (Err Failed) piece = IsFrontOfStep s line piece
+IsAnsweredStep s new line (Err NoMemory) piece = EndsLine piece × ((piece ≡ []) ⊎ IsFrontOfStep s line piece)
+
+pub record AnswersLine (before after : Option (List ℕ)) (s new : State) (words : List (List ℕ)) (result : Result Bool PutFault) : Type 0 where
+  pub piece : List ℕ
+  pub appended : Appended before after piece
+  pub is : IsAnswered s new words result piece
+
+-- the same of a line that was read
+pub record AnswersStep (before after : Option (List ℕ)) (s new : State) (line : Line) (result : Result Bool PutFault) : Type 0 where
+  pub piece : List ℕ
+  pub appended : Appended before after piece
+  pub is : IsAnsweredStep s new line result piece
+
+-- the whole text was appended, and it ends with a line
+pub record HasWritten (before after : Option (List ℕ)) (text : List ℕ) : Type 0 where
+  pub appended : Appended before after text
+  pub ends : EndsLine text

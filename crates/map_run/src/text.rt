@@ -1,0 +1,90 @@
+//! The text of lines, appended piece by piece.
+ghost use Rattle.std.specs.Prelude.{◌≡◌, ℕ, ◌+◌, ◌-◌, ◌≤◌, ◌<◌, ◌∷◌, ◌++◌, [], List, Some, length, IfOk, OnOk, codes};
+ghost use Rattle.std.specs.Fmt.{decimal};
+ghost use Rattle.map_defs.specs.Rows.{row_at, links_of, made, live_count};
+ghost use Rattle.map_defs.specs.Text.{spaced, ended, row_text, header_text, done_text, refusal_text};
+ghost use Rattle.map_defs.specs.Listing.{ListRow, listing_with};
+ghost use Rattle.map_kind.specs.Refusals.{meaning};
+ghost use Rattle.map_run.specs.Bare.{state_of};
+
+use itoa::Buffer;
+use link_rows::Links;
+use map_kind::{Alpha, Dart, Refusal};
+use std::alloc::AllocError;
+
+/// Appends a number in decimal digits.
+fn append_number(text: &mut Vec<u8>, number: u32) -> Result<(), AllocError>
+    ensures { OnOk result (text.new.items ≡ text.old.items ++ decimal number) }
+{
+    text.extend_from_slice(Buffer::new().format(number).as_bytes())
+}
+
+/// Appends a space and a number.
+fn append_spaced(text: &mut Vec<u8>, number: u32) -> Result<(), AllocError>
+    ensures { OnOk result (text.new.items ≡ text.old.items ++ spaced number) }
+{
+    text.push(b' ')?;
+    append_number(text, number)
+}
+
+/// Appends the reply to a changing line: its first new dart and how many were made.
+pub fn append_done(text: &mut Vec<u8>, first: u32, count: u32) -> Result<(), AllocError>
+    ensures { OnOk result (text.new.items ≡ text.old.items ++ done_text first count) }
+{
+    text.extend_from_slice(b"ok")?;
+    if count != 0 {
+        append_spaced(text, first)?;
+        append_spaced(text, count)?;
+    }
+    text.push(b'\n')?;
+    Ok(())
+}
+
+/// Appends the reply to a refused line.
+pub fn append_refusal(text: &mut Vec<u8>, refusal: Refusal) -> Result<(), AllocError>
+    ensures { OnOk result (text.new.items ≡ text.old.items ++ refusal_text (meaning refusal)) }
+{
+    text.extend_from_slice(b"no")?;
+    append_spaced(text, refusal.number())?;
+    text.push(b' ')?;
+    text.extend_from_slice(refusal.name().as_bytes())?;
+    text.push(b'\n')?;
+    Ok(())
+}
+
+/// Appends the first line of a listing.
+pub fn append_header(text: &mut Vec<u8>, links: &Links<Alpha, 2>) -> Result<(), AllocError>
+    ensures { OnOk result (text.new.items ≡ text.old.items ++ header_text (listing_with (state_of links.now).present [])) }
+{
+    text.extend_from_slice(b"cellmap 1 g")?;
+    append_spaced(text, 2)?;
+    append_spaced(text, links.made())?;
+    append_spaced(text, links.live_count())?;
+    text.push(b'\n')?;
+    Ok(())
+}
+
+/// Appends the row of a live dart.
+pub fn append_row(text: &mut Vec<u8>, links: &Links<Alpha, 2>, dart: Dart) -> Result<(), AllocError>
+    ensures { OnOk result ((row : List ℕ) → row_at links.now dart ≡ Some row → length row ≡ 3 →
+        text.new.items ≡ text.old.items ++ row_text (record { dart = dart; links = row })) }
+{
+    append_number(text, dart.number())?;
+    text.push(b':')?;
+    for link in 0..=2 {
+        append_spaced(text, entry(links, dart, link))?;
+    }
+    text.push(b'\n')?;
+    Ok(())
+}
+
+/// The number of the dart at a link, or 0.
+fn entry(links: &Links<Alpha, 2>, dart: Dart, link: usize) -> u32
+    requires { link ≤ 2 }
+    ensures { result ≡ links_of links.now link dart }
+{
+    match links.link(dart, link) {
+        Some(other) => other.number(),
+        None => 0,
+    }
+}
