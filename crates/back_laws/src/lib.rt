@@ -11,7 +11,8 @@ ghost use Rattle.map_defs.specs.Links.{Links};
 ghost use Rattle.map_defs.specs.Laws.{Laws};
 ghost use Rattle.map_defs.specs.Cells.{InCell};
 ghost use Rattle.map_defs.specs.Births.{IsFresh};
-ghost use Rattle.map_defs.specs.Insertion.{IsAlphaVertex, AlphaEdgeDarts, AreAlphaEdgePaired, IsAlphaEdge, IsBetaVertex, InBetaCorner, AreBetaEdgePaired, BetaEdgeDarts, IsBetaEdge, FaceDarts, IsClosedPath, IsFacePaired, IsFace};
+ghost use Rattle.map_defs.specs.Insertion.{IsAlphaVertex, InAlphaCorner, AlphaEdgeDarts, AreAlphaEdgePaired, IsAlphaEdge, IsBetaVertex, InBetaCorner, AreBetaEdgePaired, BetaEdgeDarts, IsBetaEdge, FaceDarts, IsClosedPath, IsFacePaired, IsFace};
+ghost use Rattle.map_defs.specs.Closing.{IsAlphaDangled};
 ghost use Rattle.map_defs.specs.Removal.{IsRemovable, IsRemoved};
 
 /// A vertex that was just inserted in a generalized map can be removed at each of its darts, which gives all links back.
@@ -52,4 +53,13 @@ pub fn removal_undoes_vertex_of_beta()
 pub fn removal_undoes_edge_of_beta()
     ensures possible { (d e x : ℕ) (star : ℕ → ℕ) (L N : Links) → Laws beta L → (InBetaCorner L d e → ⊥) → AreBetaEdgePaired L d e → IsFresh L (BetaEdgeDarts L d e) star → IsBetaEdge d e star L N → BetaEdgeDarts L d e x → IsRemovable beta N 1 (star x) }
     ensures back { (d e x : ℕ) (star : ℕ → ℕ) (L N M : Links) → Laws beta L → (InBetaCorner L d e → ⊥) → AreBetaEdgePaired L d e → IsFresh L (BetaEdgeDarts L d e) star → IsBetaEdge d e star L N → BetaEdgeDarts L d e x → IsRemoved beta 1 (star x) N M → (t y : ℕ) → M t y ≡ L t y }
+{}
+
+/// A dangling edge that was just made in a generalized map can be removed at the begin of each of its sides, the first new
+/// dart among them, which gives all links back.
+///
+/// For an editor that takes a dangling edge back without a journal.
+pub fn removal_undoes_dangling_of_alpha()
+    ensures possible { (d x : ℕ) (star tip : ℕ → ℕ) (L N : Links) → Laws alpha L → d ≢ 0 → IsFresh L (InAlphaCorner L d) star → IsFresh L (InAlphaCorner L d) tip → ((y z : ℕ) → InAlphaCorner L d y → InAlphaCorner L d z → star y ≢ tip z) → IsAlphaDangled d star tip L N → InAlphaCorner L d x → IsRemovable alpha N 1 (star x) }
+    ensures back { (d x : ℕ) (star tip : ℕ → ℕ) (L N M : Links) → Laws alpha L → d ≢ 0 → IsFresh L (InAlphaCorner L d) star → IsFresh L (InAlphaCorner L d) tip → ((y z : ℕ) → InAlphaCorner L d y → InAlphaCorner L d z → star y ≢ tip z) → IsAlphaDangled d star tip L N → InAlphaCorner L d x → IsRemoved alpha 1 (star x) N M → (t y : ℕ) → M t y ≡ L t y }
 {}
