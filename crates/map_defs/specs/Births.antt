@@ -22,3 +22,7 @@ pub record IsNumbered (K : ℕ → Type 0) (keys : List ℕ) (made : ℕ) (star 
 -- count new darts live, numbered on from made, and nothing dies
 abbrev pub AreBorn : ℕ → ℕ → (ℕ → Type 0) → (ℕ → Type 0) → Type 0
 AreBorn made count Live LiveAfter = (x : ℕ) → LiveAfter x ↔ (Live x ⊎ ((made < x) × (x ≤ made + count)))
+
+-- the live darts are numbers from 1 to made
+abbrev pub IsCounted : ℕ → (ℕ → Type 0) → Type 0
+IsCounted made Live = (x : ℕ) → Live x → (1 ≤ x) × (x ≤ made)

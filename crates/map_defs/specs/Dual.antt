@@ -27,7 +27,6 @@ pub record IsBetaDual (n : ℕ) (L N : Links) : Type 0 where
   -- beta n stays
   pub kept : (d : ℕ) → N n d ≡ L n d
   pub turned : IsTurned N
-  pub nothing : N 0 0 ≡ 0
   pub above : HasDimension n N
 
 -- N are the links of the dual of a map of dimension n

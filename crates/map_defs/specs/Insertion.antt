@@ -1,7 +1,7 @@
 -- Inserting a vertex on an edge, an edge in a face, a face in a volume. Source: the inverse of the textbook's removal,
 -- written out; the conditions, and the general forms for combinatorial maps, are this project's.
 use Rattle.std.specs.Prelude.{ℕ, suc, ◌≡◌, ◌≢◌, ◌+◌, ◌<◌, ◌≤◌, ◌⊎◌, List, length, slice_index, Contains, AllPairs}
-use Rattle.map_defs.specs.Kind.{Kind, alpha, beta, inverse, IsDistant}
+use Rattle.map_defs.specs.Kind.{Kind, alpha, beta, inverse, place, IsDistant}
 use Rattle.map_defs.specs.Links.{Links, IsTurned}
 use Rattle.map_defs.specs.Words.{Word, two_links}
 use Rattle.map_defs.specs.Cells.{InOrbit, Leads, InCell}
@@ -20,6 +20,10 @@ pub record IsInserted (k : Kind) (i : ℕ) (K : ℕ → Type 0) (P : ℕ → ℕ
   pub along : (x j : ℕ) → K x → IsDistant k i j → N j (star x) ≡ star (L (inverse k j) x)
   pub kept : (x t : ℕ) → (K x → t ≢ i) → ((y : ℕ) → K y → x ≢ star y) → N t x ≡ L t x
 
+-- the link t stands one place below the link i
+abbrev pub IsJustBelow : Kind → ℕ → ℕ → Type 0
+IsJustBelow k i t = place k t + 1 ≡ place k i
+
 -- one link of the set J leads from x to the dart y
 abbrev pub IsLinkedBy : Links → (ℕ → Type 0) → ℕ → ℕ → Type 0
 IsLinkedBy L J x y = (j : ℕ) × J j × (L j x ≡ y) × (y ≢ 0)
@@ -32,6 +36,28 @@ IsCarrying k i j = (j ≡ i) ⊎ IsDistant k i j
 abbrev pub IsPairing : ℕ → ℕ → Type 0
 IsPairing i j = (j ≡ i) ⊎ (i + 2 ≤ j)
 
+-- the links along which the pairs of link t, one place below i, have to go
+abbrev pub GoesAlong : Kind → ℕ → ℕ → ℕ → Type 0
+GoesAlong k i t j = (j ≡ i) ⊎ (IsDistant k i j × IsDistant k t j)
+
+-- What an insertion asks of its set K and its pairs P. A pair x, 0, t leaves link t of the new dart of x free.
+pub record IsInsertable (k : Kind) (i : ℕ) (K : ℕ → Type 0) (P : ℕ → ℕ → ℕ → Type 0) (L : Links) : Type 0 where
+  -- link i is its own inverse
+  pub own : inverse k i ≡ i
+  -- K is a set of darts that is closed under the links along which the new darts lie
+  pub dart : (x : ℕ) → K x → x ≢ 0
+  pub carried : (x j : ℕ) → K x → IsCarrying k i j → L j x ≢ 0 → K (L j x)
+  -- each dart of K is paired at each link below i, and with a dart of K
+  pub some : (x t : ℕ) → K x → IsJustBelow k i t → ((y : ℕ) → P x y t → ⊥) → ⊥
+  pub begins : (x y t : ℕ) → P x y t → K x × IsJustBelow k i t
+  pub ends : (x y t : ℕ) → P x y t → y ≢ 0 → K y
+  pub turned : (x y t : ℕ) → P x y t → y ≢ 0 → P y x (inverse k t)
+  -- a link that is its own inverse pairs no dart with itself
+  pub moves : (x y t : ℕ) → P x y t → inverse k t ≡ t → x ≢ y
+  -- and the pairs go along
+  pub across : (x y t j : ℕ) → P x y t → GoesAlong k i t j → L j x ≢ 0 → P (L j x) (L (inverse k j) y) (inverse k t)
+  pub even : (x y t j : ℕ) → P x y t → GoesAlong k i t j → L j x ≡ 0 → L (inverse k j) y ≡ 0
+
 -- nothing is paired
 abbrev pub NoPairs : ℕ → ℕ → ℕ → Type 0
 NoPairs x y t = ⊥
@@ -40,15 +66,19 @@ NoPairs x y t = ⊥
 abbrev pub IsAlphaVertex : ℕ → (ℕ → ℕ) → Links → Links → Type 0
 IsAlphaVertex d star L N = IsInserted alpha 0 (InCell alpha L 1 d) NoPairs star L N
 
--- A vertex on the edge of d, in a combinatorial map: always possible. Each dart x of the edge gets a new dart behind it.
-pub record IsBetaVertex (d : ℕ) (star : ℕ → ℕ) (L N : Links) : Type 0 where
-  pub first : (x : ℕ) → InCell beta L 1 d x → N 1 x ≡ star x
-  pub second : (x : ℕ) → InCell beta L 1 d x → N 1 (star x) ≡ L 1 x
+-- Each dart x of a whole edge K of a combinatorial map gets a new dart behind it.
+pub record IsSplit (K : ℕ → Type 0) (star : ℕ → ℕ) (L N : Links) : Type 0 where
+  pub first : (x : ℕ) → K x → N 1 x ≡ star x
+  pub second : (x : ℕ) → K x → N 1 (star x) ≡ L 1 x
   -- a dart and its new dart change places on the other sides of the edge
-  pub new : (x j : ℕ) → InCell beta L 1 d x → 2 ≤ j → N j x ≡ star (L j x)
-  pub old : (x j : ℕ) → InCell beta L 1 d x → 2 ≤ j → N j (star x) ≡ L j x
-  pub kept : (x t : ℕ) → 1 ≤ t → (InCell beta L 1 d x → ⊥) → ((y : ℕ) → InCell beta L 1 d y → x ≢ star y) → N t x ≡ L t x
+  pub new : (x j : ℕ) → K x → 2 ≤ j → N j x ≡ star (L j x)
+  pub old : (x j : ℕ) → K x → 2 ≤ j → N j (star x) ≡ L j x
+  pub kept : (x t : ℕ) → 1 ≤ t → (K x → ⊥) → ((y : ℕ) → K y → x ≢ star y) → N t x ≡ L t x
   pub turned : IsTurned N
+
+-- a vertex on the edge of d, in a combinatorial map: always possible
+abbrev pub IsBetaVertex : ℕ → (ℕ → ℕ) → Links → Links → Type 0
+IsBetaVertex d star L N = IsSplit (InCell beta L 1 d) star L N
 
 -- d and e lie on one side of one face
 abbrev pub AreOnOneSide : Links → ℕ → ℕ → Type 0
@@ -93,13 +123,18 @@ BetaEdgeLeads L d e x y = (L 0 x ≢ 0) × BetaEdgePairs L d e (L 0 x) y 1
 abbrev pub BetaEdgeDarts : Links → ℕ → ℕ → ℕ → Type 0
 BetaEdgeDarts L d e x = (y : ℕ) × BetaEdgeLeads L d e x y
 
-pub record IsBetaEdge (d e : ℕ) (star : ℕ → ℕ) (L N : Links) : Type 0 where
-  pub into : (x y : ℕ) → BetaEdgeLeads L d e x y → N 1 (L 0 x) ≡ star x
-  pub onward : (x y : ℕ) → BetaEdgeLeads L d e x y → N 1 (star x) ≡ y
-  pub sides : (x y : ℕ) → BetaEdgeLeads L d e x y → N 2 (star x) ≡ star y
-  pub along : (x y j : ℕ) → BetaEdgeLeads L d e x y → 3 ≤ j → N j (star x) ≡ star (L j (L 0 y))
-  pub kept : (x t : ℕ) → 1 ≤ t → ((y : ℕ) → BetaEdgeDarts L d e y → t ≡ 1 → x ≢ L 0 y) → ((y : ℕ) → BetaEdgeDarts L d e y → x ≢ star y) → N t x ≡ L t x
+-- Each way that led into a corner x leads over a new dart into the corner y to which Turn leads it.
+pub record IsCut (Turn : ℕ → ℕ → Type 0) (star : ℕ → ℕ) (L N : Links) : Type 0 where
+  pub into : (x y : ℕ) → Turn x y → N 1 (L 0 x) ≡ star x
+  pub onward : (x y : ℕ) → Turn x y → N 1 (star x) ≡ y
+  -- the new edge has the two ways on its two sides, and its copies lie on the other sides of the face
+  pub sides : (x y : ℕ) → Turn x y → N 2 (star x) ≡ star y
+  pub along : (x y j : ℕ) → Turn x y → 3 ≤ j → N j (star x) ≡ star (L j (L 0 y))
+  pub kept : (x t : ℕ) → 1 ≤ t → ((c y : ℕ) → Turn c y → t ≡ 1 → x ≢ L 0 c) → ((c y : ℕ) → Turn c y → x ≢ star c) → N t x ≡ L t x
   pub turned : IsTurned N
+
+abbrev pub IsBetaEdge : ℕ → ℕ → (ℕ → ℕ) → Links → Links → Type 0
+IsBetaEdge d e star L N = IsCut (BetaEdgeLeads L d e) star L N
 
 pub record AreBetaEdgePaired (L : Links) (d e : ℕ) : Type 0 where
   pub near : L 0 d ≢ 0

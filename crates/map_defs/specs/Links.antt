@@ -6,9 +6,10 @@ use Rattle.std.specs.Prelude.{ℕ, ◌≡◌, ◌≢◌, ◌<◌, ◌≤◌, ◌
 abbrev pub Links : Type 0
 Links = ℕ → ℕ → ℕ
 
--- link 0 of a combinatorial map leads back where link 1 leads on
-abbrev pub IsTurned : Links → Type 0
-IsTurned L = (x y : ℕ) → x ≢ 0 → y ≢ 0 → (L 1 x ≡ y) ↔ (L 0 y ≡ x)
+-- Link 0 of a combinatorial map leads back where link 1 leads on, and is free at each other dart.
+pub record IsTurned (L : Links) : Type 0 where
+  pub nothing : L 0 0 ≡ 0
+  pub back : (x y : ℕ) → x ≢ 0 → y ≢ 0 → (L 1 x ≡ y) ↔ (L 0 y ≡ x)
 
 -- only the darts up to made have links
 abbrev pub IsMadeUpTo : ℕ → Links → Type 0

@@ -48,6 +48,11 @@ Judged s [] effect reply new = effect reply new
 Judged s (check ∷ more) effect reply new =
     (check.fails × (reply ≡ Refused check.refusal) × (new ≡ s)) ⊎ (check.passes × Judged s more effect reply new)
 
+-- some check for this refusal fails
+abbrev pub FailsFor : List Check → Refusal → Type 0
+FailsFor [] r = ⊥
+FailsFor (check ∷ more) r = ((check.refusal ≡ r) × check.fails) ⊎ FailsFor more r
+
 -- one step of the machine
 abbrev pub Step : State → Line → Reply → State → Type 0
 Step s line reply new = Judged s (checks s line) (Effect s line) reply new

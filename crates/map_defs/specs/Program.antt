@@ -68,8 +68,8 @@ CommandAnswer files (RunScript kind dim script) = FileAnswer (held files script)
 
 -- The program's whole text and its status.
 pub data Answers (words : List (List ℕ)) (files : Files) (text : List ℕ) (status : ℕ) : Type 0 where
-  no_command : IsNoCommand words → text ≡ usage → status ≡ 2 → Answers words files text status
-  answered : (command : Command) → Tells words command → CommandAnswer files command text status → Answers words files text status
+  untold : IsNoCommand words → text ≡ usage → status ≡ 2 → Answers words files text status
+  told : (command : Command) → Tells words command → CommandAnswer files command text status → Answers words files text status
 
 -- The machine can obey a front of the lines so that its text begins so.
 pub record Begins (start : State) (lines : List (List ℕ)) (front : List ℕ) : Type 0 where

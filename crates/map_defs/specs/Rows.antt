@@ -31,6 +31,10 @@ entry_of (Some row) i = slice_index row i
 abbrev pub links_of : Rows → Links
 links_of rows i d = entry_of (row_at rows d) i
 
+-- each live dart's row has the entries 0 to n
+abbrev pub AreWide : ℕ → Rows → Type 0
+AreWide n rows = (d : ℕ) (row : List ℕ) → row_at rows d ≡ Some row → length row ≡ n + 1
+
 -- at most so many darts are ever made
 abbrev pub made_max : ℕ
 made_max = 4194304
@@ -44,5 +48,5 @@ pub record IsSound (k : Kind) (n : ℕ) (rows : Rows) : Type 0 where
   -- the inverse link leads back
   pub back : (i x : ℕ) → links_of rows i x ≢ 0 → links_of rows (inverse k i) (links_of rows i x) ≡ x
   -- a row has the entries 0 to n
-  pub wide : (x : ℕ) (row : List ℕ) → row_at rows x ≡ Some row → length row ≡ n + 1
+  pub wide : AreWide n rows
   pub few : made rows ≤ made_max

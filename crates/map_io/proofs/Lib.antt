@@ -1,2 +1,3 @@
 mod HeldFiles
 mod ReadWhole
+mod Handed

@@ -5,8 +5,8 @@ use Rattle.map_defs.specs.Outside.{Files, held, WhereTold}
 use Rattle.map_io.specs.declared.shelf.FetchFault.{FetchFault}
 use Rattle.map_io.specs.declared.shelf.FetchFault.TheVariants.{Failed, TooLong, NoMemory}
 
--- The answer to a fetch: the whole file, if it is no longer than the limit; or how much of it was seen, if it is. A
--- shelf that tells what it holds answers of those files.
+-- The answer to a fetch: the whole file, if it is no longer than the limit; or how much of it was seen, if it is
+-- longer. A shelf that tells what it holds answers of the files that it tells.
 abbrev pub IsFetched : Option Files → List ℕ → ℕ → Result (Vec ℕ Global) FetchFault → Type 0
 IsFetched holds name limit (Ok bytes) =
     (length bytes.items ≤ limit) × WhereTold holds (λ files. held files name ≡ Some bytes.items)

@@ -2,3 +2,5 @@ pub mod Fetched
 pub mod Put
 pub mod Cause
 pub mod Held
+pub mod WriterSink
+pub mod FileShelf

@@ -9,8 +9,12 @@ pub mod file_shelf;
 pub mod shelf;
 pub mod sink;
 pub mod sure;
+#[cfg(test)]
+mod tests;
+pub mod writer_sink;
 
 pub use file_shelf::FileShelf;
 pub use shelf::{FetchFault, Shelf};
 pub use sink::{PutFault, Sink};
 pub use sure::{Held, SureShelf, SureSink};
+pub use writer_sink::{StdSink, WriterSink};

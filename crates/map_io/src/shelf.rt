@@ -17,6 +17,7 @@ pub enum FetchFault {
     /// limit.
     #[error("the file is too long: it has {seen} bytes or more")]
     TooLong { seen: u64 },
+    /// There is no memory for the bytes of the file.
     #[error("out of memory")]
     NoMemory,
 }
@@ -45,5 +46,6 @@ pub trait Shelf {
         ensures bytes { IsFetched (holds self.old) name.now limit result }
         ensures same { holds self.new ≡ holds self.old }
         ensures kept { (other : List ℕ) → may_ask self.old other ↔ may_ask self.new other }
-        ensures cause { HasCause (faults self.old) (faults self.new) (IsErrOf result FetchFault.Failed) };
+        ensures cause { HasCause (faults self.old) (faults self.new)
+            (IsErrOf result FetchFault.Failed) };
 }

@@ -12,6 +12,7 @@ pub enum PutFault {
     /// The sink could not take all of the piece.
     #[error("the text cannot be written")]
     Failed,
+    /// There is no memory to take the piece.
     #[error("out of memory")]
     NoMemory,
 }
@@ -32,7 +33,8 @@ pub trait Sink {
     /// appended. [`PutFault::NoMemory`], and then nothing was appended.
     fn put(&mut self, piece: &[u8]) -> Result<(), PutFault>
         // `text` is what was appended
-        ensures appended { (text : List ℕ) × Appended (written self.old) (written self.new) text × IsPut piece.now result text }
+        ensures appended { (text : List ℕ) × Appended (written self.old) (written self.new) text
+            × IsPut piece.now result text }
         ensures cause { HasCause (faults self.old) (faults self.new) (IsErrOf result PutFault.Failed) };
 
     /// Hands on the text that the sink kept back, and appends nothing.

@@ -25,7 +25,8 @@ impl SureShelf {
     /// A shelf that holds these files, and tells them.
     pub fn new(files: Vec<Held>) -> SureShelf
         ensures holds { ⟦<SureShelf as Shelf>⟧.holds result ≡ Some (files_of files.items) }
-        ensures asked { (name : List ℕ) → ⟦<SureShelf as Shelf>⟧.may_ask result name ↔ IsSome (held (files_of files.items) name) }
+        ensures asked { (name : List ℕ) →
+            ⟦<SureShelf as Shelf>⟧.may_ask result name ↔ IsSome (held (files_of files.items) name) }
         ensures sound { ⟦<SureShelf as Shelf>⟧.faults result ≡ 0 }
     {
         SureShelf { files }

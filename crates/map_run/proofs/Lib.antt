@@ -6,3 +6,8 @@ pub mod PolygonWords
 pub mod WritingFacts
 pub mod Pieces
 pub mod FirstLines
+pub mod RowTexts
+pub mod LineFacts
+pub mod RunFacts
+pub mod Rest
+pub mod EndingFacts

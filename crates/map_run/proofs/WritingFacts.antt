@@ -3,6 +3,7 @@ use Rattle.std.proofs.Common.{◌≡◌, ℕ, ◌⊎◌, List, [], ◌∷◌, �
 use Rattle.std.proofs.lemmas.List.{append-nil}
 use Rattle.map_io.specs.declared.sink.PutFault.{PutFault}
 use Rattle.map_io.specs.declared.sink.PutFault.TheVariants.{Failed, NoMemory}
+use Rattle.map_io.specs.Put.{IsPut}
 use Rattle.map_defs.specs.Outside.{Appended, IsFront}
 use Rattle.map_defs.specs.Program.{EndsLine}
 use Rattle.map_run.specs.Writing.{Writes, IsWritten, HasWritten}
@@ -69,3 +70,13 @@ HasWritten-then before middle after one other p q = record {
 
 pub Writes-done : (before after : Option (List ℕ)) (done : Unit {0}) (text : List ℕ) → HasWritten before after text → Writes before after (Ok done) text
 Writes-done before after done text p = record { piece = text; appended = p.appended; is = refl }
+
+-- one put of a piece
+put-is : (result : Result (Unit {0}) PutFault) (piece text : List ℕ) → IsPut piece result text → IsWritten piece result text
+put-is (Ok done) piece text p = p
+put-is (Err Failed) piece text p = p
+put-is (Err NoMemory) piece text p = (inl p, (piece, ap (λ (t : List ℕ). t ++ piece) (sym p)))
+
+pub Writes-put : (before after : Option (List ℕ)) (result : Result (Unit {0}) PutFault) (piece : List ℕ)
+    → ((text : List ℕ) × Appended before after text × IsPut piece result text) → Writes before after result piece
+Writes-put before after result piece p = record { piece = p.0; appended = p.1; is = put-is result piece p.0 p.2 }

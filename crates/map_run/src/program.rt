@@ -92,6 +92,24 @@ fn unflushed(status: u8) -> u8
     if status < 6 { 6 } else { status }
 }
 
+/// Answers the words, though the sink may keep back some of the text.
+fn answer<F: Shelf, S: Sink>(alloc: Global, words: &[String], shelf: &mut F, out: &mut S) -> u8
+    requires { (name : List ℕ) → Needs (map string_bytes words.now) name → F.may_ask shelf.old name }
+    ensures outcome { (files : Files) → Known (map string_bytes words.now) (F.holds shelf.old) files →
+        Ends (S.written out.old) (S.written out.new) (map string_bytes words.now) files
+            (Rose (F.faults shelf.old) (F.faults shelf.new)) (Rose (S.faults out.old) (S.faults out.new)) result }
+    ensures usage { result ≡ 2 → IsNoCommand (map string_bytes words.now) }
+    ensures range { result ≤ 7 }
+    ensures unread { result ≡ 5 → Rose (F.faults shelf.old) (F.faults shelf.new) }
+    ensures unwritten { result ≡ 6 → Rose (S.faults out.old) (S.faults out.new) }
+    ensures later { S.faults out.old ≤ S.faults out.new }
+{
+    match command::script_name(words) {
+        Some(script) => run_script(alloc, script, shelf, out),
+        None => write_last(out, b"usage\n", 2),
+    }
+}
+
 /// What `run` does, with all that is said of it but that nothing else is free.
 fn serve<F: Shelf, S: Sink>(alloc: Global, words: &[String], shelf: &mut F, out: &mut S) -> u8
     requires { (name : List ℕ) → Needs (map string_bytes words.now) name → F.may_ask shelf.old name }
@@ -103,10 +121,7 @@ fn serve<F: Shelf, S: Sink>(alloc: Global, words: &[String], shelf: &mut F, out:
     ensures unread { result ≡ 5 → Rose (F.faults shelf.old) (F.faults shelf.new) }
     ensures unwritten { result ≡ 6 → Rose (S.faults out.old) (S.faults out.new) }
 {
-    let status = match command::script_name(words) {
-        Some(script) => run_script(alloc, script, shelf, out),
-        None => write_last(out, b"usage\n", 2),
-    };
+    let status = answer(alloc, words, shelf, out);
     match out.flush() {
         Ok(()) => status,
         Err(_) => unflushed(status),

@@ -1,0 +1,5 @@
+pub mod DualAlpha
+pub mod DualBeta
+pub mod DualSquare
+pub mod DualCells
+pub mod DualLaws

@@ -1,0 +1,17 @@
+pub mod Places
+pub mod Fresh
+pub mod Stands
+pub mod InsertAny
+pub mod InsertSquare
+pub mod AlphaInsert
+pub mod Paths
+pub mod Face
+pub mod Numbers
+pub mod BetaParts
+pub mod BetaVertex
+pub mod BetaEdge
+pub mod BetaEdgeLaws
+pub mod BetaEdgePairs
+pub mod Around
+pub mod Closed
+pub mod ClosedFree

@@ -1,0 +1,14 @@
+pub mod Basics
+pub mod LawFacts
+pub mod Told
+pub mod Relink
+pub mod Sewn
+pub mod Unsewn
+pub mod SewnBack
+pub mod Pigeonhole
+pub mod SameRows
+pub mod Orbits
+pub mod Turned
+pub mod Walking
+pub mod CellFacts
+pub mod RowFacts

@@ -1,0 +1,64 @@
+-- Lists of checks: the first that fails has the least number.
+use Rattle.std.proofs.Common.{◌≡◌, ℕ, ◌+◌, ◌<◌, ◌≤◌, ◌⊎◌, List, [], ◌∷◌, refl, sym, ap, ◌∙◌, subst, inl, inr, arith, lit<}
+use Rattle.map_defs.specs.Refusal.{Refusal, number}
+use Rattle.map_defs.specs.State.{State}
+use Rattle.map_defs.specs.Script.{Line, Polygon, Show}
+use Rattle.map_defs.specs.Text.{Reply, Refused}
+use Rattle.map_defs.specs.Machine.{Check, checks, Judged, FailsFor}
+
+-- each check of the list has a higher number than n
+abbrev AllAbove : ℕ → List Check → Type 0
+AllAbove n [] = Unit {0}
+AllAbove n (check ∷ more) = (n < number check.refusal) × AllAbove n more
+
+-- no check passes and fails, and the numbers ascend
+abbrev pub AreOrdered : List Check → Type 0
+AreOrdered [] = Unit {0}
+AreOrdered (check ∷ more) = (check.passes → check.fails → ⊥) × AllAbove (number check.refusal) more × AreOrdered more
+
+above : (n : ℕ) (list : List Check) (q : Refusal) → AllAbove n list → FailsFor list q → n ≤ number q
+above n [] q all f = absurd f
+above n (check ∷ more) q all (inl f) = let h = all.0 in let e = ap number f.0 in omega arith
+above n (check ∷ more) q all (inr f) = above n more q all.1 f
+
+pub ordered : (s : State) (line : Line) → AreOrdered (checks s line)
+ordered s (Polygon sides) = (λ no h. no h, (lit< tt, tt), (λ no h. no h, tt, tt))
+ordered s Show = tt
+
+refused-is : (r q : Refusal) → Refused r ≡ Refused q → r ≡ q
+refused-is r q e = cc
+
+module _ (s : State) (effect : Reply → State → Type 0) (r : Refusal) (new : State) (never : effect (Refused r) new → ⊥) where
+  pub judged-fails : (list : List Check) → Judged s list effect (Refused r) new → FailsFor list r
+  judged-fails [] j = absurd (never j)
+  judged-fails (check ∷ more) (inl j) = inl (sym (refused-is r check.refusal j.1), j.0)
+  judged-fails (check ∷ more) (inr j) = inr (judged-fails more j.1)
+
+  pub judged-least : (list : List Check) → AreOrdered list → Judged s list effect (Refused r) new → (q : Refusal) → FailsFor list q → number r ≤ number q
+  judged-least [] o j q f = absurd f
+  judged-least (check ∷ more) o (inl j) q (inl f) = let e = ap number (refused-is r check.refusal j.1 ∙ f.0) in omega arith
+  judged-least (check ∷ more) o (inl j) q (inr f) = let e = ap number (refused-is r check.refusal j.1) in let h = above (number check.refusal) more q o.1 f in omega arith
+  judged-least (check ∷ more) o (inr j) q (inl f) = absurd (o.0 j.0 f.1)
+  judged-least (check ∷ more) o (inr j) q (inr f) = judged-least more o.2 j.1 q f
+
+  pub judged-unchanged : (list : List Check) → Judged s list effect (Refused r) new → new ≡ s
+  judged-unchanged [] j = absurd (never j)
+  judged-unchanged (check ∷ more) (inl j) = j.2
+  judged-unchanged (check ∷ more) (inr j) = judged-unchanged more j.1
+
+pub judged-accepted : (s : State) (effect : Reply → State → Type 0) (reply : Reply) (new : State) (list : List Check) → AreOrdered list
+    → ((r : Refusal) → reply ≡ Refused r → ⊥) → Judged s list effect reply new → (q : Refusal) → FailsFor list q → ⊥
+judged-accepted s effect reply new [] o no_refusal j q f = f
+judged-accepted s effect reply new (check ∷ more) o no_refusal (inl j) q f = no_refusal check.refusal j.1
+judged-accepted s effect reply new (check ∷ more) o no_refusal (inr j) q (inl f) = o.0 j.0 f.1
+judged-accepted s effect reply new (check ∷ more) o no_refusal (inr j) q (inr f) = judged-accepted s effect reply new more o.2 no_refusal j.1 q f
+
+-- where the effect has one reply and one state, so has the judgement
+pub judged-one : (s : State) (effect : Reply → State → Type 0) (one other : Reply) (new new' : State) (list : List Check) → AreOrdered list
+    → (effect one new → effect other new' → (one ≡ other) × (new ≡ new'))
+    → Judged s list effect one new → Judged s list effect other new' → (one ≡ other) × (new ≡ new')
+judged-one s effect one other new new' [] o same j k = same j k
+judged-one s effect one other new new' (check ∷ more) o same (inl j) (inl k) = (j.1 ∙ sym k.1, j.2 ∙ sym k.2)
+judged-one s effect one other new new' (check ∷ more) o same (inl j) (inr k) = absurd (o.0 k.0 j.0)
+judged-one s effect one other new new' (check ∷ more) o same (inr j) (inl k) = absurd (o.0 j.0 k.0)
+judged-one s effect one other new new' (check ∷ more) o same (inr j) (inr k) = judged-one s effect one other new new' more o.2 same j.1 k.1

@@ -1,0 +1,5 @@
+pub mod Judging
+pub mod ValueLists
+pub mod Steps
+pub mod Runs
+pub mod Programs

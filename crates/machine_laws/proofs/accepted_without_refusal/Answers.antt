@@ -1,0 +1,6 @@
+use Rattle.map_defs.specs.Machine.{Effect, checks}
+use Rattle.machine_laws.proofs.Judging.{ordered, judged-accepted}
+use Rattle.machine_laws.proofs.accepted_without_refusal.Goals as goal
+
+pub returns : goal.returns
+returns c = λ s line reply new step no_refusal q fails. judged-accepted s (Effect s line) reply new (checks s line) (ordered s line) no_refusal step q fails

@@ -1,0 +1,121 @@
+//! What no clause says: that a call succeeds where memory is there, and what the system itself does.
+ghost use Rattle.std.specs.Prelude.{◌≡◌, IfOk};
+ghost use Rattle.map_io.specs.Held.{file_of};
+
+use crate::{
+    FetchFault, FileShelf, Held, PutFault, Shelf, Sink, StdSink, SureShelf, SureSink, WriterSink,
+};
+use std::alloc::{AllocError, Global};
+use std::fs;
+use std::io::{self, Write};
+use std::test::Fail;
+
+fn held(alloc: Global, name: &str, bytes: &[u8]) -> Result<Held, AllocError>
+    ensures { IfOk result (λ file. file_of file ≡ (name.now, bytes.now)) }
+{
+    Ok(Held {
+        name: String::from_str(alloc, name)?,
+        bytes: bytes.to_vec(alloc)?,
+    })
+}
+
+#[test]
+fn a_sure_shelf_gives_the_first_file_of_a_name(rt: HostRuntime) -> Result<(), Fail> {
+    let alloc = rt.alloc();
+    let mut files = Vec::new(alloc);
+    files.push(held(alloc, "b", b"other")?)?;
+    files.push(held(alloc, "a", b"first")?)?;
+    files.push(held(alloc, "a", b"second")?)?;
+    let mut shelf = SureShelf::new(files);
+    let fetched = shelf.fetch(alloc, "a", 5);
+    assert_eq!(rt;
+        fetched.ok().ok_or("no file")?.as_slice(),
+        b"first".as_slice()
+    );
+    let fetched = shelf.fetch(alloc, "a", 4);
+    assert_eq!(rt; fetched.err(), Some(FetchFault::TooLong { seen: 5 }));
+    Ok(())
+}
+
+#[test]
+fn a_sure_sink_tells_what_was_written(rt: HostRuntime) -> Result<(), Fail> {
+    let mut sink = SureSink::new(rt.alloc());
+    assert_eq!(rt; sink.put(b"ok "), Ok(()));
+    assert_eq!(rt; sink.put(b"1\n"), Ok(()));
+    assert_eq!(rt; sink.flush(), Ok(()));
+    assert_eq!(rt; sink.written(), b"ok 1\n".as_slice());
+    Ok(())
+}
+
+const PATH: &str = "map_io_file_shelf_test";
+
+/// More than is read at a time.
+const LONG: usize = 200_000;
+
+#[test]
+fn a_file_shelf_reads_files_up_to_the_limit(rt: HostRuntime) -> Result<(), Fail> {
+    let alloc = rt.alloc();
+    let mut bytes = Vec::new(alloc);
+    for place in 0..LONG {
+        bytes.push((place % 251) as u8)?;
+    }
+    fs::write(&rt, PATH, bytes.as_slice())?;
+    let mut shelf = FileShelf::new(&rt);
+    let limit = LONG as u64;
+    let whole = shelf.fetch(alloc, PATH, limit);
+    let longer = shelf.fetch(alloc, PATH, limit - 1);
+    fs::remove_file(&rt, PATH)?;
+    let absent = shelf.fetch(alloc, PATH, limit);
+    assert!(rt; whole.ok().ok_or("no file")?.as_slice() == bytes.as_slice());
+    assert_eq!(rt; longer.err(), Some(FetchFault::TooLong { seen: limit }));
+    assert_eq!(rt; absent.err(), Some(FetchFault::Failed));
+    Ok(())
+}
+
+#[test]
+fn a_sink_over_the_standard_output_puts_and_flushes(rt: HostRuntime) -> Result<(), Fail> {
+    let mut sink = StdSink::new(rt.alloc(), &rt);
+    assert_eq!(rt; sink.put(b"ok 1 6\n"), Ok(()));
+    assert_eq!(rt; sink.flush(), Ok(()));
+    Ok(())
+}
+
+/// A writer that takes a few bytes at a time, and fails where it is full.
+#[derive(Drop)]
+struct Narrow {
+    text: Vec<u8>,
+    room: usize,
+}
+
+impl Write for Narrow {
+    fn write(&mut self, piece: &[u8]) -> io::Result<usize> {
+        let count = piece.len().min(self.room).min(3);
+        self.text.extend_from_slice(&piece[..count])?;
+        self.room -= count;
+        Ok(count)
+    }
+
+    fn flush(&mut self) -> io::Result<()> {
+        Ok(())
+    }
+}
+
+#[test]
+fn a_sink_stops_at_its_first_fault(rt: HostRuntime) -> Result<(), Fail> {
+    let alloc = rt.alloc();
+    let mut sink = WriterSink::over(
+        alloc,
+        Narrow {
+            text: Vec::new(alloc),
+            room: 8,
+        },
+    );
+    assert_eq!(rt; sink.put(b"ok 1 6\n"), Ok(()));
+    assert_eq!(rt; sink.flush(), Ok(()));
+    assert_eq!(rt; sink.put(b"ok 7 6\n"), Ok(()));
+    assert_eq!(rt; sink.flush(), Err(PutFault::Failed));
+    assert_eq!(rt; sink.put(b"ok 13 6\n"), Err(PutFault::Failed));
+    assert_eq!(rt; sink.flush(), Err(PutFault::Failed));
+    assert_eq!(rt; sink.writer().text.as_slice(), b"ok 1 6\no".as_slice());
+    Ok(())
+}

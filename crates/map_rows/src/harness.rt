@@ -1,0 +1,67 @@
+//! Runs the program over files and a sink in memory.
+ghost use Rattle.std.specs.Prelude.{◌≡◌, ℕ, List, map, string_bytes, IfOk, IsSome};
+ghost use Rattle.map_defs.specs.Outside.{held};
+ghost use Rattle.map_defs.specs.Program.{Needs};
+ghost use Rattle.map_io.specs.Held.{files_of};
+
+use map_io::{Held, SureShelf, SureSink};
+use std::alloc::{AllocError, Global};
+use std::process::Abort;
+
+/// A script, what the program writes for it, and its status.
+pub struct Row {
+    pub script: &'static str,
+    pub text: &'static str,
+    pub status: u8,
+}
+
+/// What the program wrote, and its status.
+#[derive(Drop)]
+pub struct Answer {
+    pub text: Vec<u8>,
+    pub status: u8,
+}
+
+/// Runs the program on words, over files that hold all that the words need.
+pub fn run_over(alloc: Global, words: &[String], files: Vec<Held>) -> Result<Answer, AllocError>
+    requires { (name : List ℕ) → Needs (map string_bytes words.now) name → IsSome (held (files_of files.items) name) }
+{
+    let mut shelf = SureShelf::new(files);
+    let mut out = SureSink::new(alloc);
+    let status = map_run::run(alloc, words, &mut shelf, &mut out);
+    let text = out.written().to_vec(alloc)?;
+    Ok(Answer { text, status })
+}
+
+fn text(alloc: Global, word: &str) -> Result<String, AllocError>
+    ensures { IfOk result (λ text. string_bytes text ≡ word.now) }
+{
+    String::from_str(alloc, word)
+}
+
+/// Runs `run g 2 - s`, where the file `s` has these bytes.
+pub fn obey(alloc: Global, script: Vec<u8>) -> Result<Answer, AllocError> {
+    let mut words = Vec::new(alloc);
+    words.push(text(alloc, "run")?)?;
+    words.push(text(alloc, "g")?)?;
+    words.push(text(alloc, "2")?)?;
+    words.push(text(alloc, "-")?)?;
+    words.push(text(alloc, "s")?)?;
+    let mut files = Vec::new(alloc);
+    files.push(Held {
+        name: text(alloc, "s")?,
+        bytes: script,
+    })?;
+    run_over(alloc, words.as_slice(), files)
+}
+
+/// Runs each row's script and compares the text and the status.
+pub fn check_rows(rt: &impl Abort, alloc: Global, rows: &[Row]) -> Result<(), AllocError> {
+    for row in rows {
+        let script = Vec::from_slice(alloc, row.script.as_bytes())?;
+        let answer = obey(alloc, script)?;
+        assert_eq!(rt; answer.text.as_slice(), row.text.as_bytes(), "{}", row.script);
+        assert_eq!(rt; answer.status, row.status, "{}", row.script);
+    }
+    Ok(())
+}

@@ -1,0 +1,11 @@
+//! The worked rows of the program, as tables of tests: what it writes for a script, and its status.
+#![tactic(auto)]
+
+#[cfg(test)]
+mod faults;
+#[cfg(test)]
+mod harness;
+#[cfg(test)]
+mod polygons;
+#[cfg(test)]
+mod words;

@@ -1,0 +1,12 @@
+pub mod Steps
+pub mod AlphaBridge
+pub mod AlphaRemoval
+pub mod Walked
+pub mod BetaCrossed
+pub mod BetaCases
+pub mod BetaRemoval
+pub mod Smoothed
+pub mod SmoothedLaws
+pub mod Removed
+pub mod Ends
+pub mod Unique
