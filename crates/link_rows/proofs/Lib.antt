@@ -4,3 +4,4 @@ pub mod RowWrites
 pub mod EditSteps
 pub mod EditSound
 pub mod EditBack
+pub mod EditPlain

@@ -6,6 +6,8 @@ mod links;
 mod polygon;
 mod row;
 mod steps;
+#[cfg(test)]
+mod tests;
 
 pub use dart_arena::{MADE_MAX, ReserveFault};
 pub use edit::{Change, Edit};
