@@ -42,7 +42,7 @@ module _ (k : Kind) (n : ℕ) (rows : Rows) (e : Edit) (sound : IsSound k n rows
       ∙ take_at rows (replicate e.births (Some (free_row n))) (length rows) refl
 
   -- the last births live after the edit
-  born-live : (x : ℕ) → length rows ≤ x → x < length rows + e.births → IsLive (after_edit n e rows) x
+  pub born-live : (x : ℕ) → length rows ≤ x → x < length rows + e.births → IsLive (after_edit n e rows) x
   born-live x low high =
       let apart : All (λ (d : ℕ). x ≢ d) e.deaths = λ p z h same.
       let within = live-within rows (get_or e.deaths p z) (fits.living p z h) in omega arith in

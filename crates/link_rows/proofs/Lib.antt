@@ -5,3 +5,4 @@ pub mod EditSteps
 pub mod EditSound
 pub mod EditBack
 pub mod EditPlain
+pub mod EditLinks
