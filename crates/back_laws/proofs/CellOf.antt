@@ -1,9 +1,9 @@
 -- What a cell holds: the least set that is closed under all links but the cell's own.
-use Rattle.std.proofs.Common.{ℕ, zero, suc, ◌≡◌, ◌≢◌, ◌+◌, ◌≤◌, ◌⊎◌, refl, sym, ap, inl, inr, ⊎_elim, ◌∙◌, arith}
+use Rattle.std.proofs.Common.{ℕ, zero, suc, ◌≡◌, ◌≢◌, sym, ap, inl, inr, ◌∙◌, arith}
 use Rattle.map_defs.specs.Kind.{Kind, alpha, beta, inverse}
 use Rattle.map_defs.specs.Links.{Links}
-use Rattle.map_defs.specs.Words.{Word, one_link, through, RunsAlong, IsCellWord, inverse_word}
-use Rattle.map_defs.specs.Cells.{InOrbit, here, onward, Leads, InCell}
+use Rattle.map_defs.specs.Words.{Word, one_link, through, IsCellWord, inverse_word}
+use Rattle.map_defs.specs.Cells.{here, onward, InCell}
 use Rattle.link_laws.proofs.CellFacts.{alpha_closed, beta_closed}
 
 -- the cells that run along all links but one: those of a generalized map, and of dimension 2 and more in a combinatorial map
@@ -30,6 +30,6 @@ word_one k i (all_beta {i = c}) v (inr (u, (j, l, n, e), g)) = (inverse beta j, 
 pub cell_in : (k : Kind) (i : ℕ) → RunsAlongAll k i → (N : Links) (S : ℕ → Type 0) → ((j x : ℕ) → j ≢ i → S x → N j x ≢ 0 → S (N j x)) → (d x : ℕ) → S d → InCell k N i d x → S x
 cell_in k i r N S on d x h here = h
 cell_in k i r N S on d x h (onward {x = u} {y = y} o (v, c, e, n)) =
-  let q : (j : ℕ) × (j ≢ i) × (v ≡ one_link j) = word_one k i r v c in
-  let a : N q.0 u ≡ y = ap (λ s. through N s u) (sym q.2) ∙ e in
-  rw a at (on q.0 u q.1 (cell_in k i r N S on d u h o) (λ z. n (sym a ∙ z)))
+    let q : (j : ℕ) × (j ≢ i) × (v ≡ one_link j) = word_one k i r v c in
+    let a : N q.0 u ≡ y = ap (λ s. through N s u) (sym q.2) ∙ e in
+    rw a at (on q.0 u q.1 (cell_in k i r N S on d u h o) (λ z. n (sym a ∙ z)))

@@ -1,12 +1,11 @@
 -- The vertex and the edge that are inserted in a generalized map are insertions in general.
-use Rattle.std.proofs.Common.{ℕ, zero, suc, ◌≡◌, ◌≢◌, ◌+◌, ◌≤◌, ◌⊎◌, ◌↔◌, refl, sym, ap, inl, inr, ⊎_elim, ◌∙◌, arith}
-use Rattle.map_defs.specs.Kind.{Kind, alpha, beta, inverse, place, IsDistant}
+use Rattle.std.proofs.Common.{ℕ, ◌≡◌, ◌≢◌, ◌+◌, ◌≤◌, refl, sym, ap, inl, inr, ⊎_elim, ◌∙◌, arith}
+use Rattle.map_defs.specs.Kind.{alpha}
 use Rattle.map_defs.specs.Links.{Links}
-use Rattle.map_defs.specs.Laws.{Laws}
 use Rattle.map_defs.specs.Words.{one_link}
-use Rattle.map_defs.specs.Cells.{InOrbit, here, onward, InCell}
-use Rattle.map_defs.specs.Pairs.{InPairs, seed, turned, across, JustOne, IsGood}
-use Rattle.map_defs.specs.Insertion.{IsJustBelow, IsInsertable, GoesAlong, IsCarrying, IsPairing, IsLinkedBy, NoPairs, InAlphaCorner, AlphaEdgeDarts, AlphaEdgePairs, AreAlphaEdgePaired}
+use Rattle.map_defs.specs.Cells.{here, onward, InCell}
+use Rattle.map_defs.specs.Pairs.{seed, turned, across}
+use Rattle.map_defs.specs.Insertion.{IsInsertable, GoesAlong, IsCarrying, IsPairing, IsLinkedBy, NoPairs, InAlphaCorner, AlphaEdgeDarts, AlphaEdgePairs, AreAlphaEdgePaired}
 use Rattle.link_laws.proofs.Orbits.{orbit_dart}
 use Rattle.link_laws.proofs.Basics.{distant_alpha, distant_alpha_is}
 
@@ -21,7 +20,7 @@ alpha_vertex_can L d hd = record {
   turned = λ x y t p. absurd p;
   moves = λ x y t p. absurd p;
   across = λ x y t j p. absurd p;
-  even = λ x y t j p. absurd p
+  even = λ x y t j p. absurd p;
 }
   where
     apart : (j : ℕ) → IsCarrying alpha 0 j → j ≢ 1
@@ -49,13 +48,13 @@ module _ (L : Links) (d e : ℕ) (hd : d ≢ 0) (he : e ≢ 0) (good : AreAlphaE
   edge_pair x y t (seed (a, b, c)) = (inl (rw a here), inr (rw b here), c)
   edge_pair x y t (turned {x = u} {y = v} p) = let h : AlphaEdgeDarts L d e u × AlphaEdgeDarts L d e v × (t ≡ 0) = edge_pair u v t p in (h.1, h.0, h.2)
   edge_pair x y t (across {x = u} {y = v} j a p hu hv) = let h : AlphaEdgeDarts L d e u × AlphaEdgeDarts L d e v × (t ≡ 0) = edge_pair u v t p in
-    (edge_carried u j h.0 (pairing_carrying j a) hu, edge_carried v j h.1 (pairing_carrying j a) hv, h.2)
+      (edge_carried u j h.0 (pairing_carrying j a) hu, edge_carried v j h.1 (pairing_carrying j a) hv, h.2)
 
   -- each dart of the corners has a pair
   paired_on : (x x' : ℕ) → IsLinkedBy L (IsCarrying alpha 1) x x' → ((y : ℕ) × AlphaEdgePairs L d e x y 0) → (y : ℕ) × AlphaEdgePairs L d e x' y 0
   paired_on x x' (j, a, q, n) (y, p) =
-    let hx : L j x ≢ 0 = λ o. n (sym q ∙ o) in
-    (L j y, rw (← q) (across j (carrying_pairing j a) p hx (λ o. hx ((good.even x y 0 j p (carrying_pairing j a)).1 o))))
+      let hx : L j x ≢ 0 = λ o. n (sym q ∙ o) in
+      (L j y, rw (← q) (across j (carrying_pairing j a) p hx (λ o. hx ((good.even x y 0 j p (carrying_pairing j a)).1 o))))
 
   paired_orbit : (c x : ℕ) → ((y : ℕ) × AlphaEdgePairs L d e c y 0) → InAlphaCorner L c x → (y : ℕ) × AlphaEdgePairs L d e x y 0
   paired_orbit c x b here = b
@@ -80,5 +79,5 @@ module _ (L : Links) (d e : ℕ) (hd : d ≢ 0) (he : e ≢ 0) (good : AreAlphaE
     turned = λ x y t p n. turned p;
     moves = good.moves;
     across = λ x y t j p a n. across j (along_pairing t j a) p n (λ o. n ((good.even x y t j p (along_pairing t j a)).1 o));
-    even = λ x y t j p a. (good.even x y t j p (along_pairing t j a)).0
+    even = λ x y t j p a. (good.even x y t j p (along_pairing t j a)).0;
   }

@@ -1,14 +1,13 @@
 -- An edge in a face keeps the laws of a combinatorial map.
-use Rattle.std.proofs.Common.{ℕ, zero, suc, ◌≡◌, ◌≢◌, ◌+◌, ◌≤◌, ◌⊎◌, ◌↔◌, refl, sym, ap, inl, inr, ⊎_elim, ◌∙◌, arith}
-use Rattle.map_defs.specs.Kind.{Kind, beta, inverse}
-use Rattle.map_defs.specs.Links.{Links, IsTurned}
+use Rattle.std.proofs.Common.{ℕ, ◌≡◌, ◌≢◌, ◌≤◌, refl, sym, ap, ⊎_elim, ◌∙◌, arith}
+use Rattle.map_defs.specs.Kind.{beta}
+use Rattle.map_defs.specs.Links.{Links}
 use Rattle.map_defs.specs.Laws.{Laws}
 use Rattle.map_defs.specs.Births.{IsFresh}
 use Rattle.map_defs.specs.Insertion.{IsCut}
-use Rattle.link_laws.proofs.Basics.{by_cases, stable, same_or_not}
-use Rattle.link_laws.proofs.LawFacts.{dart_of_link}
+use Rattle.link_laws.proofs.Basics.{stable, same_or_not}
 use Rattle.insert_laws.proofs.Fresh.{IsNew, fresh_link, fresh_old, fresh_none}
-use Rattle.insert_laws.proofs.BetaParts.{HasParts, laws_from_parts, onward_of, backward_of, high_of, back_of, apart_of, alike_backward, alike_onward}
+use Rattle.insert_laws.proofs.BetaParts.{onward_of}
 
 -- what the laws ask of the ways from corner to corner
 pub record IsTurning (L : Links) (Turn : ℕ → ℕ → Type 0) : Type 0 where
@@ -54,29 +53,29 @@ module _ (L : Links) (w : Laws beta L) (Turn : ℕ → ℕ → Type 0) (turn : I
   -- link 0: into the end of a new dart, out of a new dart, and elsewhere as before
   pub zero_in : (u y : ℕ) → Turn u y → N 0 u ≡ star y
   zero_in u y p = let q : Turn y u = turn.both u y p in
-    (s.turned.back (star y) u (fresh.dart y (u, q)) (turn.dart u y p)).0 (s.onward y u q)
+      (s.turned.back (star y) u (fresh.dart y (u, q)) (turn.dart u y p)).0 (s.onward y u q)
 
   pub zero_new : (x y : ℕ) → Turn x y → N 0 (star x) ≡ L 0 x
   zero_new x y p = (s.turned.back (L 0 x) (star x) (turn.begins x y p) (fresh.dart x (y, p))).0 (s.into x y p)
 
   pub zero_free : (u b : ℕ) → (IsNew (IsCorner Turn) star u → ⊥) → (IsCorner Turn u → ⊥) → L 0 u ≡ 0 → u ≢ 0 → b ≢ 0 → N 1 b ≡ u → ⊥
   zero_free u b old out z hu hb e =
-    let new_b : IsNew (IsCorner Turn) star b → ⊥ = λ (x, (y, p), q).
+      let new_b : IsNew (IsCorner Turn) star b → ⊥ = λ (x, (y, p), q).
       let a : N 1 (star x) ≡ y = s.onward x y p in let g : y ≡ u = cc in out (x, rw g at (turn.both x y p)) in
-    let before_b : ComesBefore L Turn b → ⊥ = λ (c, y, p, q). let a : N 1 (L 0 c) ≡ star c = s.into c y p in old (c, (y, p), (let g : u ≡ star c = cc in g)) in
-    let a : L 1 b ≡ u = sym (one_out b new_b before_b) ∙ e in
-    let g : L 0 (L 1 b) ≡ b = w.back 1 b (λ o. hu (sym a ∙ o)) in
-    hb (let r : L 0 u ≡ b = cc in sym r ∙ z)
+      let before_b : ComesBefore L Turn b → ⊥ = λ (c, y, p, q). let a : N 1 (L 0 c) ≡ star c = s.into c y p in old (c, (y, p), (let g : u ≡ star c = cc in g)) in
+      let a : L 1 b ≡ u = sym (one_out b new_b before_b) ∙ e in
+      let g : L 0 (L 1 b) ≡ b = w.back 1 b (λ o. hu (sym a ∙ o)) in
+      hb (let r : L 0 u ≡ b = cc in sym r ∙ z)
 
   pub zero_out : (u : ℕ) → (IsNew (IsCorner Turn) star u → ⊥) → (IsCorner Turn u → ⊥) → N 0 u ≡ L 0 u
   zero_out u old out = ⊎_elim
-    (λ (z : u ≡ 0). let a : N 0 0 ≡ 0 = s.turned.nothing in cc (w.nil 0))
-    (λ (hu : u ≢ 0). ⊎_elim
+      (λ (z : u ≡ 0). let a : N 0 0 ≡ 0 = s.turned.nothing in cc (w.nil 0))
+      (λ (hu : u ≢ 0). ⊎_elim
       (λ (z : L 0 u ≡ 0). stable (N 0 u) 0 (λ n. zero_free u (N 0 u) old out z hu n ((s.turned.back (N 0 u) u n hu).1 refl)) ∙ sym z)
       (λ (n : L 0 u ≢ 0).
-        let g : L 1 (L 0 u) ≡ u = w.back 0 u n in
-        let b : ComesBefore L Turn (L 0 u) → ⊥ = λ (c, y, p, q).
-          let h : L 1 (L 0 c) ≡ c = w.back 0 c (turn.begins c y p) in let r : c ≡ u = cc in out (y, rw r at p) in
-        (s.turned.back (L 0 u) u n hu).0 (one_out (L 0 u) (not_link 0 u) b ∙ g))
+      let g : L 1 (L 0 u) ≡ u = w.back 0 u n in
+      let b : ComesBefore L Turn (L 0 u) → ⊥ = λ (c, y, p, q).
+      let h : L 1 (L 0 c) ≡ c = w.back 0 c (turn.begins c y p) in let r : c ≡ u = cc in out (y, rw r at p) in
+      (s.turned.back (L 0 u) u n hu).0 (one_out (L 0 u) (not_link 0 u) b ∙ g))
       (same_or_not (L 0 u) 0))
-    (same_or_not u 0)
+      (same_or_not u 0)

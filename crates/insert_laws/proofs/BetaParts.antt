@@ -1,6 +1,6 @@
 -- The laws of a combinatorial map from its parts: link 1 with its inverse, the higher links, and their squares.
-use Rattle.std.proofs.Common.{ℕ, zero, suc, ◌≡◌, ◌≢◌, ◌+◌, ◌≤◌, ◌⊎◌, ◌↔◌, refl, sym, ap, inl, inr, ⊎_elim, ◌∙◌, arith}
-use Rattle.map_defs.specs.Kind.{Kind, alpha, beta, inverse, place, IsDistant}
+use Rattle.std.proofs.Common.{ℕ, zero, suc, ◌≡◌, ◌≢◌, ◌+◌, ◌≤◌, ◌↔◌, refl, sym, ap, inl, inr, ◌∙◌, arith}
+use Rattle.map_defs.specs.Kind.{beta, inverse, place, IsDistant}
 use Rattle.map_defs.specs.Links.{Links, IsTurned}
 use Rattle.map_defs.specs.Laws.{Laws}
 use Rattle.link_laws.proofs.Basics.{distant_zero, distant_one, distant_high, inverse_own}

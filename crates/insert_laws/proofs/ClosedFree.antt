@@ -1,11 +1,11 @@
 -- After closing at a link no dart is free there.
-use Rattle.std.proofs.Common.{ℕ, zero, suc, ◌≡◌, ◌≢◌, ◌+◌, ◌<◌, ◌≤◌, ◌⊎◌, ◌↔◌, refl, sym, ap, inl, inr, ⊎_elim, ◌∙◌, arith, List, length}
-use Rattle.map_defs.specs.Kind.{Kind, alpha, beta, inverse, place, IsDistant}
+use Rattle.std.proofs.Common.{ℕ, zero, suc, ◌≡◌, ◌≢◌, ◌<◌, ◌≤◌, sym, inr, ⊎_elim, ◌∙◌, arith, List, length}
+use Rattle.map_defs.specs.Kind.{Kind, alpha, beta, inverse}
 use Rattle.map_defs.specs.Links.{Links, IsMadeUpTo, LeadsToLive}
 use Rattle.map_defs.specs.Laws.{Laws}
 use Rattle.map_defs.specs.Births.{IsFresh, IsNumbered, AreBorn, IsCounted}
-use Rattle.map_defs.specs.Insertion.{IsJustBelow, IsInserted}
-use Rattle.map_defs.specs.Closing.{IsOpen, IsAround, IsClosed}
+use Rattle.map_defs.specs.Insertion.{IsInserted}
+use Rattle.map_defs.specs.Closing.{IsOpen, IsClosed}
 use Rattle.link_laws.proofs.Basics.{same_or_not, IsDistant-inverse_right}
 use Rattle.link_laws.proofs.LawFacts.{dart_of_link}
 use Rattle.insert_laws.proofs.Places.{IsBeside, same, next, below, far, link_cases}
@@ -16,8 +16,8 @@ use Rattle.insert_laws.proofs.Closed.{ClosingPair, open_carried, ends_open, clos
 -- a linked dart is live
 pub linked_live : (k : Kind) (L : Links) → Laws k L → (Live : ℕ → Type 0) → LeadsToLive Live L → (t x : ℕ) → L t x ≢ 0 → Live x
 linked_live k L w Live live t x h =
-  let b : L (inverse k t) (L t x) ≡ x = w.back t x h in
-  rw b at (live (inverse k t) (L t x) (λ o. dart_of_link k L w t x h (sym b ∙ o)))
+    let b : L (inverse k t) (L t x) ≡ x = w.back t x h in
+    rw b at (live (inverse k t) (L t x) (λ o. dart_of_link k L w t x h (sym b ∙ o)))
 
 -- the inverse of a link below one that is its own inverse is below it too
 inverse_below : (k : Kind) (i t : ℕ) → inverse k i ≡ i → t < i → inverse k t < i
@@ -47,9 +47,9 @@ module _ (k : Kind) (i : ℕ) (own : inverse k i ≡ i) (Live : ℕ → Type 0) 
 
   linked_old : (x : ℕ) → Live x → N i x ≢ 0
   linked_old x h o = ⊎_elim
-    (λ (z : L i x ≡ 0). fresh.dart x (h, z) (sym (s.new x (h, z)) ∙ o))
-    (λ (n : L i x ≢ 0). n (sym (s.kept x i (λ g. absurd (n g.1)) (λ y g. live_old x y h g)) ∙ o))
-    (same_or_not (L i x) 0)
+      (λ (z : L i x ≡ 0). fresh.dart x (h, z) (sym (s.new x (h, z)) ∙ o))
+      (λ (n : L i x ≢ 0). n (sym (s.kept x i (λ g. absurd (n g.1)) (λ y g. live_old x y h g)) ∙ o))
+      (same_or_not (L i x) 0)
 
   linked_new : (x : ℕ) → IsOpen Live i L x → N i (star x) ≢ 0
   linked_new x h o = dart x h.0 (sym (s.old x h) ∙ o)
@@ -58,9 +58,9 @@ module _ (k : Kind) (i : ℕ) (own : inverse k i ≡ i) (Live : ℕ → Type 0) 
     -- a claim on the darts that live afterwards, from the old ones and the new ones
     by_age : (P : ℕ → Type 0) → ((x : ℕ) → Live x → P x) → ((x : ℕ) → IsOpen Live i L x → P (star x)) → (x : ℕ) → LiveAfter x → P x
     by_age P f g x h = ⊎_elim
-      (λ o. f x o)
-      (λ b. let q : (y : ℕ) × IsOpen Live i L y × (x ≡ star y) = numbered_all (IsOpen Live i L) keys made star numbers x b.0 b.1 in rw q.2 (g q.0 q.1))
-      ((born x).0 h)
+        (λ o. f x o)
+        (λ b. let q : (y : ℕ) × IsOpen Live i L y × (x ≡ star y) = numbered_all (IsOpen Live i L) keys made star numbers x b.0 b.1 in rw q.2 (g q.0 q.1))
+        ((born x).0 h)
 
     pub closed_linked : (x : ℕ) → LiveAfter x → N i x ≢ 0
     closed_linked = by_age (λ x. N i x ≢ 0) linked_old linked_new
@@ -74,19 +74,20 @@ module _ (k : Kind) (i : ℕ) (own : inverse k i ≡ i) (Live : ℕ → Type 0) 
         where
           inserted : IsInserted k i (IsOpen Live i L) (ClosingPair k i Live L) star L N
           inserted = closing_inserted k i own Live L w dart live made bound star fresh N s
+
           by : IsBeside k i t → ⊥
           by (same e) = omega arith
           by (next e) = omega arith
           by (below b) = around_some k L w i own t made x bound h.1 (λ y p.
-            let hy : y ≢ 0 = around_dart k L w i own t Live live (λ c g. full (inverse k t) c g (inverse_below k i t own l)) x y h.0 p in
-            let pair : ClosingPair k i Live L x y t = record { open_dart = h; below = b; walk = p } in
-            fresh.dart y (ends_open k i own Live L w dart live made bound x y t pair hy) (sym (inserted.paired x y t pair) ∙ o))
+              let hy : y ≢ 0 = around_dart k L w i own t Live live (λ c g. full (inverse k t) c g (inverse_below k i t own l)) x y h.0 p in
+              let pair : ClosingPair k i Live L x y t = record { open_dart = h; below = b; walk = p } in
+              fresh.dart y (ends_open k i own Live L w dart live made bound x y t pair hy) (sym (inserted.paired x y t pair) ∙ o))
           by (far f) =
-            let n : L (inverse k t) x ≢ 0 = full (inverse k t) x h.0 (inverse_below k i t own l) in
-            fresh.dart (L (inverse k t) x) (open_carried k i own Live L w dart live made bound x (inverse k t) h (inr (IsDistant-inverse_right k i t f)) n) (sym (s.along x t h f) ∙ o)
+              let n : L (inverse k t) x ≢ 0 = full (inverse k t) x h.0 (inverse_below k i t own l) in
+              fresh.dart (L (inverse k t) x) (open_carried k i own Live L w dart live made bound x (inverse k t) h (inr (IsDistant-inverse_right k i t f)) n) (sym (s.along x t h f) ∙ o)
 
       pub closed_linked_upto : (t x : ℕ) → LiveAfter x → t ≤ i → N t x ≢ 0
       closed_linked_upto t x h l = ⊎_elim
-        (λ (e : t ≡ i). rw e (closed_linked x h))
-        (λ (n : t ≢ i). let lt : t < i = omega arith in by_age (λ x. N t x ≢ 0) (λ x. lower_old t x lt) (λ x. lower_new t x lt) x h)
-        (same_or_not t i)
+          (λ (e : t ≡ i). rw e (closed_linked x h))
+          (λ (n : t ≢ i). let lt : t < i = omega arith in by_age (λ x. N t x ≢ 0) (λ x. lower_old t x lt) (λ x. lower_new t x lt) x h)
+          (same_or_not t i)

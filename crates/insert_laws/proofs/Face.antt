@@ -1,13 +1,13 @@
 -- The face that is inserted in a map of either kind is an insertion in general.
-use Rattle.std.proofs.Common.{ℕ, zero, suc, ◌≡◌, ◌≢◌, ◌+◌, ◌≤◌, ◌⊎◌, ◌↔◌, refl, sym, ap, inl, inr, ⊎_elim, ◌∙◌, arith, List, Contains}
-use Rattle.map_defs.specs.Kind.{Kind, alpha, beta, inverse, place, IsDistant}
+use Rattle.std.proofs.Common.{ℕ, zero, suc, ◌≡◌, ◌≢◌, ◌+◌, ◌≤◌, ◌⊎◌, refl, sym, inl, inr, ⊎_elim, ◌∙◌, arith, List, Contains}
+use Rattle.map_defs.specs.Kind.{Kind, alpha, beta, inverse, IsDistant}
 use Rattle.map_defs.specs.Links.{Links}
 use Rattle.map_defs.specs.Laws.{Laws}
 use Rattle.map_defs.specs.Cells.{InOrbit, here, onward}
-use Rattle.map_defs.specs.Pairs.{InPairs, seed, turned, across, IsGood}
+use Rattle.map_defs.specs.Pairs.{seed, turned, across, IsGood}
 use Rattle.map_defs.specs.Insertion.{IsJustBelow, IsInsertable, GoesAlong, IsCarrying, IsPairing, IsLinkedBy, IsNext, FaceDarts, FaceSeed, FacePairs, IsClosedPath, IsFacePaired, IsFace}
 use Rattle.map_defs.specs.Births.{IsFresh}
-use Rattle.link_laws.proofs.Basics.{distant_alpha, distant_alpha_is, distant_high, inverse_own, inverse_twice, IsDistant-inverse_right, stable}
+use Rattle.link_laws.proofs.Basics.{distant_alpha, distant_alpha_is, distant_high, inverse_own}
 use Rattle.link_laws.proofs.LawFacts.{alike, dart_of_link}
 use Rattle.insert_laws.proofs.Places.{below_inverse}
 use Rattle.link_laws.proofs.Orbits.{orbit_dart}
@@ -32,8 +32,8 @@ far_from_two_beta (suc j) f = ⊎_elim (λ (p : 2 + 2 ≤ suc j). p) (λ (p : su
 goes_pairing : (k : Kind) (t j : ℕ) → IsJustBelow k 2 t → GoesAlong k 2 t j → IsPairing 2 j
 goes_pairing k t j b (inl e) = inl e
 goes_pairing alpha t j b (inr f) = inr (⊎_elim (λ p. p)
-  (λ (z : j ≡ 0). absurd (⊎_elim (λ (p : t + 2 ≤ j). omega arith) (λ (p : j + 2 ≤ t). omega arith) (distant_alpha_is t j f.1)))
-  (far_from_two j f.0))
+    (λ (z : j ≡ 0). absurd (⊎_elim (λ (p : t + 2 ≤ j). omega arith) (λ (p : j + 2 ≤ t). omega arith) (distant_alpha_is t j f.1)))
+    (far_from_two j f.0))
 goes_pairing beta t j b (inr f) = inr (far_from_two_beta j f.0)
 
 -- no dart of the path is free where its side ends
@@ -53,20 +53,20 @@ IsFacePair k L path x y t = FaceDarts k L path x × FaceDarts k L path y × IsJu
 
 seed_in : (k : Kind) (L : Links) (path : List ℕ) → HasEnds k L path → (x y t : ℕ) → FaceSeed k L path x y t → IsFacePair k L path x y t
 seed_in alpha L path ends x y t (b, n, e, l) =
-  let h : Contains path b × Contains path y = next_held path b y n in
-  (rw e (face_carried alpha L path b 0 (path_dart alpha L path b h.0) (inr (distant_alpha 2 0 (inr (omega arith)))) (ends b h.0)), path_dart alpha L path y h.1, omega arith)
+    let h : Contains path b × Contains path y = next_held path b y n in
+    (rw e (face_carried alpha L path b 0 (path_dart alpha L path b h.0) (inr (distant_alpha 2 0 (inr (omega arith)))) (ends b h.0)), path_dart alpha L path y h.1, omega arith)
 seed_in beta L path ends x y t (n, l) =
-  let h : Contains path y × Contains path x = next_held path y x n in
-  (path_dart beta L path x h.1, path_dart beta L path y h.0, rw l refl)
+    let h : Contains path y × Contains path x = next_held path y x n in
+    (path_dart beta L path x h.1, path_dart beta L path y h.0, rw l refl)
 
 module _ (k : Kind) (L : Links) (path : List ℕ) (ends : HasEnds k L path) (good : IsGood k L (IsPairing 2) (FacePairs k L path)) where
   pub face_pair : (x y t : ℕ) → FacePairs k L path x y t → IsFacePair k L path x y t
   face_pair x y t (seed s) = seed_in k L path ends x y t s
   face_pair x y t (turned {x = u} {y = v} {t = c} p) = let h : IsFacePair k L path u v c = face_pair u v c p in (h.1, h.0, below_inverse k 2 c h.2)
   face_pair x y t (across {x = u} {y = v} {t = c} j a p hu hv) =
-    let h : IsFacePair k L path u v c = face_pair u v c p in
-    let g : (inverse k j ≡ j) × IsCarrying k 2 j = face_link k j a in
-    (face_carried k L path u j h.0 g.1 hu, face_carried k L path v (inverse k j) h.1 (rw g.0 g.1) hv, below_inverse k 2 c h.2)
+      let h : IsFacePair k L path u v c = face_pair u v c p in
+      let g : (inverse k j ≡ j) × IsCarrying k 2 j = face_link k j a in
+      (face_carried k L path u j h.0 g.1 hu, face_carried k L path v (inverse k j) h.1 (rw g.0 g.1) hv, below_inverse k 2 c h.2)
 
   face_on : (x y t j : ℕ) → FacePairs k L path x y t → IsPairing 2 j → L j x ≢ 0 → FacePairs k L path (L j x) (L (inverse k j) y) (inverse k t)
   face_on x y t j p a n = across j a p n (λ o. n ((good.even x y t j p a).1 o))
@@ -85,7 +85,7 @@ module _ (k : Kind) (L : Links) (path : List ℕ) (ends : HasEnds k L path) (goo
     turned = λ x y t p n. turned p;
     moves = good.moves;
     across = λ x y t j p g n. face_on x y t j p (goes x y t j p g) n;
-    even = λ x y t j p g. (good.even x y t j p (goes x y t j p g)).0
+    even = λ x y t j p g. (good.even x y t j p (goes x y t j p g)).0;
   }
 
 -- each dart of the face has a pair: in a generalized map so has the dart at its link 0
@@ -95,9 +95,9 @@ pub data IsPairedTwice (L : Links) (path : List ℕ) (x : ℕ) : Type 0 where
 module _ (L : Links) (w : Laws alpha L) (path : List ℕ) (ends : HasEnds alpha L path) (good : IsGood alpha L (IsPairing 2) (FacePairs alpha L path)) where
   twice_begin : (b : ℕ) → Contains path b → IsPairedTwice L path b
   twice_begin b h =
-    let c : (c : ℕ) × IsNext path b c = has_next path b h in
-    let a : (a : ℕ) × IsNext path a b = is_next path b h in
-    twice (L 0 a.0) c.0 (turned (seed (a.0, a.1, refl, refl))) (ends b h) (seed (b, c.1, refl, refl))
+      let c : (c : ℕ) × IsNext path b c = has_next path b h in
+      let a : (a : ℕ) × IsNext path a b = is_next path b h in
+      twice (L 0 a.0) c.0 (turned (seed (a.0, a.1, refl, refl))) (ends b h) (seed (b, c.1, refl, refl))
 
   twice_on : (x j : ℕ) → IsPairedTwice L path x → IsCarrying alpha 2 j → L j x ≢ 0 → IsPairedTwice L path (L j x)
   twice_on x j (twice y z p n q) a hj = ⊎_elim (λ c. same c) (λ (e : j ≡ 0). other e) (cases a)
@@ -105,18 +105,21 @@ module _ (L : Links) (w : Laws alpha L) (path : List ℕ) (ends : HasEnds alpha 
       cases : IsCarrying alpha 2 j → IsPairing 2 j ⊎ (j ≡ 0)
       cases (inl e) = inl (inl e)
       cases (inr f) = ⊎_elim (λ (l : 2 + 2 ≤ j). inl (inr l)) (λ (e : j ≡ 0). inr e) (far_from_two j f)
+
       far_zero : IsPairing 2 j → IsDistant alpha 0 j
       far_zero (inl e) = distant_alpha 0 j (inl (omega arith))
       far_zero (inr l) = distant_alpha 0 j (inl (omega arith))
+
       same : IsPairing 2 j → IsPairedTwice L path (L j x)
       same c =
-        let e : L 0 (L j x) ≡ L j (L 0 x) = w.square 0 j x (far_zero c) in
-        let g : L j (L 0 x) ≢ 0 = λ o. hj ((alike alpha L w 0 j x (far_zero c) n).1 o) in
-        twice (L j y) (L j z) (face_on alpha L path ends good x y 1 j p c hj) (λ o. g (sym e ∙ o)) (rw e (face_on alpha L path ends good (L 0 x) z 1 j q c g))
+          let e : L 0 (L j x) ≡ L j (L 0 x) = w.square 0 j x (far_zero c) in
+          let g : L j (L 0 x) ≢ 0 = λ o. hj ((alike alpha L w 0 j x (far_zero c) n).1 o) in
+          twice (L j y) (L j z) (face_on alpha L path ends good x y 1 j p c hj) (λ o. g (sym e ∙ o)) (rw e (face_on alpha L path ends good (L 0 x) z 1 j q c g))
+
       other : j ≡ 0 → IsPairedTwice L path (L j x)
       other e =
-        let b : L 0 (L 0 x) ≡ x = w.back 0 x n in
-        rw e (twice z y q (λ o. dart_of_link alpha L w 0 x n (sym b ∙ o)) (rw b p))
+          let b : L 0 (L 0 x) ≡ x = w.back 0 x n in
+          rw e (twice z y q (λ o. dart_of_link alpha L w 0 x n (sym b ∙ o)) (rw b p))
 
   twice_step : (x x' : ℕ) → IsLinkedBy L (IsCarrying alpha 2) x x' → IsPairedTwice L path x → IsPairedTwice L path x'
   twice_step x x' (j, a, e, n) q = rw (← e) (twice_on x j q a (λ o. n (sym e ∙ o)))
@@ -130,7 +133,7 @@ module _ (L : Links) (w : Laws alpha L) (path : List ℕ) (ends : HasEnds alpha 
 
   pub alpha_face_can : ((b : ℕ) → Contains path b → b ≢ 0) → IsInsertable alpha 2 (FaceDarts alpha L path) (FacePairs alpha L path) L
   alpha_face_can darts = face_can_if alpha L path ends good darts (λ x t h b.
-    let e : t ≡ 1 = omega arith in rw e (first_pair x (twice_all h.0 x h.1 h.2)))
+      let e : t ≡ 1 = omega arith in rw e (first_pair x (twice_all h.0 x h.1 h.2)))
 
 -- in a combinatorial map it is paired at link 0 and at link 1
 pub data IsPairedBoth (L : Links) (path : List ℕ) (x : ℕ) : Type 0 where
@@ -139,9 +142,9 @@ pub data IsPairedBoth (L : Links) (path : List ℕ) (x : ℕ) : Type 0 where
 module _ (L : Links) (path : List ℕ) (good : IsGood beta L (IsPairing 2) (FacePairs beta L path)) where
   both_begin : (b : ℕ) → Contains path b → IsPairedBoth L path b
   both_begin b h =
-    let c : (c : ℕ) × IsNext path b c = has_next path b h in
-    let a : (a : ℕ) × IsNext path a b = is_next path b h in
-    both c.0 a.0 (turned (seed (c.1, refl))) (seed (a.1, refl))
+      let c : (c : ℕ) × IsNext path b c = has_next path b h in
+      let a : (a : ℕ) × IsNext path a b = is_next path b h in
+      both c.0 a.0 (turned (seed (c.1, refl))) (seed (a.1, refl))
 
   both_on : (x j : ℕ) → IsPairedBoth L path x → IsPairing 2 j → L j x ≢ 0 → IsPairedBoth L path (L j x)
   both_on x j (both y z p q) a n = both (L (inverse beta j) z) (L (inverse beta j) y) (face_on beta L path tt good x z 1 j q a n) (face_on beta L path tt good x y 0 j p a n)
@@ -167,7 +170,7 @@ module _ (L : Links) (path : List ℕ) (good : IsGood beta L (IsPairing 2) (Face
 
 pub face_keeps : (k : Kind) (path : List ℕ) (star : ℕ → ℕ) (L N : Links) → Laws k L → ((b : ℕ) → Contains path b → b ≢ 0) → IsClosedPath k L path → IsFacePaired k L path → IsFresh L (FaceDarts k L path) star → IsFace k path star L N → Laws k N
 face_keeps alpha path star L N w darts closed pairs fresh s =
-  let ends : HasEnds alpha L path = λ b h. let q : (c : ℕ) × IsNext path b c = has_next path b h in (closed b q.0 q.1).0 in
-  insertion_keeps alpha 2 (FaceDarts alpha L path) (FacePairs alpha L path) star L w (alpha_face_can L w path ends pairs.good darts) fresh N s
+    let ends : HasEnds alpha L path = λ b h. let q : (c : ℕ) × IsNext path b c = has_next path b h in (closed b q.0 q.1).0 in
+    insertion_keeps alpha 2 (FaceDarts alpha L path) (FacePairs alpha L path) star L w (alpha_face_can L w path ends pairs.good darts) fresh N s
 face_keeps beta path star L N w darts closed pairs fresh s =
-  insertion_keeps beta 2 (FaceDarts beta L path) (FacePairs beta L path) star L w (beta_face_can L path pairs.good darts) fresh N s
+    insertion_keeps beta 2 (FaceDarts beta L path) (FacePairs beta L path) star L w (beta_face_can L path pairs.good darts) fresh N s

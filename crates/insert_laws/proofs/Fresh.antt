@@ -1,5 +1,5 @@
 -- New darts are no old ones.
-use Rattle.std.proofs.Common.{ℕ, ◌≡◌, ◌≢◌, ◌⊎◌, refl, sym, ap, inl, inr, ⊎_elim, ◌∙◌}
+use Rattle.std.proofs.Common.{ℕ, ◌≡◌, ◌≢◌, ◌⊎◌, sym, ap, inl, inr, ◌∙◌}
 use Rattle.map_defs.specs.Kind.{Kind, inverse}
 use Rattle.map_defs.specs.Links.{Links}
 use Rattle.map_defs.specs.Laws.{Laws}
@@ -18,9 +18,9 @@ module _ (k : Kind) (L : Links) (w : Laws k L) (K : ℕ → Type 0) (star : ℕ 
   -- no old link leads to a new dart
   pub fresh_link : (t z : ℕ) → IsNew K star (L t z) → ⊥
   fresh_link t z (x, h, e) =
-    let n : L t z ≢ 0 = λ o. fresh.dart x h (sym e ∙ o) in
-    let b : L (inverse k t) (L t z) ≡ z = w.back t z n in
-    dart_of_link k L w t z n (sym b ∙ (ap (L (inverse k t)) e ∙ fresh.unlinked (inverse k t) x h))
+      let n : L t z ≢ 0 = λ o. fresh.dart x h (sym e ∙ o) in
+      let b : L (inverse k t) (L t z) ≡ z = w.back t z n in
+      dart_of_link k L w t z n (sym b ∙ (ap (L (inverse k t)) e ∙ fresh.unlinked (inverse k t) x h))
 
   pub fresh_old : (z : ℕ) → K z → IsNew K star z → ⊥
   fresh_old z h (x, g, e) = fresh.outside x g (rw e at h)

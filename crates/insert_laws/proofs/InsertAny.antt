@@ -1,14 +1,14 @@
 -- Insertion in general keeps the laws of a map.
-use Rattle.std.proofs.Common.{ℕ, zero, suc, ◌≡◌, ◌≢◌, ◌⊎◌, refl, sym, ap, inl, inr, ⊎_elim, ◌∙◌}
-use Rattle.map_defs.specs.Kind.{Kind, inverse, IsDistant}
+use Rattle.std.proofs.Common.{ℕ, ◌≡◌, ◌≢◌, refl, sym, ap, inl, ⊎_elim, ◌∙◌}
+use Rattle.map_defs.specs.Kind.{Kind, inverse}
 use Rattle.map_defs.specs.Links.{Links}
 use Rattle.map_defs.specs.Laws.{Laws}
 use Rattle.map_defs.specs.Births.{IsFresh}
-use Rattle.map_defs.specs.Insertion.{IsJustBelow, IsInsertable, IsInserted, GoesAlong}
-use Rattle.link_laws.proofs.Basics.{by_cases, stable, same_or_not, inverse_twice, IsDistant-turned, IsDistant-inverse_left, IsDistant-inverse_right, IsDistant-apart}
+use Rattle.map_defs.specs.Insertion.{IsInsertable, IsInserted}
+use Rattle.link_laws.proofs.Basics.{by_cases, stable, same_or_not, inverse_twice}
 use Rattle.link_laws.proofs.LawFacts.{dart_of_link}
-use Rattle.insert_laws.proofs.Fresh.{IsNew, InOrNone, fresh_link, fresh_none}
-use Rattle.insert_laws.proofs.Stands.{Leads, over, along, paired, Stands, none, some, Square, stands_end, stands_turned, stands_some, stands_apart, stands_square}
+use Rattle.insert_laws.proofs.Fresh.{IsNew, fresh_link, fresh_none}
+use Rattle.insert_laws.proofs.Stands.{Leads, over, along, paired, Stands, none, some, stands_end, stands_turned, stands_some, stands_apart}
 
 module _ (k : Kind) (i : ℕ) (K : ℕ → Type 0) (P : ℕ → ℕ → ℕ → Type 0) (star : ℕ → ℕ) (L : Links) (w : Laws k L) (can : IsInsertable k i K P L) (fresh : IsFresh L K star) where
   pub other_than_own : (t : ℕ) → t ≢ i → inverse k t ≢ i
@@ -39,46 +39,46 @@ module _ (k : Kind) (i : ℕ) (K : ℕ → Type 0) (P : ℕ → ℕ → ℕ → 
 
     back_new : (t x : ℕ) → K x → t ≢ i → N t (star x) ≢ 0 → N (inverse k t) (N t (star x)) ≡ star x
     back_new t x h n d = by_stands t x (N (inverse k t) (N t (star x))) (star x) h n (λ y q.
-      let a : N t (star x) ≡ star y = new_stands t x y q in
-      let hy : y ≢ 0 = λ o. d (a ∙ (ap star o ∙ fresh.nothing)) in
-      let b : N (inverse k t) (star y) ≡ star x = new_stands (inverse k t) y x (stands_turned k i K P L w can t x y q hy) in cc)
+        let a : N t (star x) ≡ star y = new_stands t x y q in
+        let hy : y ≢ 0 = λ o. d (a ∙ (ap star o ∙ fresh.nothing)) in
+        let b : N (inverse k t) (star y) ≡ star x = new_stands (inverse k t) y x (stands_turned k i K P L w can t x y q hy) in cc)
 
     back_old : (t z : ℕ) → (IsNew K star z → ⊥) → (K z → t ≢ i) → N t z ≢ 0 → N (inverse k t) (N t z) ≡ z
     back_old t z n m d =
-      let a : N t z ≡ L t z = s.kept z t m (λ y h e. n (y, h, e)) in
-      let g : L t z ≢ 0 = λ o. d (a ∙ o) in
-      let b : L (inverse k t) (L t z) ≡ z = w.back t z g in
-      let stays : K (L t z) → inverse k t ≢ i = λ h e.
+        let a : N t z ≡ L t z = s.kept z t m (λ y h e. n (y, h, e)) in
+        let g : L t z ≢ 0 = λ o. d (a ∙ o) in
+        let b : L (inverse k t) (L t z) ≡ z = w.back t z g in
+        let stays : K (L t z) → inverse k t ≢ i = λ h e.
         let ti : t ≡ i = sym (inverse_twice k t) ∙ (ap (inverse k) e ∙ can.own) in
         let hz : K (L i (L t z)) = can.carried (L t z) i h (inl refl) (λ o. dart_of_link k L w t z g (sym b ∙ (ap (λ j. L j (L t z)) e ∙ o))) in
         m (rw (ap (λ j. L j (L t z)) (sym e) ∙ b) at hz) ti in
-      let c : N (inverse k t) (L t z) ≡ L (inverse k t) (L t z) = s.kept (L t z) (inverse k t) stays (λ y h e. fresh_link k L w K star fresh t z (y, h, e)) in cc
+        let c : N (inverse k t) (L t z) ≡ L (inverse k t) (L t z) = s.kept (L t z) (inverse k t) stays (λ y h e. fresh_link k L w K star fresh t z (y, h, e)) in cc
 
     pub back_at : (t z : ℕ) → N t z ≢ 0 → N (inverse k t) (N t z) ≡ z
     back_at t z d = by_cases (IsNew K star z) (N (inverse k t) (N t z)) z
-      (λ v. let x : ℕ = v.0 in let h : K x = v.1 in rw v.2 (⊎_elim
+        (λ v. let x : ℕ = v.0 in let h : K x = v.1 in rw v.2 (⊎_elim
         (λ (e : t ≡ i). let a : N i (star x) ≡ x = s.old x h in let b : N i x ≡ star x = s.new x h in cc (can.own))
         (λ (n : t ≢ i). back_new t x h n (rw v.2 at d))
         (same_or_not t i)))
-      (λ n. by_cases (K z) (N (inverse k t) (N t z)) z
+        (λ n. by_cases (K z) (N (inverse k t) (N t z)) z
         (λ h. ⊎_elim
-          (λ (e : t ≡ i). let a : N i (star z) ≡ z = s.old z h in let b : N i z ≡ star z = s.new z h in cc (can.own))
-          (λ (m : t ≢ i). back_old t z n (λ _. m) d)
-          (same_or_not t i))
+        (λ (e : t ≡ i). let a : N i (star z) ≡ z = s.old z h in let b : N i z ≡ star z = s.new z h in cc (can.own))
+        (λ (m : t ≢ i). back_old t z n (λ _. m) d)
+        (same_or_not t i))
         (λ h. back_old t z n (λ g. absurd (h g)) d))
 
     pub apart_at : (t z : ℕ) → inverse k t ≡ t → z ≢ 0 → N t z ≢ z
     apart_at t z own hz e =
-      let old : IsNew K star z → ⊥ = λ v. let x : ℕ = v.0 in let h : K x = v.1 in
+        let old : IsNew K star z → ⊥ = λ v. let x : ℕ = v.0 in let h : K x = v.1 in
         ⊎_elim
-          (λ (q : t ≡ i). fresh.outside x h (let a : N i (star x) ≡ x = s.old x h in let b : star x ≡ x = cc (v.2) in rw b h))
-          (λ (q : t ≢ i). stands_some k i K P L w can t x h q (λ y st.
-            let a : N t (star x) ≡ star y = new_stands t x y st in
-            let b : star x ≡ star y = cc (v.2) in
-            ⊎_elim
-              (λ (g : K y). let c : x ≡ y = fresh.one x y h g b in stands_apart k i K P L w can t x (can.dart x h) own (rw (← c) at st))
-              (λ (o : y ≡ 0). fresh.dart x h (b ∙ (ap star o ∙ fresh.nothing)))
-              (stands_end k i K P L w can t x y st)))
-          (same_or_not t i) in
-      let inside : K z → t ≢ i = λ h q. old (z, h, let b : N i z ≡ star z = s.new z h in cc) in
-      w.apart t z own hz (sym (s.kept z t inside (λ y h g. old (y, h, g))) ∙ e)
+        (λ (q : t ≡ i). fresh.outside x h (let a : N i (star x) ≡ x = s.old x h in let b : star x ≡ x = cc (v.2) in rw b h))
+        (λ (q : t ≢ i). stands_some k i K P L w can t x h q (λ y st.
+        let a : N t (star x) ≡ star y = new_stands t x y st in
+        let b : star x ≡ star y = cc (v.2) in
+        ⊎_elim
+        (λ (g : K y). let c : x ≡ y = fresh.one x y h g b in stands_apart k i K P L w can t x (can.dart x h) own (rw (← c) at st))
+        (λ (o : y ≡ 0). fresh.dart x h (b ∙ (ap star o ∙ fresh.nothing)))
+        (stands_end k i K P L w can t x y st)))
+        (same_or_not t i) in
+        let inside : K z → t ≢ i = λ h q. old (z, h, let b : N i z ≡ star z = s.new z h in cc) in
+        w.apart t z own hz (sym (s.kept z t inside (λ y h g. old (y, h, g))) ∙ e)

@@ -1,5 +1,5 @@
 -- On a closed path each dart has a next one, and comes next after one.
-use Rattle.std.proofs.Common.{ℕ, zero, suc, ◌≡◌, ◌≢◌, ◌+◌, ◌-◌, ◌<◌, ◌≤◌, ◌⊎◌, refl, sym, ap, inl, inr, ⊎_elim, ◌∙◌, arith, List, length, slice_index, slice_index_or, Contains}
+use Rattle.std.proofs.Common.{ℕ, zero, suc, ◌≡◌, ◌≢◌, ◌-◌, ◌<◌, ⊎_elim, ◌∙◌, arith, List, length, slice_index, Contains}
 use Rattle.std.proofs.lemmas.List.{get_or_default}
 use Rattle.map_defs.specs.Insertion.{IsNext, inside, around}
 use Rattle.link_laws.proofs.Basics.{same_or_not}
@@ -17,9 +17,9 @@ next_held path b c (around p l) = (held_at path p (omega arith), held_at path 0 
 
 pub has_next : (path : List ℕ) (b : ℕ) → Contains path b → (c : ℕ) × IsNext path b c
 has_next path b h = ⊎_elim
-  (λ (e : suc h.0 ≡ length path). (slice_index path 0, rw (← held_is path b h) (around h.0 e)))
-  (λ (n : suc h.0 ≢ length path). (slice_index path (suc h.0), rw (← held_is path b h) (inside h.0 (let l : h.0 < length path = h.1 in omega arith))))
-  (same_or_not (suc h.0) (length path))
+    (λ (e : suc h.0 ≡ length path). (slice_index path 0, rw (← held_is path b h) (around h.0 e)))
+    (λ (n : suc h.0 ≢ length path). (slice_index path (suc h.0), rw (← held_is path b h) (inside h.0 (let l : h.0 < length path = h.1 in omega arith))))
+    (same_or_not (suc h.0) (length path))
 
 before : (path : List ℕ) (p : ℕ) → p < length path → (a : ℕ) × IsNext path a (slice_index path p)
 before path zero l = (slice_index path (length path - 1), around (length path - 1) (omega arith))

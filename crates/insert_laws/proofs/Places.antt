@@ -1,5 +1,5 @@
 -- Where a link stands beside the link of an insertion.
-use Rattle.std.proofs.Common.{ℕ, zero, suc, ◌≡◌, ◌≢◌, ◌+◌, ◌<◌, ◌≤◌, ◌⊎◌, refl, sym, ap, inl, inr, ⊎_elim, ◌∙◌, arith}
+use Rattle.std.proofs.Common.{ℕ, zero, suc, ◌≡◌, ◌≢◌, ◌+◌, ◌<◌, refl, ap, inl, inr, ⊎_elim, ◌∙◌, arith}
 use Rattle.std.proofs.lemmas.Bool.{cases_order}
 use Rattle.map_defs.specs.Kind.{Kind, alpha, beta, inverse, place, IsDistant}
 use Rattle.map_defs.specs.Insertion.{IsJustBelow}
@@ -15,11 +15,11 @@ pub data IsBeside (k : Kind) (i t : ℕ) : Type 0 where
 by_place : (k : Kind) (i t : ℕ) → (place k t ≡ place k i → t ≡ i) → (place k t ≡ place k i + 1 → t ≡ suc i) → IsBeside k i t
 unfolding IsDistant
 by_place k i t e s = ⊎_elim (λ (h : place k t ≡ place k i). same (e h))
-  (λ h. ⊎_elim
+    (λ h. ⊎_elim
     (λ (l : place k t < place k i). ⊎_elim (λ (b : place k t + 1 ≡ place k i). below b) (λ (n : place k t + 1 ≢ place k i). far (inr (omega arith))) (same_or_not (place k t + 1) (place k i)))
     (λ (l : place k i < place k t). ⊎_elim (λ (b : place k t ≡ place k i + 1). next (s b)) (λ (n : place k t ≢ place k i + 1). far (inl (omega arith))) (same_or_not (place k t) (place k i + 1)))
     h)
-  (cases_order (place k t) (place k i))
+    (cases_order (place k t) (place k i))
 
 pub link_cases : (k : Kind) (i t : ℕ) → inverse k i ≡ i → IsBeside k i t
 link_cases alpha i t own = by_place alpha i t (λ e. e) (λ e. omega arith)

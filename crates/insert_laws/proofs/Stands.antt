@@ -1,13 +1,12 @@
 -- Where the links of a new dart lead: link t of the new dart of x leads to the new dart of y.
-use Rattle.std.proofs.Common.{ℕ, zero, suc, ◌≡◌, ◌≢◌, ◌+◌, ◌⊎◌, refl, sym, ap, inl, inr, ⊎_elim, ◌∙◌, arith}
+use Rattle.std.proofs.Common.{ℕ, suc, ◌≡◌, ◌≢◌, ◌+◌, refl, sym, ap, inl, inr, ⊎_elim, ◌∙◌, arith}
 use Rattle.map_defs.specs.Kind.{Kind, inverse, place, IsDistant}
 use Rattle.map_defs.specs.Links.{Links}
 use Rattle.map_defs.specs.Laws.{Laws}
-use Rattle.map_defs.specs.Births.{IsFresh}
-use Rattle.map_defs.specs.Insertion.{IsJustBelow, IsInsertable, IsInserted, GoesAlong}
-use Rattle.link_laws.proofs.Basics.{stable, same_or_not, inverse_twice, IsDistant-turned, IsDistant-inverse_left, IsDistant-inverse_right, IsDistant-inverses}
+use Rattle.map_defs.specs.Insertion.{IsInsertable, GoesAlong}
+use Rattle.link_laws.proofs.Basics.{same_or_not, IsDistant-turned, IsDistant-inverse_right, IsDistant-inverses}
 use Rattle.insert_laws.proofs.Fresh.{InOrNone}
-use Rattle.insert_laws.proofs.Places.{IsBeside, same, next, below, far, link_cases, next_own, below_inverse, place_near, below_apart, next_place}
+use Rattle.insert_laws.proofs.Places.{IsBeside, same, next, below, far, link_cases, next_own, place_near}
 
 -- for a dart x of K: over link i at the next link, along a distant link, or by a pair
 pub data Leads (k : Kind) (i : ℕ) (P : ℕ → ℕ → ℕ → Type 0) (L : Links) : ℕ → ℕ → ℕ → Type 0 where
@@ -46,11 +45,11 @@ module _ (k : Kind) (i : ℕ) (K : ℕ → Type 0) (P : ℕ → ℕ → ℕ → 
     where
       turn : Leads k i P L t x y → Leads k i P L (inverse k t) y x
       turn (over e g) =
-        let b : L (inverse k i) (L i x) ≡ x = w.back i x (λ z. n (g ∙ z)) in
-        over (ap (inverse k) e ∙ next_own k i can.own) (cc (can.own))
+          let b : L (inverse k i) (L i x) ≡ x = w.back i x (λ z. n (g ∙ z)) in
+          over (ap (inverse k) e ∙ next_own k i can.own) (cc (can.own))
       turn (along f g) =
-        let b : L (inverse k (inverse k t)) (L (inverse k t) x) ≡ x = w.back (inverse k t) x (λ z. n (g ∙ z)) in
-        along (IsDistant-inverse_right k i t f) (cc)
+          let b : L (inverse k (inverse k t)) (L (inverse k t) x) ≡ x = w.back (inverse k t) x (λ z. n (g ∙ z)) in
+          along (IsDistant-inverse_right k i t f) (cc)
       turn (paired p) = paired (can.turned x y t p n)
 
   -- each link of a new dart but link i leads somewhere
@@ -76,39 +75,43 @@ module _ (k : Kind) (i : ℕ) (K : ℕ → Type 0) (P : ℕ → ℕ → ℕ → 
 
   over_along : (t j x y z : ℕ) → t ≡ suc i → y ≡ L i x → IsDistant k i j → z ≡ L (inverse k j) x → InOrNone K y → InOrNone K z → Square k i K P L t j y z
   over_along t j x y z e a f b hy hz =
-    let q : L (inverse k i) (L (inverse k j) x) ≡ L (inverse k (inverse k j)) (L i x) = w.square i (inverse k j) x (IsDistant-inverse_right k i j f) in
-    let c : L (inverse k (inverse k j)) y ≡ L i z = cc (can.own) in
-    ( L i z
-    , from (inverse k j) y (L i z) hy (λ _. along (IsDistant-inverse_right k i j f) (sym c)) (λ o. sym c ∙ (ap (L (inverse k (inverse k j))) o ∙ w.nil (inverse k (inverse k j))))
-    , from (inverse k t) z (L i z) hz (λ _. over (ap (inverse k) e ∙ next_own k i can.own) refl) (λ o. ap (L i) o ∙ w.nil i) )
+      let q : L (inverse k i) (L (inverse k j) x) ≡ L (inverse k (inverse k j)) (L i x) = w.square i (inverse k j) x (IsDistant-inverse_right k i j f) in
+      let c : L (inverse k (inverse k j)) y ≡ L i z = cc (can.own) in (
+        L i z,
+        from (inverse k j) y (L i z) hy (λ _. along (IsDistant-inverse_right k i j f) (sym c)) (λ o. sym c ∙ (ap (L (inverse k (inverse k j))) o ∙ w.nil (inverse k (inverse k j)))),
+        from (inverse k t) z (L i z) hz (λ _. over (ap (inverse k) e ∙ next_own k i can.own) refl) (λ o. ap (L i) o ∙ w.nil i),
+      )
 
   over_paired : (t j x y z : ℕ) → t ≡ suc i → y ≡ L i x → P x z j → InOrNone K y → InOrNone K z → Square k i K P L t j y z
   over_paired t j x y z e a p hy hz =
-    let g : GoesAlong k i j i = inl refl in
-    let own : inverse k i ≡ i = can.own in
-    ( L i z
-    , from (inverse k j) y (L i z) hy
-        (λ h. paired (rw (a, ← ap (λ u. L u z) own) (can.across x z j i p g (λ o. can.dart y h (a ∙ o)))))
-        (λ o. ap (λ u. L u z) (sym own) ∙ can.even x z j i p g (sym a ∙ o))
-    , from (inverse k t) z (L i z) hz (λ _. over (ap (inverse k) e ∙ next_own k i can.own) refl) (λ o. ap (L i) o ∙ w.nil i) )
+      let g : GoesAlong k i j i = inl refl in
+      let own : inverse k i ≡ i = can.own in (
+        L i z,
+        from (inverse k j) y (L i z) hy
+            (λ h. paired (rw (a, ← ap (λ u. L u z) own) (can.across x z j i p g (λ o. can.dart y h (a ∙ o)))))
+            (λ o. ap (λ u. L u z) (sym own) ∙ can.even x z j i p g (sym a ∙ o)),
+        from (inverse k t) z (L i z) hz (λ _. over (ap (inverse k) e ∙ next_own k i can.own) refl) (λ o. ap (L i) o ∙ w.nil i),
+      )
 
   along_along : (t j x y z : ℕ) → IsDistant k t j → IsDistant k i t → y ≡ L (inverse k t) x → IsDistant k i j → z ≡ L (inverse k j) x → InOrNone K y → InOrNone K z → Square k i K P L t j y z
   along_along t j x y z far' f a g b hy hz =
-    let q : L (inverse k (inverse k t)) (L (inverse k j) x) ≡ L (inverse k (inverse k j)) (L (inverse k t) x) = w.square (inverse k t) (inverse k j) x (IsDistant-inverses k t j far') in
-    let c : L (inverse k (inverse k j)) y ≡ L (inverse k (inverse k t)) z = cc in
-    ( L (inverse k (inverse k t)) z
-    , from (inverse k j) y (L (inverse k (inverse k t)) z) hy (λ _. along (IsDistant-inverse_right k i j g) (sym c)) (λ o. sym c ∙ (ap (L (inverse k (inverse k j))) o ∙ w.nil (inverse k (inverse k j))))
-    , from (inverse k t) z (L (inverse k (inverse k t)) z) hz (λ _. along (IsDistant-inverse_right k i t f) refl) (λ o. ap (L (inverse k (inverse k t))) o ∙ w.nil (inverse k (inverse k t))) )
+      let q : L (inverse k (inverse k t)) (L (inverse k j) x) ≡ L (inverse k (inverse k j)) (L (inverse k t) x) = w.square (inverse k t) (inverse k j) x (IsDistant-inverses k t j far') in
+      let c : L (inverse k (inverse k j)) y ≡ L (inverse k (inverse k t)) z = cc in (
+        L (inverse k (inverse k t)) z,
+        from (inverse k j) y (L (inverse k (inverse k t)) z) hy (λ _. along (IsDistant-inverse_right k i j g) (sym c)) (λ o. sym c ∙ (ap (L (inverse k (inverse k j))) o ∙ w.nil (inverse k (inverse k j)))),
+        from (inverse k t) z (L (inverse k (inverse k t)) z) hz (λ _. along (IsDistant-inverse_right k i t f) refl) (λ o. ap (L (inverse k (inverse k t))) o ∙ w.nil (inverse k (inverse k t))),
+      )
 
   along_paired : (t j x y z : ℕ) → IsDistant k t j → IsDistant k i t → y ≡ L (inverse k t) x → P x z j → InOrNone K y → InOrNone K z → Square k i K P L t j y z
   along_paired t j x y z far' f a p hy hz =
-    let g : GoesAlong k i j (inverse k t) = inr (IsDistant-inverse_right k i t f, IsDistant-inverse_right k j t (IsDistant-turned k t j far')) in
-    let v : ℕ = L (inverse k (inverse k t)) z in
-    ( v
-    , from (inverse k j) y v hy
-        (λ h. paired (rw a (can.across x z j (inverse k t) p g (λ o. can.dart y h (a ∙ o)))))
-        (λ o. can.even x z j (inverse k t) p g (sym a ∙ o))
-    , from (inverse k t) z v hz (λ _. along (IsDistant-inverse_right k i t f) refl) (λ o. ap (L (inverse k (inverse k t))) o ∙ w.nil (inverse k (inverse k t))) )
+      let g : GoesAlong k i j (inverse k t) = inr (IsDistant-inverse_right k i t f, IsDistant-inverse_right k j t (IsDistant-turned k t j far')) in
+      let v : ℕ = L (inverse k (inverse k t)) z in (
+        v,
+        from (inverse k j) y v hy
+            (λ h. paired (rw a (can.across x z j (inverse k t) p g (λ o. can.dart y h (a ∙ o)))))
+            (λ o. can.even x z j (inverse k t) p g (sym a ∙ o)),
+        from (inverse k t) z v hz (λ _. along (IsDistant-inverse_right k i t f) refl) (λ o. ap (L (inverse k (inverse k t))) o ∙ w.nil (inverse k (inverse k t))),
+      )
 
   turn_square : (t j y z : ℕ) → Square k i K P L j t z y → Square k i K P L t j y z
   turn_square t j y z s = (s.0, s.2, s.1)
@@ -123,8 +126,8 @@ module _ (k : Kind) (i : ℕ) (K : ℕ → Type 0) (P : ℕ → ℕ → ℕ → 
   leads_square t j x y z f (paired p) (over e a) hy hz = turn_square t j y z (over_paired j t x z y e a p hz hy)
   leads_square t j x y z f (paired p) (along g b) hy hz = turn_square t j y z (along_paired j t x z y (IsDistant-turned k t j f) g b p hz hy)
   leads_square t j x y z f (paired p) (paired q) hy hz =
-    let a : place k t + 1 ≡ place k i = (can.begins x y t p).1 in
-    let b : place k j + 1 ≡ place k i = (can.begins x z j q).1 in absurd (place_near k t j (omega arith) f)
+      let a : place k t + 1 ≡ place k i = (can.begins x y t p).1 in
+      let b : place k j + 1 ≡ place k i = (can.begins x z j q).1 in absurd (place_near k t j (omega arith) f)
 
   pub stands_square : (t j x y z : ℕ) → IsDistant k t j → Stands k i K P L t x y → Stands k i K P L j x z → Square k i K P L t j y z
   stands_square t j x y z f (none a b) (none c d) = (0, none b refl, none d refl)

@@ -1,9 +1,9 @@
 -- What the laws of a map say of single links.
-use Rattle.std.proofs.Common.{ℕ, ◌≡◌, ◌≢◌, ◌↔◌, refl, sym, ap, inl, inr, ⊎_elim, ◌∙◌}
+use Rattle.std.proofs.Common.{ℕ, ◌≡◌, ◌≢◌, ◌↔◌, sym, ap, ◌∙◌}
 use Rattle.map_defs.specs.Kind.{Kind, inverse, IsDistant}
 use Rattle.map_defs.specs.Links.{Links}
 use Rattle.map_defs.specs.Laws.{Laws}
-use Rattle.link_laws.proofs.Basics.{stable, same_or_not, inverse_twice, IsDistant-inverses}
+use Rattle.link_laws.proofs.Basics.{stable, inverse_twice, IsDistant-inverses}
 
 -- what a linked dart is linked to is a dart, and so is it itself
 pub dart_of_link : (k : Kind) (L : Links) → Laws k L → (i x : ℕ) → L i x ≢ 0 → x ≢ 0
@@ -22,11 +22,12 @@ link_one k L w i x y h e = sym (w.back i x h) ∙ (ap (L (inverse k i)) e ∙ w.
 
 -- the two ends of a link are alike free at each distant link
 pub alike : (k : Kind) (L : Links) → Laws k L → (i j x : ℕ) → IsDistant k i j → L i x ≢ 0 → (L j x ≡ 0) ↔ (L (inverse k j) (L i x) ≡ 0)
-alike k L w i j x far h =
-  ( (λ e. sym (w.square i j x far) ∙ (ap (L (inverse k i)) e ∙ w.nil (inverse k i)))
-  , λ e. stable (L j x) 0 (λ n. h (
+alike k L w i j x far h = (
+  (λ e. sym (w.square i j x far) ∙ (ap (L (inverse k i)) e ∙ w.nil (inverse k i))),
+  λ e. stable (L j x) 0 (λ n. h (
       ap (λ t. L t x) (sym (inverse_twice k i))
       ∙ (ap (L (inverse k (inverse k i))) (sym (w.back j x n))
       ∙ (w.square (inverse k i) (inverse k j) (L j x) (IsDistant-inverses k i j far)
       ∙ (ap (L (inverse k (inverse k j))) (w.square i j x far ∙ e)
-      ∙ w.nil (inverse k (inverse k j))))))))
+      ∙ w.nil (inverse k (inverse k j))))))),
+)

@@ -105,7 +105,9 @@ AreAlphaEdgePaired L d e = IsGood alpha L (IsPairing 1) (AlphaEdgePairs L d e)
 abbrev pub IsCornerWord : Word → Type 0
 IsCornerWord w = (j : ℕ) × (3 ≤ j) × (w ≡ two_links 0 j)
 
--- the corner of d in a combinatorial map, with its copies on the other sides of the face
+-- The corner of d in a combinatorial map, with its copies on the other sides of the face. An edge asks that e does not
+-- lie in it: on one dart that beta 1 joins to itself, the new dart of an edge to itself would be joined to itself by
+-- beta 2.
 abbrev pub InBetaCorner : Links → ℕ → ℕ → Type 0
 InBetaCorner L d = InOrbit (Leads L IsCornerWord) d
 

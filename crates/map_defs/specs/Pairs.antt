@@ -17,7 +17,8 @@ pub record IsGood (k : Kind) (L : Links) (J : ℕ → Type 0) (P : ℕ → ℕ �
   pub one : (x y z t : ℕ) → P x y t → P x z t → y ≡ z
   -- a link that is its own inverse pairs no dart with itself
   pub moves : (x y t : ℕ) → P x y t → inverse k t ≡ t → x ≢ y
-  -- the two darts of a triple are alike free at the links of J
+  -- The two darts of a triple are alike free at the links of J. Where alpha 0 joins darts 1 and 2, dart 3 without links
+  -- could else be sewn to dart 1 by alpha 2, and dart 2 would lack what dart 1 has.
   pub even : (x y t j : ℕ) → P x y t → J j → (L j x ≡ 0) ↔ (L (inverse k j) y ≡ 0)
 
 -- the one seed d, e, i

@@ -8,10 +8,10 @@ use Rattle.back_laws.proofs.removal_undoes_vertex_of_alpha.Goals as goal
 
 pub returns-clause-possible : goal.returns-clause-possible
 returns-clause-possible c d x star L N w hd fresh s h =
-  let can : IsInsertable alpha 0 (InCell alpha L 1 d) NoPairs L = alpha_vertex_can L d hd in
-  alpha_removable 0 (InCell alpha L 1 d) NoPairs star L w can fresh N s d here (alpha_vertex_grows L d can) x h
+    let can : IsInsertable alpha 0 (InCell alpha L 1 d) NoPairs L = alpha_vertex_can L d hd in
+    alpha_removable 0 (InCell alpha L 1 d) NoPairs star L w can fresh N s d here (alpha_vertex_grows L d can) x h
 
 pub returns-clause-back : goal.returns-clause-back
 returns-clause-back c d x star L N M w hd fresh s h r =
-  let can : IsInsertable alpha 0 (InCell alpha L 1 d) NoPairs L = alpha_vertex_can L d hd in
-  alpha_back 0 (InCell alpha L 1 d) NoPairs star L w can fresh N s d here (alpha_vertex_grows L d can) x h M r
+    let can : IsInsertable alpha 0 (InCell alpha L 1 d) NoPairs L = alpha_vertex_can L d hd in
+    alpha_back 0 (InCell alpha L 1 d) NoPairs star L w can fresh N s d here (alpha_vertex_grows L d can) x h M r

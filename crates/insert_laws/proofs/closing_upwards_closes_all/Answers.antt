@@ -4,4 +4,4 @@ use Rattle.insert_laws.proofs.closing_upwards_closes_all.Goals as goal
 
 pub returns : goal.returns
 returns c k i Live LiveAfter keys made star L N own w counted live numbers s born full =
-  closed_linked_upto k i own (λ x. IsTrue (Live x)) keys made star L N w counted live numbers s (λ x. IsTrue (LiveAfter x)) born full
+    closed_linked_upto k i own (λ x. IsTrue (Live x)) keys made star L N w counted live numbers s (λ x. IsTrue (LiveAfter x)) born full

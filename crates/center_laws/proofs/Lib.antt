@@ -1,0 +1,4 @@
+pub mod Hung
+pub mod HangingSets
+pub mod BetaCentre
+pub mod BetaDangle
