@@ -15,7 +15,7 @@ orbit_nonzero L W {d = d} {x = x} n o = orbit_dart (Leads L W) (λ u v s. s.3) d
 
 module _ (k : Kind) (L : Links) (w : Laws k L) (made : ℕ) (bound : IsMadeUpTo made L) where
   led_low : (t u y : ℕ) → L t u ≡ y → y ≢ 0 → y ≤ made
-  led_low t u y e n = bound (inverse k t) y (λ z. n (cc (z, e, u_zero z, w.nil t)))
+  led_low t u y e n = bound (inverse k t) y (λ z. n (cc (e, u_zero z, w.nil t)))
     where
       back : L (inverse k t) (L t u) ≡ u
       back = w.back t u (λ z. n (cc (z, e)))

@@ -60,6 +60,10 @@ known (Some v) = v
 abbrev pub IsValuedWith : Kind → ℕ → Links → (ℕ → Option Value) → ℕ → ℕ → Type 0
 IsValuedWith k i L values x y = InCell k L i x y × IsSome (values x)
 
+-- the darts of a cell of dimension i have one value, or none has one
+abbrev pub AreEqualOnCells : Kind → ℕ → Links → (ℕ → Type 0) → (ℕ → Option Value) → Type 0
+AreEqualOnCells k i L Live values = (x y : ℕ) → Live x → InCell k L i x y → values x ≡ values y
+
 -- The values after a change of links are carried from those before, over the whole map, in dimension i.
 abbrev pub AreCarried : Kind → ℕ → Meaning → Links → (ℕ → Type 0) → (ℕ → Option Value) → Links → (ℕ → Type 0) → (ℕ → Option Value) → Type 0
 AreCarried k i rule L Live values N LiveAfter valuesAfter = (d : ℕ) → LiveAfter d → IsCarried rule (λ x. known (values x)) (λ x. Live x × LiveAfter x) (IsValuedWith k i L values) (InCell k N i) d (valuesAfter d)

@@ -7,7 +7,9 @@ use Rattle.map_defs.specs.Cells.{InCell}
 use Rattle.map_defs.specs.Walks.{step}
 use Rattle.map_defs.specs.Removal.{CommutesAt, IsFlatAt, JoinsNoDart, IsBridged}
 
--- what contraction of an i-cell asks of each dart b of it: it is never possible for a vertex, and always for an edge
+-- What contraction of an i-cell asks of each dart b of it: it is never possible for a vertex, and always for an edge. The
+-- smallest map that shows why: beta, link 1 leading from 3 to 2 and from 4 to 4, link 2 joining 1 2 and 3 4: without the
+-- face of 2, link 2 leads from 1 to 4 and not back.
 abbrev pub IsContractibleAt : Kind → Links → ℕ → ℕ → Type 0
 IsContractibleAt k L zero b = ⊥
 IsContractibleAt k L (suc zero) b = Unit {0}
@@ -25,7 +27,8 @@ across_contracted beta L (suc (suc zero)) c = L 2 (L 0 c)
 across_contracted beta L (suc (suc (suc i))) c = L (suc (suc (suc i))) (L (suc (suc i)) c)
 
 -- A combinatorial map's further condition: without the i-cell C no remaining dart is joined to itself by a link from 2
--- upwards.
+-- upwards. The smallest map that shows why: two faces of one side each, 1 and 2, joined by link 2; without the face of 1,
+-- link 2 joins 2 to itself.
 abbrev pub StaysApartContracted : Kind → Links → ℕ → (ℕ → Type 0) → Type 0
 StaysApartContracted alpha L i C = Unit {0}
 StaysApartContracted beta L zero C = Unit {0}

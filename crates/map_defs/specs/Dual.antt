@@ -4,14 +4,16 @@ use Rattle.std.specs.Prelude.{ℕ, ◌≡◌, ◌≢◌, ◌<◌, ◌≤◌, ◌
 use Rattle.map_defs.specs.Kind.{Kind, alpha, beta}
 use Rattle.map_defs.specs.Links.{Links, IsTurned, HasDimension}
 
--- in the dual of a combinatorial map no dart would be joined to itself
+-- In the dual of a combinatorial map no dart would be joined to itself. The smallest map that shows why, of dimension 3: a
+-- face with the two sides 1 and 2, joined by links 2 and 3; link 2 of the dual joins each to itself.
 abbrev pub StaysApartDual : Kind → ℕ → Links → (ℕ → Type 0) → Type 0
 StaysApartDual alpha n L Live = Unit {0}
 StaysApartDual beta n L Live = (i d : ℕ) → Live d → 2 ≤ i → i < n → L (n - i) (L n d) ≢ d
 
 -- a map of dimension n has a dual
 pub record IsDualable (k : Kind) (n : ℕ) (L : Links) (Live : ℕ → Type 0) : Type 0 where
-  -- no link of a live dart is free
+  -- No link of a live dart is free. The smallest map that shows why, of dimension 3: two faces of one side each, 2 and 3,
+  -- joined by link 3, and 1 joined to 3 by link 2; link 1 of the dual leads from 2, which has link 3, to 1, which has none.
   pub closed : (i d : ℕ) → Live d → i ≤ n → L i d ≢ 0
   pub apart : StaysApartDual k n L Live
 

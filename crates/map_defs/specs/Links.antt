@@ -11,7 +11,7 @@ pub record IsTurned (L : Links) : Type 0 where
   pub nothing : L 0 0 ≡ 0
   pub back : (x y : ℕ) → x ≢ 0 → y ≢ 0 → (L 1 x ≡ y) ↔ (L 0 y ≡ x)
 
--- only the darts up to made have links
+-- Only the darts up to made have links. Without such a bound a walk across a cell may go on for ever.
 abbrev pub IsMadeUpTo : ℕ → Links → Type 0
 IsMadeUpTo made L = (i d : ℕ) → L i d ≢ 0 → d ≤ made
 

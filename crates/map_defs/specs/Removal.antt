@@ -23,7 +23,9 @@ IsOpenAt L b = (L 2 b ≡ 0) × (L 2 (L 0 b) ≡ 0)
 abbrev pub IsFlatAt : Links → ℕ → Type 0
 IsFlatAt L b = (L 0 b ≢ 0) × (IsMatchedAt L b ⊎ IsOpenAt L b)
 
--- what removal of an i-cell asks of each dart b of it
+-- What removal of an i-cell asks of each dart b of it. The smallest maps that show why:
+-- alpha, 1 3, 2 5 and 4 6 joined by link 0, 3 6 by link 1, 2 6 and 4 5 by link 2: without the vertex of 2, 5 alone is 0-free.
+-- beta, link 1 leading from 2 to 1 and link 3 joining them: without the vertex of 2, dart 1 is still joined to it.
 abbrev pub IsRemovableAt : Kind → Links → ℕ → ℕ → Type 0
 IsRemovableAt alpha L i b = CommutesAt L (suc i) (suc (suc i)) b
 IsRemovableAt beta L zero b = IsFlatAt L b
@@ -44,7 +46,8 @@ abbrev pub JoinsNoDart : Links → ℕ → (ℕ → Type 0) → (ℕ → ℕ) �
 JoinsNoDart L i C Step = (x : ℕ) → x ≢ 0 → (C x → ⊥) → Walk C Step (L i x) x → ⊥
 
 -- A combinatorial map's further condition: without the i-cell C no remaining dart is joined to itself by a link from 2
--- upwards. A generalized map frees such a link.
+-- upwards. A generalized map frees such a link. The smallest map that shows why: a face with the two sides 1 and 2,
+-- joined by link 2; without the vertex of 2, link 2 joins 1 to itself.
 abbrev pub StaysApartWithout : Kind → Links → ℕ → (ℕ → Type 0) → Type 0
 StaysApartWithout alpha L i C = Unit {0}
 StaysApartWithout beta L zero C = (j x y : ℕ) → 2 ≤ j → x ≢ 0 → (C x → ⊥) → RunsTo L C x y → L j y ≢ x

@@ -8,7 +8,9 @@ use Rattle.map_defs.specs.Cells.{InCell}
 abbrev pub IsChanged : Links → Links → ℕ → Type 0
 IsChanged L N x = (t : ℕ) × (N t x ≢ L t x)
 
--- one old or new link joins x to a changed dart
+-- One old or new link joins x to a changed dart. The smallest map that shows why such darts count: beta, link 1 leading
+-- from 2 to itself and link 2 joining 1 and 2. Where link 1 of 2 is unsewn, the vertex of 1 loses 2, and no link of 1
+-- changes.
 abbrev pub IsBesideChanged : Links → Links → ℕ → Type 0
 IsBesideChanged L N x = (y : ℕ) × (t : ℕ) × IsChanged L N y × ((L t y ≡ x) ⊎ (N t y ≡ x))
 
@@ -21,7 +23,8 @@ IsReached k Live L N x = (Live x → ⊥) ⊎ IsChanged L N x ⊎ ((k ≡ beta) 
 abbrev pub IsTouched : Kind → Links → (ℕ → Type 0) → Links → (ℕ → Type 0) → ℕ → Type 0
 IsTouched k L Live N LiveAfter x = LiveAfter x × IsReached k Live L N x
 
--- the new i-cell of d is, as a set of darts, an old one; its darts lived before
+-- The new i-cell of d is, as a set of darts, an old one; its darts lived before. Without this a dart just born and alone
+-- would be an old cell, since a number without links is a cell by itself.
 pub record IsOldCell (k : Kind) (i : ℕ) (L : Links) (Live : ℕ → Type 0) (N : Links) (d : ℕ) : Type 0 where
   pub lived : (x : ℕ) → InCell k N i d x → Live x
   pub same : (x : ℕ) → InCell k N i d x ↔ InCell k L i d x

@@ -1,6 +1,6 @@
 -- Values, and the rules by which they merge and split. Source: the manual's merge and split functions; the table is this
 -- project's.
-use Rattle.std.specs.Prelude.{ℕ, ◌≡◌, ◌+ℤ◌, ℤ, pos, int_lt, cond, nat_eq, Option, Some, None}
+use Rattle.std.specs.Prelude.{ℕ, zero, suc, ◌≡◌, ◌+ℤ◌, ℤ, pos, int_lt, cond, nat_eq, Option, Some, None}
 use Rattle.std.specs.Int.{w64, saturate_signed, int_min, int_max, int_div_euclid, int_rem_euclid}
 
 -- a value: three whole numbers, which a map keeps within 64 bits
@@ -52,6 +52,11 @@ middle x y = int_div_euclid (x +ℤ y) (pos 2)
 abbrev pub dealt : ℕ → ℕ → ℤ → ℤ
 dealt k p v = cond (int_lt (pos p) (int_rem_euclid v (pos k))) (int_div_euclid v (pos k) +ℤ pos 1) (int_div_euclid v (pos k))
 
+-- the numbers f 0 to f (n - 1) added up
+abbrev pub total : ℕ → (ℕ → ℤ) → ℤ
+total zero f = pos 0
+total (suc n) f = total n f +ℤ f n
+
 abbrev pub dealt_value : ℕ → ℕ → Value → Value
 dealt_value k p v = record { a = dealt k p v.a; b = dealt k p v.b; c = dealt k p v.c }
 
@@ -76,6 +81,7 @@ share_by hook Host v k p = hook.share v k p
 abbrev pub meaning_of : Meaning → Rule → Meaning
 meaning_of hook rule = record { merged = merged_by hook rule.merge; share = share_by hook rule.split }
 
--- a cell that is not split keeps its value
+-- A cell that is not split keeps its value. Without this a cell far from a change would lose it, under a hook that gives
+-- each piece nothing.
 abbrev pub KeepsWhole : Meaning → Type 0
 KeepsWhole rule = (v : Value) → rule.share v 1 0 ≡ Some v

@@ -24,7 +24,8 @@ pub struct Answer {
 
 /// Runs the program on words, over files that hold all that the words need.
 pub fn run_over(alloc: Global, words: &[String], files: Vec<Held>) -> Result<Answer, AllocError>
-    requires { (name : List ℕ) → Needs (map string_bytes words.now) name → IsSome (held (files_of files.items) name) }
+    requires { (name : List ℕ) → Needs (map string_bytes words.now) name
+        → IsSome (held (files_of files.items) name) }
 {
     let mut shelf = SureShelf::new(files);
     let mut out = SureSink::new(alloc);
@@ -60,7 +61,12 @@ pub fn check_rows(rt: &impl Abort, alloc: Global, rows: &[Row]) -> Result<(), Al
     for row in rows {
         let script = Vec::from_slice(alloc, row.script.as_bytes())?;
         let answer = obey(alloc, script)?;
-        assert_eq!(rt; answer.text.as_slice(), row.text.as_bytes(), "{}", row.script);
+        assert_eq!(rt;
+            answer.text.as_slice(),
+            row.text.as_bytes(),
+            "{}",
+            row.script
+        );
         assert_eq!(rt; answer.status, row.status, "{}", row.script);
     }
     Ok(())

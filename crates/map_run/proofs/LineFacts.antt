@@ -29,7 +29,8 @@ pub AnswersStep-from : (before after : Option (List ℕ)) (s new : State) (line 
 AnswersStep-from before after s new line reply written result refused step same ok err w = record {
   piece = w.piece;
   appended = w.appended;
-  is = step-is s new line reply written result refused w.piece step same ok err w.is }
+  is = step-is s new line reply written result refused w.piece step same ok err w.is;
+}
 
 one-reply : (reply : Reply) → reply_text reply ≡ replies_text (reply ∷ [])
 one-reply reply = sym (append-nil (reply_text reply))
@@ -57,7 +58,8 @@ pub AnswersLine-from : (before after : Option (List ℕ)) (s new : State) (words
 AnswersLine-from before after s new words line result told p = record {
   piece = p.piece;
   appended = p.appended;
-  is = line-is s new words line result p.piece told p.is }
+  is = line-is s new words line result p.piece told p.is;
+}
 
 -- a line outside the grammar
 unread-is : (s : State) (words : List (List ℕ)) (written : Result (Unit {0}) PutFault) (result : Result Bool PutFault) (piece first : List ℕ) (more : List (List ℕ))
@@ -76,4 +78,5 @@ pub AnswersLine-unread : (before after : Option (List ℕ)) (s : State) (words :
 AnswersLine-unread before after s words written result first more are none ok err w = record {
   piece = w.piece;
   appended = w.appended;
-  is = unread-is s words written result w.piece first more are none ok err w.is }
+  is = unread-is s words written result w.piece first more are none ok err w.is;
+}

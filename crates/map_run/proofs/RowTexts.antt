@@ -36,9 +36,10 @@ rows_text-more rows k h =
 
 -- what comes after the first darts
 pub rows_text-rest : (rows : Rows) (k : ℕ) → (rest : List ℕ) × (rows_text rows ≡ rows_text (take k rows) ++ rest)
-rows_text-rest rows k =
-    (flat_map row_text (live_rows_from (length (take k rows)) (drop k rows)),
-    ap rows_text (sym (take-append-drop k rows)) ∙ rows_text-append (take k rows) (drop k rows))
+rows_text-rest rows k = (
+  flat_map row_text (live_rows_from (length (take k rows)) (drop k rows)),
+  ap rows_text (sym (take-append-drop k rows)) ∙ rows_text-append (take k rows) (drop k rows),
+)
 
 -- the rows end with a line
 pub rows_end : (d : ℕ) (rows : Rows) → EndsLine (flat_map row_text (live_rows_from d rows))

@@ -18,7 +18,8 @@ pub fn script_name(words: &[String]) -> Option<&str>
 }
 
 fn is_run_of_flat_map(run: &str, kind: &str, dim: &str, mesh: &str) -> bool
-    ensures { IsTrue result ↔ ((run.now ≡ codes "run") × (kind.now ≡ codes "g") × (dim.now ≡ codes "2") × (mesh.now ≡ codes "-")) }
+    ensures { IsTrue result
+        ↔ ((run.now ≡ codes "run") × (kind.now ≡ codes "g") × (dim.now ≡ codes "2") × (mesh.now ≡ codes "-")) }
 {
     run == "run" && kind == "g" && dim == "2" && mesh == "-"
 }

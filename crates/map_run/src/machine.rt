@@ -42,7 +42,8 @@ pub fn obey_line<S: Sink>(
     links: &mut Links<Alpha, 2>,
     out: &mut S,
 ) -> Result<bool, PutFault>
-    ensures answered { AnswersLine (S.written out.old) (S.written out.new) (state_of links.old) (state_of links.new) (words_of line.now) result }
+    ensures answered { AnswersLine (S.written out.old) (S.written out.new)
+        (state_of links.old) (state_of links.new) (words_of line.now) result }
     ensures cause { HasCause (S.faults out.old) (S.faults out.new) (IsErrOf result PutFault.Failed) }
 {
     let Ok(words) = script::split_words(alloc, line) else {
@@ -67,7 +68,8 @@ fn obey_polygon<S: Sink>(
     links: &mut Links<Alpha, 2>,
     out: &mut S,
 ) -> Result<bool, PutFault>
-    ensures answered { AnswersStep (S.written out.old) (S.written out.new) (state_of links.old) (state_of links.new) (Polygon sides) result }
+    ensures answered { AnswersStep (S.written out.old) (S.written out.new)
+        (state_of links.old) (state_of links.new) (Polygon sides) result }
     ensures cause { HasCause (S.faults out.old) (S.faults out.new) (IsErrOf result PutFault.Failed) }
 {
     match polygon(links, sides) {

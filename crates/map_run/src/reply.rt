@@ -30,7 +30,8 @@ fn reply_line(alloc: Global, reply: Reply) -> Result<Vec<u8>, AllocError>
 
 /// Writes a reply of one line.
 pub fn write_reply<S: Sink>(alloc: Global, out: &mut S, reply: Reply) -> Result<(), PutFault>
-    ensures written { Writes (S.written out.old) (S.written out.new) result (reply_text (reply_meaning reply)) }
+    ensures written { Writes (S.written out.old) (S.written out.new) result
+        (reply_text (reply_meaning reply)) }
     ensures cause { HasCause (S.faults out.old) (S.faults out.new) (IsErrOf result PutFault.Failed) }
 {
     match reply_line(alloc, reply) {
@@ -40,8 +41,13 @@ pub fn write_reply<S: Sink>(alloc: Global, out: &mut S, reply: Reply) -> Result<
 }
 
 /// Writes the listing of a map without values.
-pub fn write_listing<S: Sink>(alloc: Global, out: &mut S, links: &Links<Alpha, 2>) -> Result<(), PutFault>
-    ensures written { Writes (S.written out.old) (S.written out.new) result (listing_text (listing_with (state_of links.now).present [])) }
+pub fn write_listing<S: Sink>(
+    alloc: Global,
+    out: &mut S,
+    links: &Links<Alpha, 2>,
+) -> Result<(), PutFault>
+    ensures written { Writes (S.written out.old) (S.written out.new) result
+        (listing_text (listing_with (state_of links.now).present [])) }
     ensures cause { HasCause (S.faults out.old) (S.faults out.new) (IsErrOf result PutFault.Failed) }
 {
     let mut line = Vec::new(alloc);
@@ -50,8 +56,13 @@ pub fn write_listing<S: Sink>(alloc: Global, out: &mut S, links: &Links<Alpha, 2
     out.put(b"end\n")
 }
 
-fn write_header<S: Sink>(line: &mut Vec<u8>, out: &mut S, links: &Links<Alpha, 2>) -> Result<(), PutFault>
-    ensures written { Writes (S.written out.old) (S.written out.new) result (header_text (listing_with (state_of links.now).present [])) }
+fn write_header<S: Sink>(
+    line: &mut Vec<u8>,
+    out: &mut S,
+    links: &Links<Alpha, 2>,
+) -> Result<(), PutFault>
+    ensures written { Writes (S.written out.old) (S.written out.new) result
+        (header_text (listing_with (state_of links.now).present [])) }
     ensures cause { HasCause (S.faults out.old) (S.faults out.new) (IsErrOf result PutFault.Failed) }
 {
     line.clear();
@@ -61,8 +72,13 @@ fn write_header<S: Sink>(line: &mut Vec<u8>, out: &mut S, links: &Links<Alpha, 2
     }
 }
 
-fn write_rows<S: Sink>(line: &mut Vec<u8>, out: &mut S, links: &Links<Alpha, 2>) -> Result<(), PutFault>
-    ensures written { Writes (S.written out.old) (S.written out.new) result (flat_map row_text (live_rows_from 0 links.now)) }
+fn write_rows<S: Sink>(
+    line: &mut Vec<u8>,
+    out: &mut S,
+    links: &Links<Alpha, 2>,
+) -> Result<(), PutFault>
+    ensures written { Writes (S.written out.old) (S.written out.new) result
+        (flat_map row_text (live_rows_from 0 links.now)) }
     ensures cause { HasCause (S.faults out.old) (S.faults out.new) (IsErrOf result PutFault.Failed) }
 {
     for number in 0..links.made() {
@@ -72,8 +88,14 @@ fn write_rows<S: Sink>(line: &mut Vec<u8>, out: &mut S, links: &Links<Alpha, 2>)
 }
 
 /// Writes the row of a dart, if it is live.
-fn write_row<S: Sink>(line: &mut Vec<u8>, out: &mut S, links: &Links<Alpha, 2>, dart: Dart) -> Result<(), PutFault>
-    ensures written { Writes (S.written out.old) (S.written out.new) result (flat_map row_text (live_rows_from dart (row_at links.now dart ∷ []))) }
+fn write_row<S: Sink>(
+    line: &mut Vec<u8>,
+    out: &mut S,
+    links: &Links<Alpha, 2>,
+    dart: Dart,
+) -> Result<(), PutFault>
+    ensures written { Writes (S.written out.old) (S.written out.new) result
+        (flat_map row_text (live_rows_from dart (row_at links.now dart ∷ []))) }
     ensures cause { HasCause (S.faults out.old) (S.faults out.new) (IsErrOf result PutFault.Failed) }
 {
     if !links.is_live(dart) {

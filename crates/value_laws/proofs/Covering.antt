@@ -1,5 +1,5 @@
 -- A set that touches a dimension covers the old labels there, where they are those of the valued cells.
-use Rattle.std.proofs.Common.{ℕ, ◌≡◌, ◌≢◌, ◌⊎◌, ◌↔◌, inl, inr, refl, sym, ap, subst, ◌∙◌, Option, Some, None}
+use Rattle.std.proofs.Common.{ℕ, ◌≡◌, ◌⊎◌, inl, inr, refl, sym, ◌∙◌, Option, Some, None}
 use Rattle.map_defs.specs.Kind.{Kind}
 use Rattle.map_defs.specs.Links.{Links}
 use Rattle.map_defs.specs.Laws.{Laws}
@@ -14,10 +14,12 @@ module _ (k : Kind) (L N : Links) (w : Laws k L) (Live LiveAfter : ℕ → Type 
     where
       lived : Live d
       lived = o.lived d here
+
       inside : (x : ℕ) → InCell k N i d x → label x ≡ Some c
       inside x h =
           let a : IsAlike label d x = (labelled d x lived (o.lived x h)).1 ((o.same x).0 h, (c, e)) in
           a.2 ∙ (sym a.1 ∙ e)
+
       outside : (x : ℕ) → LiveAfter x → label x ≡ Some c → InCell k N i d x
       outside x l f = go (decide x)
         where
@@ -40,6 +42,7 @@ module _ (k : Kind) (L N : Links) (w : Laws k L) (Live LiveAfter : ℕ → Type 
     where
       old : IsOldCell k i L Live N d
       old = touches d l none
+
       go : (v : Option ℕ) → label d ≡ v → ((x : ℕ) → InCell k N i d x → label x ≡ None) ⊎ ((c : ℕ) × IsWhole LiveAfter (InCell k N i d) label c)
       go None e = inl (bare d old e)
       go (Some c) e = inr (c, whole d old c e)

@@ -5,3 +5,6 @@ pub mod Carrying
 pub mod Renaming
 pub mod Keeping
 pub mod Rules
+pub mod MapValues
+pub mod OfRows
+pub mod Dealing

@@ -1,5 +1,5 @@
 -- The names of old cells do not matter, and what the value of a dart without a value is said to be.
-use Rattle.std.proofs.Common.{ℕ, ◌≡◌, ◌↔◌, ◌≤◌, ◌<◌, refl, sym, ap, subst, ◌∙◌, List, length, Contains, slice_index, slice_index_or, Option, Some, None}
+use Rattle.std.proofs.Common.{ℕ, ◌≡◌, ◌↔◌, ap, ◌∙◌, List, length, slice_index, slice_index_or, Option, None}
 use Rattle.std.proofs.lemmas.List.Elements.{Contains-get_or}
 use Rattle.map_defs.specs.Values.{Value, Meaning}
 use Rattle.map_defs.specs.Carry.{NamesPiece, ArePieces, Gets, IsCarried}

@@ -1,5 +1,5 @@
 -- Lists of numbers that rise: they are told by what they hold. And the least number of a set, where it has one.
-use Rattle.std.proofs.Common.{ℕ, zero, suc, ◌≡◌, ◌≢◌, ◌⊎◌, ◌↔◌, ◌≤◌, ◌<◌, inl, inr, refl, sym, ap, ap₂, subst, ◌∙◌, List, [], ◌∷◌, length, Contains, AllPairs, slice_index, slice_index_or, arith}
+use Rattle.std.proofs.Common.{ℕ, zero, suc, ◌≡◌, ◌⊎◌, ◌↔◌, ◌≤◌, ◌<◌, inl, inr, refl, sym, ap₂, subst, List, [], ◌∷◌, length, Contains, AllPairs, slice_index, slice_index_or, arith}
 use Rattle.std.specs.List.Sorted.{IsStrictlyIncreasing}
 use Rattle.std.proofs.lemmas.List.Kept.{AllPairs-from_increasing}
 
@@ -53,8 +53,8 @@ rises_one [] (y ∷ ys) rx ry f g = absurd (held_none y (g y (held_first y ys)))
 rises_one (x ∷ xs) [] rx ry f g = absurd (held_none x (f x (held_first x xs)))
 rises_one (x ∷ xs) (y ∷ ys) rx ry f g =
     ap₂ (◌∷◌) same (rises_one xs ys (rest_rises x xs rx) (rest_rises y ys ry)
-      (λ m h. rest_in x y xs ys same rx m h (f m (held_later x xs m h)))
-      (λ m h. rest_in y x ys xs (sym same) ry m h (g m (held_later y ys m h))))
+    (λ m h. rest_in x y xs ys same rx m h (f m (held_later x xs m h)))
+    (λ m h. rest_in y x ys xs (sym same) ry m h (g m (held_later y ys m h))))
   where
     same : x ≡ y
     same = firsts_same x y xs ys rx ry (f x (held_first x xs)) (g y (held_first y ys))
@@ -70,8 +70,10 @@ rising_place xs r i j hi hj e = go (three i j)
   where
     three : (a b : ℕ) → (a ≡ b) ⊎ (a < b) ⊎ (b < a)
     three a b = grind arith
+
     p : AllPairs (λ x y. x < y) xs
     p = AllPairs-from_increasing xs r
+
     go : (i ≡ j) ⊎ (i < j) ⊎ (j < i) → i ≡ j
     go (inl f) = f
     go (inr (inl h)) = absurd (let l = p i j 0 h hj in omega arith)
@@ -95,3 +97,16 @@ none_below P never (suc b) x h p = never x p (λ y q. elim (low_or_above x y) [ 
 
 pub has_least : (P : ℕ → Type 0) (x : ℕ) → P x → ((m : ℕ) → P m → ((y : ℕ) → P y → m ≤ y) → ⊥) → ⊥
 has_least P x p never = none_below P never (suc x) x (omega arith) p
+
+-- where it is told which numbers lie in the set, it has one
+pub find_least : (P : ℕ → Type 0) → ((x : ℕ) → P x ⊎ (P x → ⊥)) → (b : ℕ) → ((m : ℕ) × P m × ((y : ℕ) → P y → m ≤ y)) ⊎ ((y : ℕ) → y < b → P y → ⊥)
+find_least P told zero = inr (λ y h p. omega arith)
+find_least P told (suc b) = on (find_least P told b) (told b)
+  where
+    on : ((m : ℕ) × P m × ((y : ℕ) → P y → m ≤ y)) ⊎ ((y : ℕ) → y < b → P y → ⊥) → P b ⊎ (P b → ⊥) → ((m : ℕ) × P m × ((y : ℕ) → P y → m ≤ y)) ⊎ ((y : ℕ) → y < suc b → P y → ⊥)
+    on (inl f) t = inl f
+    on (inr n) (inl p) = inl (b, p, λ y q. elim (low_or_above b y) [ inl l ↦ l | inr l ↦ absurd (n y l q) ])
+    on (inr n) (inr m) = inr (λ y h q. elim (low_or_above b y) [ inl l ↦ m (subst P (last y h l) q) | inr l ↦ n y l q ])
+      where
+        last : (y : ℕ) → y < suc b → b ≤ y → y ≡ b
+        last y h l = omega arith

@@ -1,8 +1,8 @@
 -- What the table of rules says: a cell that is not split keeps its value, and what is dealt out is the value.
-use Rattle.std.proofs.Common.{ℕ, zero, suc, ◌≡◌, ◌+◌, ◌*◌, ◌/◌, ◌%◌, ◌-◌, ◌<◌, ◌+ℤ◌, ◌*ℤ◌, ℤ, pos, negsuc, refl, sym, ap, ◌∙◌, Option, Some, None, cond, int_lt, neg_ℤ, arith, div-one, mod-lt}
+use Rattle.std.proofs.Common.{ℕ, suc, ◌≡◌, ◌+◌, ◌*◌, ◌/◌, ◌%◌, ◌-◌, ◌<◌, ◌+ℤ◌, ◌*ℤ◌, ℤ, pos, negsuc, refl, ap, Some, neg_ℤ, arith, div-one, mod-lt}
 use Rattle.std.proofs.lemmas.Int.{ints}
 use Rattle.std.specs.Int.{int_div_euclid, int_rem_euclid}
-use Rattle.map_defs.specs.Values.{Value, Merge, Split, Rule, Meaning, Copied, Keep, Share, Host, dealt, dealt_value, share_by, meaning_of, KeepsWhole}
+use Rattle.map_defs.specs.Values.{Value, Split, Rule, Meaning, Copied, Keep, Share, Host, dealt, dealt_value, share_by, meaning_of, KeepsWhole}
 
 none_left : (a : ℕ) → a % 1 ≡ 0
 none_left a = let h : a % 1 < 1 = omega arith in omega arith

@@ -1,11 +1,11 @@
 -- A cell without a touched dart is an old cell. Of the laws only this is used: a link leads back.
-use Rattle.std.proofs.Common.{ℕ, ◌≡◌, ◌≢◌, ◌⊎◌, ◌↔◌, inl, inr, refl, sym, ap, subst, ◌∙◌, Option, Some, None}
+use Rattle.std.proofs.Common.{ℕ, ◌≡◌, ◌≢◌, ◌⊎◌, inl, inr, refl, sym, ap, subst, ◌∙◌, Option, Some, None}
 use Rattle.map_defs.specs.Kind.{Kind, alpha, beta, inverse}
 use Rattle.map_defs.specs.Links.{Links, LeadsToLive}
 use Rattle.map_defs.specs.Laws.{Laws}
-use Rattle.map_defs.specs.Words.{Word, one_link, through, through_second, inverse_word, IsCellWord}
+use Rattle.map_defs.specs.Words.{Word, through, through_second, inverse_word, IsCellWord}
 use Rattle.map_defs.specs.Cells.{InOrbit, here, onward, Leads, InCell}
-use Rattle.map_defs.specs.Touched.{IsChanged, IsBesideChanged, IsReached, IsTouched, IsOldCell, Touches}
+use Rattle.map_defs.specs.Touched.{IsReached, IsTouched, Touches}
 use Rattle.link_laws.proofs.Basics.{stable}
 use Rattle.link_laws.proofs.LawFacts.{back_to}
 
@@ -77,7 +77,7 @@ module _ (k : Kind) (Live : ℕ → Type 0) (L N : Links) (w : Laws k L) (wn : L
     to_new (onward {x = x} {y = y} o s) = onward (to_new o) (s.0, s.1, word_off s.0 (one_word i s.0 s.1) x y (all x (to_new o)) s.3 s.2, s.3)
 
   -- the darts of a new cell of a live dart live
-  cell_live : (LiveAfter : ℕ → Type 0) → LeadsToLive LiveAfter N → (i d : ℕ) → LiveAfter d → {x : ℕ} → InOrbit (Leads N (IsCellWord k i)) d x → LiveAfter x
+  pub cell_live : (LiveAfter : ℕ → Type 0) → LeadsToLive LiveAfter N → (i d : ℕ) → LiveAfter d → {x : ℕ} → InOrbit (Leads N (IsCellWord k i)) d x → LiveAfter x
   cell_live LiveAfter leads i d l here = l
   cell_live LiveAfter leads i d l (onward {x = x} {y = y} o s) = go s.0.first s.0.second s.2
     where

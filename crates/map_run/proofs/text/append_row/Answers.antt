@@ -27,7 +27,7 @@ pub returns : goal.returns
 returns c = λ row is wide.
     let at : (i : ℕ) → get_or row i 0 ≡ links_of c.args.links.now i c.args.dart = λ i. ap (λ (o : Option (List ℕ)). entry_of o i) (sym is) in
     let same : row ≡ map (λ (i : ℕ). links_of c.args.links.now i c.args.dart) (range_with_len 0 3) =
-        three row wide ∙ rw (at 0, at 1, at 2) refl in
+    three row wide ∙ rw (at 0, at 1, at 2) refl in
     let end : c.loop-link.link ≡ 3 = omega arith in
     let all = rw end at c.loop-link.invariant in
     rw (same, c.in_ok-push-2.ensures.items, all)
