@@ -7,3 +7,4 @@ pub mod FaceBack
 pub mod VertexBack
 pub mod EdgeBack
 pub mod DangleBack
+pub mod BetaDangleBack
