@@ -1,4 +1,3 @@
-use Rattle.std.proofs.Common.{◌≡◌, ℕ}
 use Rattle.map_defs.specs.Script.{Polygon}
 use Rattle.map_run.specs.Bare.{state_of}
 use Rattle.map_run.specs.Lines.{reply_meaning}

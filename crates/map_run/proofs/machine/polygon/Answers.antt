@@ -1,10 +1,10 @@
-use Rattle.std.proofs.Common.{◌≡◌, ℕ, ◌<◌, ◌+◌, ◌*◌, ◌++◌, ap, sym, ◌∙◌, arith, inl, inr, refl, [], ◌≤◌}
+use Rattle.std.proofs.Common.{◌≡◌, ℕ, ◌<◌, ◌+◌, ◌*◌, ap, sym, ◌∙◌, arith, inl, inr, []}
 use Rattle.map_defs.specs.Kind.{alpha}
-use Rattle.map_defs.specs.Rows.{Rows, made, made_max}
+use Rattle.map_defs.specs.Rows.{made, made_max}
 use Rattle.map_defs.specs.Polygon.{polygon_rows}
 use Rattle.map_defs.specs.State.{Content, State, steps_to}
 use Rattle.map_defs.specs.Machine.{with_polygon}
-use Rattle.map_defs.specs.Text.{Reply, Done}
+use Rattle.map_defs.specs.Text.{Done}
 use Rattle.map_run.specs.Bare.{state_of, bare_content}
 use Rattle.map_run.proofs.BareStates.{with_born-bare}
 use Rattle.map_run.proofs.machine.polygon.Goals as goal

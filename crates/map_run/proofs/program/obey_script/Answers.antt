@@ -1,4 +1,4 @@
-use Rattle.std.proofs.Common.{◌≡◌, ℕ, List, ◌∷◌, [], ◌++◌, Option, Some, None, Ok, Err, sym, ap, ◌∙◌, subst, append_assoc, arith}
+use Rattle.std.proofs.Common.{◌≡◌, ℕ, List, ◌∷◌, [], ◌++◌, Option, sym, ap, ◌∙◌, append_assoc, arith}
 use Rattle.std.specs.Borrow.{Bor}
 use Rattle.std.proofs.lemmas.Result.{err_from_is_err_and}
 use Rattle.map_defs.specs.Kind.{alpha}
@@ -6,7 +6,7 @@ use Rattle.map_defs.specs.State.{empty_state}
 use Rattle.map_defs.specs.Script.{lines_of}
 use Rattle.map_run.specs.Bare.{state_of}
 use Rattle.map_run.specs.Lines.{lines_after}
-use Rattle.map_run.proofs.RunFacts.{Going-start, Going-more, Going-cut, Going-end}
+use Rattle.map_run.proofs.RunFacts.{Going-more, Going-cut}
 use Rattle.map_run.proofs.program.obey_script.Goals as goal
 
 pub returns-in_err-obey_line-clause-obeyed : goal.returns-in_err-obey_line-clause-obeyed

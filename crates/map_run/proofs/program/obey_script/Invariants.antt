@@ -1,4 +1,4 @@
-use Rattle.std.proofs.Common.{◌≡◌, ℕ, ◌≤◌, List, ◌++◌, Option}
+use Rattle.std.proofs.Common.{◌≡◌, ℕ, ◌≤◌, List, ◌++◌}
 use Rattle.map_defs.specs.Kind.{alpha}
 use Rattle.map_defs.specs.State.{empty_state}
 use Rattle.map_defs.specs.Script.{lines_of}

@@ -1,13 +1,13 @@
-use Rattle.std.proofs.Common.{◌≡◌, ℕ, List, [], ◌++◌, Option, Result, Ok, Err, codes, sym, ap, ◌∙◌, subst, append_assoc, inr, refl, ◌∷◌, length}
+use Rattle.std.proofs.Common.{◌≡◌, [], ◌++◌, Err, codes, sym, subst, append_assoc, inr, refl, ◌∷◌, length}
 use Rattle.std.proofs.lemmas.Result.{err_from_is_err_and}
 use Rattle.map_defs.specs.Rows.{Rows}
 use Rattle.map_defs.specs.Text.{header_text, listing_text, ended, letter, spaced}
 use Rattle.map_defs.specs.Listing.{Listing, listing_with}
 use Rattle.map_defs.specs.Program.{EndsLine}
 use Rattle.map_run.specs.Bare.{state_of}
-use Rattle.map_run.specs.Writing.{Writes, HasWritten}
+use Rattle.map_run.specs.Writing.{Writes}
 use Rattle.map_run.proofs.RowTexts.{rows_text, rows_end}
-use Rattle.map_run.proofs.WritingFacts.{Writes-then, Writes-cut, Writes-put, HasWritten-from, HasWritten-then}
+use Rattle.map_run.proofs.WritingFacts.{Writes-then, Writes-cut, Writes-put, HasWritten-from}
 use Rattle.map_run.proofs.reply.write_listing.Goals as goal
 
 abbrev listing : Rows → Listing

@@ -1,7 +1,6 @@
-use Rattle.std.proofs.Common.{◌≡◌, ℕ, ◌+◌, ◌<◌, ◌≤◌, List, ◌++◌, length, take, Option, Ok, Err, sym, ap, ◌∙◌, subst, arith}
+use Rattle.std.proofs.Common.{◌≡◌, ℕ, ◌+◌, ◌<◌, ◌++◌, length, take, Err, arith}
 use Rattle.std.proofs.lemmas.Result.{err_from_is_err_and}
 use Rattle.map_defs.specs.Rows.{Rows, row_at}
-use Rattle.map_run.specs.Writing.{Writes, HasWritten}
 use Rattle.map_run.proofs.RowTexts.{rows_text, row_text_at, row_ends, rows_text-more, rows_text-rest}
 use Rattle.map_run.proofs.WritingFacts.{Writes-then, Writes-cut, HasWritten-from, HasWritten-then}
 use Rattle.map_run.proofs.reply.write_rows.Goals as goal

@@ -1,11 +1,11 @@
-use Rattle.std.proofs.Common.{◌≡◌, ℕ, ◌+◌, ◌∷◌, ◌++◌, [], List, Option, Some, map, length, get_or, refl, sym, ap, ◌∙◌, append_assoc, arith}
+use Rattle.std.proofs.Common.{◌≡◌, ℕ, ◌+◌, ◌∷◌, ◌++◌, [], List, Option, map, get_or, refl, sym, ap, ◌∙◌, arith}
 use Rattle.std.specs.Fmt.{decimal}
 use Rattle.std.specs.List.{flat_map, range_with_len}
 use Rattle.std.proofs.lemmas.Grind.{flat_map-append}
 use Rattle.std.proofs.lemmas.List.{append-nil}
 use Rattle.std.proofs.lemmas.List.FromFn.{map-range_with_len_more}
-use Rattle.map_defs.specs.Rows.{links_of, row_at, entry_of}
-use Rattle.map_defs.specs.Text.{spaced, row_text}
+use Rattle.map_defs.specs.Rows.{links_of, entry_of}
+use Rattle.map_defs.specs.Text.{spaced}
 use Rattle.map_run.proofs.ListingRows.{three}
 use Rattle.map_run.proofs.Pieces.{labelled, longer}
 use Rattle.map_run.proofs.text.append_row.Goals as goal
