@@ -1,4 +1,3 @@
-pub mod CellOf
 pub mod Grown
 pub mod Taken
 pub mod TakenBack
