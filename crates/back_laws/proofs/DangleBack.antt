@@ -15,7 +15,7 @@ use Rattle.remove_laws.proofs.Steps.{step_free, step_there}
 use Rattle.insert_laws.proofs.Fresh.{IsNew, InOrNone, fresh_link, fresh_old, fresh_zero}
 use Rattle.center_laws.proofs.Hung.{beside, IsHangingSet, star_high, tip_high, closed, beside_closed}
 use Rattle.center_laws.proofs.HangingSets.{corner_hangs}
-use Rattle.back_laws.proofs.CellOf.{all_alpha, cell_on, cell_in}
+use Rattle.link_laws.proofs.CellOf.{all_alpha, cell_on, cell_in}
 use Rattle.back_laws.proofs.Taken.{steps_commute}
 
 module _ (L : Links) (w : Laws alpha L) (d : ℕ) (hd : d ≢ 0) (star tip : ℕ → ℕ) (fresh_star : IsFresh L (InAlphaCorner L d) star) (fresh_tip : IsFresh L (InAlphaCorner L d) tip) (two : (x y : ℕ) → InAlphaCorner L d x → InAlphaCorner L d y → star x ≢ tip y) (N : Links) (s : IsAlphaDangled d star tip L N) where

@@ -13,7 +13,7 @@ use Rattle.link_laws.proofs.LawFacts.{alike}
 use Rattle.remove_laws.proofs.Steps.{step_free, step_there}
 use Rattle.insert_laws.proofs.Fresh.{IsNew, fresh_link, fresh_old, fresh_none}
 use Rattle.insert_laws.proofs.InsertAny.{inserted_old, inserted_outside, inserted_nil}
-use Rattle.back_laws.proofs.CellOf.{RunsAlongAll}
+use Rattle.link_laws.proofs.CellOf.{RunsAlongAll}
 use Rattle.back_laws.proofs.Grown.{GrowsFrom, cell_new, cell_all}
 
 -- the steps of two distant links that are their own inverses commute

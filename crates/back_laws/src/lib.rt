@@ -12,7 +12,7 @@ ghost use Rattle.map_defs.specs.Laws.{Laws};
 ghost use Rattle.map_defs.specs.Cells.{InCell};
 ghost use Rattle.map_defs.specs.Births.{IsFresh};
 ghost use Rattle.map_defs.specs.Insertion.{IsAlphaVertex, InAlphaCorner, AlphaEdgeDarts, AreAlphaEdgePaired, IsAlphaEdge, IsBetaVertex, InBetaCorner, AreBetaEdgePaired, BetaEdgeDarts, IsBetaEdge, FaceDarts, IsClosedPath, IsFacePaired, IsFace};
-ghost use Rattle.map_defs.specs.Closing.{IsAlphaDangled};
+ghost use Rattle.map_defs.specs.Closing.{IsAlphaDangled, IsBetaDangled};
 ghost use Rattle.map_defs.specs.Removal.{IsRemovable, IsRemoved};
 
 /// A vertex that was just inserted in a generalized map can be removed at each of its darts, which gives all links back.
@@ -91,4 +91,20 @@ pub fn removal_undoes_dangling_of_alpha()
         ((y z : ℕ) → InAlphaCorner L d y → InAlphaCorner L d z → star y ≢ tip z)
         → IsAlphaDangled d star tip L N → InAlphaCorner L d x → IsRemoved alpha 1 (star x) N M → (t y : ℕ)
         → M t y ≡ L t y }
+{}
+
+/// A dangling edge that was just made in a combinatorial map can be removed at the new dart that leads into it at each of
+/// its corners, the first new dart among them, which gives all links back.
+///
+/// For an editor that takes a dangling edge back without a journal.
+pub fn removal_undoes_dangling_of_beta()
+    ensures possible { (d x : ℕ) (star tip : ℕ → ℕ) (L N : Links) → Laws beta L → L 0 d ≢ 0
+        → IsFresh L (InBetaCorner L d) star → IsFresh L (InBetaCorner L d) tip
+        → ((y z : ℕ) → InBetaCorner L d y → InBetaCorner L d z → star y ≢ tip z)
+        → IsBetaDangled d star tip L N → InBetaCorner L d x → IsRemovable beta N 1 (star x) }
+    ensures back { (d x : ℕ) (star tip : ℕ → ℕ) (L N M : Links) → Laws beta L → L 0 d ≢ 0
+        → IsFresh L (InBetaCorner L d) star → IsFresh L (InBetaCorner L d) tip
+        → ((y z : ℕ) → InBetaCorner L d y → InBetaCorner L d z → star y ≢ tip z)
+        → IsBetaDangled d star tip L N → InBetaCorner L d x → IsRemoved beta 1 (star x) N M
+        → (t y : ℕ) → M t y ≡ L t y }
 {}

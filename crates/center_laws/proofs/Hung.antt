@@ -63,11 +63,11 @@ module _ (m : ℕ) (L : Links) (w : Laws alpha L) (K : ℕ → Type 0) (set : Is
   beside_closed (suc (suc (suc t))) l = inr (inl (omega arith))
 
   -- the links of the new darts, also of none
-  star_zero : (x : ℕ) → InOrNone K x → N 0 (star x) ≡ tip x
+  pub star_zero : (x : ℕ) → InOrNone K x → N 0 (star x) ≡ tip x
   star_zero x (inl h) = s.ends x h
   star_zero x (inr o) = let a : N 0 0 ≡ 0 = nil 0 in cc (fresh_star.nothing, fresh_tip.nothing)
 
-  tip_zero : (x : ℕ) → InOrNone K x → N 0 (tip x) ≡ star x
+  pub tip_zero : (x : ℕ) → InOrNone K x → N 0 (tip x) ≡ star x
   tip_zero x (inl h) = s.begins x h
   tip_zero x (inr o) = let a : N 0 0 ≡ 0 = nil 0 in cc (fresh_star.nothing, fresh_tip.nothing)
 
@@ -79,7 +79,7 @@ module _ (m : ℕ) (L : Links) (w : Laws alpha L) (K : ℕ → Type 0) (set : Is
   dart_one x (inl h) = s.new x h
   dart_one x (inr o) = let a : N 1 0 ≡ 0 = nil 1 in cc (fresh_star.nothing)
 
-  tip_one : (x : ℕ) → InOrNone K x → N 1 (tip x) ≡ tip (L m x)
+  pub tip_one : (x : ℕ) → InOrNone K x → N 1 (tip x) ≡ tip (L m x)
   tip_one x (inl h) = s.turns x h
   tip_one x (inr o) = let a : N 1 0 ≡ 0 = nil 1 in cc (fresh_tip.nothing, w.nil m)
 

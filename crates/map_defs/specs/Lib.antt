@@ -25,4 +25,5 @@ pub mod Contraction
 pub mod Dual
 pub mod Touched
 pub mod Carry
+pub mod Totals
 pub mod Program
