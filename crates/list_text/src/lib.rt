@@ -1,0 +1,8 @@
+//! Listings: the text that tells a whole map, its darts, links and values.
+#![tactic(auto)]
+
+mod listing;
+mod write;
+
+pub use listing::{ListRow, ListValue, Listing};
+pub use write::{append_header, append_row, append_value, write_listing};
