@@ -2,6 +2,8 @@
 #![tactic(auto)]
 
 mod listing;
+#[cfg(test)]
+mod tests;
 mod write;
 
 pub use listing::{ListRow, ListValue, Listing};

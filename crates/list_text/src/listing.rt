@@ -56,7 +56,12 @@ impl Model for Listing {
     ghost use Rattle.list_text.specs.Letters.{IsLetter, kind_named};
 
     ghost view = { λ l. record {
-        kind = kind_named l.letter; dim = l.dim; made = l.made; rows = l.rows.items; values = l.values.items } };
+      kind = kind_named l.letter;
+      dim = l.dim;
+      made = l.made;
+      rows = l.rows.items;
+      values = l.values.items;
+    } };
 
     ghost invariant = { λ l. IsLetter l.letter };
 }
