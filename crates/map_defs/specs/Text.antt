@@ -33,9 +33,12 @@ abbrev pub letter : Kind → ℕ
 letter alpha = 103
 letter beta = 99
 
--- a listing's first line: its version, the kind, the dimension, the darts made and the live ones
+-- a listing's first line: its version, the kind's letter, the dimension, the darts made and the live ones
+abbrev pub header_line : ℕ → ℕ → ℕ → ℕ → List ℕ
+header_line letter dim made live = ended (codes "cellmap 1 " ++ letter ∷ [] ++ spaced dim ++ spaced made ++ spaced live)
+
 abbrev pub header_text : Listing → List ℕ
-header_text l = ended (codes "cellmap 1 " ++ letter l.kind ∷ [] ++ spaced l.dim ++ spaced l.made ++ spaced (length l.rows))
+header_text l = header_line (letter l.kind) l.dim l.made (length l.rows)
 
 -- a row is its dart, a colon and its entries
 abbrev pub row_text : ListRow → List ℕ

@@ -9,6 +9,11 @@ pub record Value : Type 0 where
   pub b : ℤ
   pub c : ℤ
 
+-- a cell, named by its least dart, and its value
+pub record Place : Type 0 where
+  pub dart : ℕ
+  pub value : Value
+
 -- how two values become one
 pub data Merge : Type 0 where
   First : Merge

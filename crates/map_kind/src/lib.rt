@@ -1,10 +1,12 @@
-//! The words that every layer of the kernel shares: darts, kinds of map and refusals.
+//! The words that every layer of the kernel shares: darts, kinds of map, values and refusals.
 #![tactic(auto)]
 
 mod dart;
 mod kind;
 mod refusal;
+mod value;
 
 pub use dart::Dart;
 pub use kind::{Alpha, Kind};
 pub use refusal::Refusal;
+pub use value::{Place, Value};

@@ -1,0 +1,96 @@
+//! What no clause says: that a listing is written where memory is there, and what its lines look like.
+use crate::{ListRow, ListValue, Listing, write_listing};
+use map_kind::{Dart, Place, Value};
+use std::alloc::{AllocError, Global};
+use std::test::Fail;
+
+fn row(alloc: Global, dart: Dart, links: &[u32]) -> Result<ListRow, AllocError> {
+    Ok(ListRow {
+        dart,
+        links: links.to_vec(alloc)?,
+    })
+}
+
+fn value(dim: u32, dart: Dart, a: i64, b: i64, c: i64) -> ListValue {
+    ListValue {
+        dim,
+        place: Place {
+            dart,
+            value: Value { a, b, c },
+        },
+    }
+}
+
+#[test]
+fn a_triangle_of_a_combinatorial_map(rt: HostRuntime) -> Result<(), Fail> {
+    let alloc = rt.alloc();
+    let one = Dart::new(1).ok_or("no dart")?;
+    let two = Dart::new(2).ok_or("no dart")?;
+    let three = Dart::new(3).ok_or("no dart")?;
+    let listing = Listing {
+        letter: b'c',
+        dim: 2,
+        made: 3,
+        rows: vec![in alloc;
+            row(alloc, one, &[3, 2, 0])?,
+            row(alloc, two, &[1, 3, 0])?,
+            row(alloc, three, &[2, 1, 0])?,
+        ]?,
+        values: vec![in alloc;
+            value(0, one, -5, 0, 7),
+            value(2, one, 1, i64::MIN, i64::MAX),
+        ]?,
+    };
+    assert_eq!(rt;
+        write_listing(alloc, &listing)?.as_slice(),
+        b"cellmap 1 c 2 3 3
+1: 3 2 0
+2: 1 3 0
+3: 2 1 0
+val 0 1 -5 0 7
+val 2 1 1 -9223372036854775808 9223372036854775807
+end
+"
+            .as_slice()
+    );
+    Ok(())
+}
+
+#[test]
+fn a_dart_of_a_generalized_map_of_dimension_seven(rt: HostRuntime) -> Result<(), Fail> {
+    let alloc = rt.alloc();
+    let last = Dart::new(4_194_304).ok_or("no dart")?;
+    let listing = Listing {
+        letter: b'g',
+        dim: 7,
+        made: 4_194_304,
+        rows: vec![in alloc; row(alloc, last, &[0; 8])?]?,
+        values: Vec::new(alloc),
+    };
+    assert_eq!(rt;
+        write_listing(alloc, &listing)?.as_slice(),
+        b"cellmap 1 g 7 4194304 1
+4194304: 0 0 0 0 0 0 0 0
+end
+"
+            .as_slice()
+    );
+    Ok(())
+}
+
+#[test]
+fn an_empty_map(rt: HostRuntime) -> Result<(), Fail> {
+    let alloc = rt.alloc();
+    let listing = Listing {
+        letter: b'g',
+        dim: 2,
+        made: 0,
+        rows: Vec::new(alloc),
+        values: Vec::new(alloc),
+    };
+    assert_eq!(rt;
+        write_listing(alloc, &listing)?.as_slice(),
+        b"cellmap 1 g 2 0 0\nend\n".as_slice()
+    );
+    Ok(())
+}
