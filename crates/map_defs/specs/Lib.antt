@@ -4,6 +4,7 @@ pub mod Laws
 pub mod Words
 pub mod Cells
 pub mod Rows
+pub mod Edits
 pub mod Values
 pub mod Refusal
 pub mod State

@@ -86,13 +86,15 @@ pub fn old_cells_keep_their_values()
         → AreEqualOnCells k i (links_of old) (IsLive old) values
         → (d : ℕ) → IsLive new d → IsOldCell k i (links_of old) (IsLive old) (links_of new) d
         → (r : Option Value)
-        → IsCarried rule (λ x. known (values x)) (λ x. IsLive old x × IsLive new x) (IsValuedWith k i (links_of old) values) (InCell k (links_of new) i) d r → r ≡ values d }
+        → IsCarried rule (λ x. known (values x)) (λ x. IsLive old x × IsLive new x)
+        (IsValuedWith k i (links_of old) values) (InCell k (links_of new) i) d r → r ≡ values d }
     ensures given { (k : Kind) (i : ℕ) (rule : Meaning) (old new : Rows) (values : ℕ → Option Value)
         → Laws k (links_of old) → Laws k (links_of new) → KeepsWhole rule
         → AreEqualOnCells k i (links_of old) (IsLive old) values
         → (d : ℕ) → IsLive new d → IsOldCell k i (links_of old) (IsLive old) (links_of new) d
         → IsTold (InCell k (links_of new) i d) ⊎ (values d ≡ None)
-        → IsCarried rule (λ x. known (values x)) (λ x. IsLive old x × IsLive new x) (IsValuedWith k i (links_of old) values) (InCell k (links_of new) i) d (values d) }
+        → IsCarried rule (λ x. known (values x)) (λ x. IsLive old x × IsLive new x)
+        (IsValuedWith k i (links_of old) values) (InCell k (links_of new) i) d (values d) }
 {}
 
 /// The names of the old cells do not matter: other labels for the same cells carry the same values, and labels that tell
@@ -111,7 +113,8 @@ pub fn names_of_cells_do_not_matter()
         → ((x y : ℕ) → IsLive old x → IsLive old y
         → IsAlike label x y ↔ IsValuedWith k i (links_of old) values x y) → ((x : ℕ) → IsLive old x
         → IsAlike label x x → value x ≡ known (values x))
-        → AreCarriedByLabel k i rule (IsLive old) label value (links_of new) (IsLive new) after ↔ AreCarried k i rule (links_of old) (IsLive old) values (links_of new) (IsLive new) after }
+        → AreCarriedByLabel k i rule (IsLive old) label value (links_of new) (IsLive new) after
+        ↔ AreCarried k i rule (links_of old) (IsLive old) values (links_of new) (IsLive new) after }
 {}
 
 /// Every rule of the table leaves whole the value of a cell that is not split, if the hook does.

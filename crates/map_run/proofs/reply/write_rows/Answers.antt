@@ -7,7 +7,7 @@ use Rattle.map_run.proofs.reply.write_rows.Goals as goal
 
 pub returns-in_err-write_row-clause-written : goal.returns-in_err-write_row-clause-written
 returns-in_err-write_row-clause-written g c =
-    let rows : Rows = c.args.links.now in
+    let rows : Rows = c.args.links.now.rows in
     let k : ℕ = c.loop-number.number + 1 in
     let within : k < length rows = omega (arith, c.made-number-end.ensures.made) in
     let dart : c.unwrap.result ≡ k = rw c.unwrap.ensures at c.new.ensures.same in
@@ -21,7 +21,7 @@ returns-in_err-write_row-clause-written g c =
 
 pub loop-number-preserved : goal.loop-number-preserved
 loop-number-preserved g c =
-    let rows : Rows = c.args.links.now in
+    let rows : Rows = c.args.links.now.rows in
     let k : ℕ = c.loop-number.number + 1 in
     let within : k < length rows = omega (arith, c.made-number-end.ensures.made) in
     let dart : c.unwrap.result ≡ k = rw c.unwrap.ensures at c.new.ensures.same in
