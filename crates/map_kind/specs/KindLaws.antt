@@ -1,5 +1,5 @@
 -- The laws of both kinds, which every `Kind` keeps.
-use Rattle.std.specs.Prelude.{ℕ, ◌≡◌, zero, suc, refl, ◌⊎◌}
+use Rattle.std.specs.Prelude.{ℕ, ◌≡◌, zero, suc, refl}
 use Rattle.std.proofs.Common.{inl, inr}
 use Rattle.map_defs.specs.Kind.{Kind, alpha, beta, inverse, IsDistant}
 
