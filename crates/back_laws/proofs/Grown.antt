@@ -10,7 +10,7 @@ use Rattle.insert_laws.proofs.Fresh.{IsNew}
 use Rattle.link_laws.proofs.Orbits.{orbit_back, orbit_trans}
 use Rattle.insert_laws.proofs.Stands.{Stands, none, some, stands_end, stands_some, stands_turned}
 use Rattle.insert_laws.proofs.InsertAny.{other_than_own, new_stands}
-use Rattle.back_laws.proofs.CellOf.{RunsAlongAll, cell_on, cell_in}
+use Rattle.link_laws.proofs.CellOf.{RunsAlongAll, cell_on, cell_in}
 
 -- one link of the new dart of x leads to the new dart of y
 pub record Grows (k : Kind) (i : ℕ) (K : ℕ → Type 0) (P : ℕ → ℕ → ℕ → Type 0) (L : Links) (x y : ℕ) : Type 0 where

@@ -11,7 +11,7 @@ use Rattle.link_laws.proofs.Orbits.{orbit_trans}
 use Rattle.insert_laws.proofs.Places.{below_apart}
 use Rattle.insert_laws.proofs.Paths.{held_is, next_held}
 use Rattle.insert_laws.proofs.Stands as stands
-use Rattle.back_laws.proofs.CellOf.{all_alpha, word_one}
+use Rattle.link_laws.proofs.CellOf.{all_alpha, word_one}
 use Rattle.back_laws.proofs.Grown.{Grows, GrowsFrom}
 
 -- links along which the new darts lie lead on, and so do pairs

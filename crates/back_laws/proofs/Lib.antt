@@ -1,4 +1,3 @@
-pub mod CellOf
 pub mod Grown
 pub mod Taken
 pub mod TakenBack
@@ -6,3 +5,5 @@ pub mod GrownFrom
 pub mod FaceBack
 pub mod VertexBack
 pub mod EdgeBack
+pub mod DangleBack
+pub mod BetaDangleBack

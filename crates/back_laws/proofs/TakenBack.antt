@@ -12,7 +12,7 @@ use Rattle.link_laws.proofs.Basics.{by_cases, same_or_not}
 use Rattle.link_laws.proofs.Walking.{walk_one}
 use Rattle.remove_laws.proofs.Steps.{step_free, step_there}
 use Rattle.insert_laws.proofs.Fresh.{IsNew}
-use Rattle.back_laws.proofs.CellOf.{all_alpha, all_beta}
+use Rattle.link_laws.proofs.CellOf.{all_alpha, all_beta}
 use Rattle.back_laws.proofs.Grown.{GrowsFrom}
 use Rattle.back_laws.proofs.Taken.{old_outside, new_inside, commutes_new, walk_steps, walk_links, walk_stops, gone_back, kept_back}
 

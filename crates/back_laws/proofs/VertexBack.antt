@@ -1,6 +1,6 @@
 -- Removal at a new dart of a vertex in a combinatorial map is possible and gives all links back.
-use Rattle.std.proofs.Common.{ℕ, zero, suc, ◌≡◌, ◌≢◌, ◌<◌, ◌≤◌, refl, sym, ap, inl, inr, ⊎_elim, ◌∙◌, arith}
-use Rattle.map_defs.specs.Kind.{beta, inverse}
+use Rattle.std.proofs.Common.{ℕ, zero, suc, ◌≡◌, ◌≢◌, ◌≤◌, refl, sym, ap, inl, inr, ⊎_elim, ◌∙◌, arith}
+use Rattle.map_defs.specs.Kind.{beta}
 use Rattle.map_defs.specs.Links.{Links}
 use Rattle.map_defs.specs.Laws.{Laws}
 use Rattle.map_defs.specs.Words.{Word, one_link, two_links, through, IsCellWord, inverse_word}
@@ -10,34 +10,13 @@ use Rattle.map_defs.specs.Walks.{stop, go}
 use Rattle.map_defs.specs.Removal.{IsFlatAt, RunsTo, IsRemovable, IsRemoved}
 use Rattle.map_defs.specs.Insertion.{IsBetaVertex}
 use Rattle.link_laws.proofs.Basics.{by_cases, same_or_not, inverse_own}
+use Rattle.link_laws.proofs.VertexWords.{IsVertexStep, leave, enter, pass, vertex_word}
 use Rattle.link_laws.proofs.Walking.{walk_one}
 use Rattle.link_laws.proofs.Turned.{turned_one, turned_of_laws}
 use Rattle.link_laws.proofs.Orbits.{orbit_back, orbit_trans}
 use Rattle.insert_laws.proofs.Fresh.{IsNew, InOrNone, fresh_link, fresh_zero}
 use Rattle.insert_laws.proofs.BetaParts.{back_of, apart_of}
 use Rattle.insert_laws.proofs.BetaVertex.{IsEdgeSet, edge_set, on_or_none, out, new_at, first_at, back_new}
-
--- the words of a vertex: with link 1, with its inverse, and with two higher links
-data IsVertexStep : Word → Type 0 where
-  leave : (j : ℕ) → 2 ≤ j → IsVertexStep (two_links j 1)
-  enter : (j : ℕ) → 2 ≤ j → IsVertexStep (two_links 0 j)
-  pass : (i j : ℕ) → 2 ≤ i → 2 ≤ j → IsVertexStep (two_links i j)
-
-leave_or_pass : (i j : ℕ) → 1 ≤ i → i < j → IsVertexStep (two_links j i)
-leave_or_pass zero j a b = absurd (omega arith)
-leave_or_pass (suc zero) j a b = leave j (omega arith)
-leave_or_pass (suc (suc i)) j a b = pass j (suc (suc i)) (omega arith) (omega arith)
-
-enter_or_pass : (i j : ℕ) → 1 ≤ i → i < j → IsVertexStep (two_links (inverse beta i) (inverse beta j))
-enter_or_pass zero j a b = absurd (omega arith)
-enter_or_pass (suc i) zero a b = absurd (omega arith)
-enter_or_pass (suc i) (suc zero) a b = absurd (omega arith)
-enter_or_pass (suc zero) (suc (suc j)) a b = enter (suc (suc j)) (omega arith)
-enter_or_pass (suc (suc i)) (suc (suc j)) a b = pass (suc (suc i)) (suc (suc j)) (omega arith) (omega arith)
-
-vertex_word : (w : Word) → IsCellWord beta 0 w → IsVertexStep w
-vertex_word w (inl (i, j, a, b, e)) = rw e (leave_or_pass i j a b)
-vertex_word w (inr (v, (i, j, a, b, e), g)) = rw (g ∙ ap (inverse_word beta) e) (enter_or_pass i j a b)
 
 -- the words of an edge are the links from 2 upwards, and they lead back
 pub high_word : (word : Word) → IsCellWord beta 1 word → (j : ℕ) × (2 ≤ j) × (word ≡ one_link j)

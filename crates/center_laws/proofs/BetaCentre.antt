@@ -17,7 +17,7 @@ module _ (L : Links) (w : Laws beta L) (d : ℕ) (hd : d ≢ 0) (star tip : ℕ 
   dart : (x : ℕ) → InCell beta L 2 d x → x ≢ 0
   dart x h = orbit_dart _ (λ u v q. q.3) d x hd h
 
-  on : (j x : ℕ) → j ≢ 2 → InOrNone (InCell beta L 2 d) x → InOrNone (InCell beta L 2 d) (L j x)
+  pub on : (j x : ℕ) → j ≢ 2 → InOrNone (InCell beta L 2 d) x → InOrNone (InCell beta L 2 d) (L j x)
   on j x n (inl h) = ⊎_elim (λ z. inr z) (λ m. inl (beta_closed L 0 j d x n h m)) (same_or_not (L j x) 0)
   on j x n (inr o) = inr (ap (L j) o ∙ w.nil j)
 
@@ -53,7 +53,7 @@ module _ (L : Links) (w : Laws beta L) (d : ℕ) (hd : d ≢ 0) (star tip : ℕ 
       (λ n'. by_cases (InCell beta L 2 d z) a b (λ k. h k (n, n')) (λ k. o k (n, n'))))
 
   -- the links of the face's darts and of the new darts, also of none
-  one_star : (u : ℕ) → InOrNone (InCell beta L 2 d) u → N 1 (star u) ≡ tip u
+  pub one_star : (u : ℕ) → InOrNone (InCell beta L 2 d) u → N 1 (star u) ≡ tip u
   one_star u (inl h) = s.onward u h
   one_star u (inr o) = let a : N 1 0 ≡ 0 = nil 1 (omega arith) in cc (fresh_star.nothing, fresh_tip.nothing)
 
@@ -65,15 +65,15 @@ module _ (L : Links) (w : Laws beta L) (d : ℕ) (hd : d ≢ 0) (star tip : ℕ 
   one_in u (inl h) = s.into u h
   one_in u (inr o) = let a : N 1 0 ≡ 0 = nil 1 (omega arith) in cc (fresh_star.nothing)
 
-  zero_star : (u : ℕ) → InOrNone (InCell beta L 2 d) u → N 0 (star u) ≡ u
+  pub zero_star : (u : ℕ) → InOrNone (InCell beta L 2 d) u → N 0 (star u) ≡ u
   zero_star u (inl h) = (s.turned.back u (star u) (dart u h) (fresh_star.dart u h)).0 (s.into u h)
   zero_star u (inr o) = let a : N 0 0 ≡ 0 = s.turned.nothing in cc (fresh_star.nothing)
 
-  zero_tip : (u : ℕ) → InOrNone (InCell beta L 2 d) u → N 0 (tip u) ≡ star u
+  pub zero_tip : (u : ℕ) → InOrNone (InCell beta L 2 d) u → N 0 (tip u) ≡ star u
   zero_tip u (inl h) = (s.turned.back (star u) (tip u) (fresh_star.dart u h) (fresh_tip.dart u h)).0 (s.onward u h)
   zero_tip u (inr o) = let a : N 0 0 ≡ 0 = s.turned.nothing in cc (fresh_star.nothing, fresh_tip.nothing)
 
-  zero_in : (u : ℕ) → InOrNone (InCell beta L 2 d) u → N 0 u ≡ tip u
+  pub zero_in : (u : ℕ) → InOrNone (InCell beta L 2 d) u → N 0 u ≡ tip u
   zero_in u (inl h) = (s.turned.back (tip u) u (fresh_tip.dart u h) (dart u h)).0 (s.out u h)
   zero_in u (inr o) = let a : N 0 0 ≡ 0 = s.turned.nothing in cc (fresh_tip.nothing)
 
@@ -97,24 +97,27 @@ module _ (L : Links) (w : Laws beta L) (d : ℕ) (hd : d ≢ 0) (star tip : ℕ 
       (same_or_not (L 0 u) 0))
       (same_or_not u 0)
 
-  star_two : (u : ℕ) → InOrNone (InCell beta L 2 d) u → N 2 (star u) ≡ tip (L 1 u)
+  pub star_two : (u : ℕ) → InOrNone (InCell beta L 2 d) u → N 2 (star u) ≡ tip (L 1 u)
   star_two u (inl h) = s.sides u h
   star_two u (inr o) = let a : N 2 0 ≡ 0 = nil 2 (omega arith) in cc (fresh_star.nothing, fresh_tip.nothing, w.nil 1)
 
-  tip_two : (u : ℕ) → InOrNone (InCell beta L 2 d) u → N 2 (tip u) ≡ star (L 0 u)
+  pub tip_two : (u : ℕ) → InOrNone (InCell beta L 2 d) u → N 2 (tip u) ≡ star (L 0 u)
   tip_two u (inl h) = s.sides_back u h
   tip_two u (inr o) = let a : N 2 0 ≡ 0 = nil 2 (omega arith) in cc (fresh_star.nothing, fresh_tip.nothing, w.nil 0)
 
-  star_high : (j u : ℕ) → 3 ≤ j → InOrNone (InCell beta L 2 d) u → N j (star u) ≡ tip (L j u)
+  pub star_high : (j u : ℕ) → 3 ≤ j → InOrNone (InCell beta L 2 d) u → N j (star u) ≡ tip (L j u)
   star_high j u l (inl h) = s.along u j h l
   star_high j u l (inr o) = let a : N j 0 ≡ 0 = nil j (omega arith) in cc (fresh_star.nothing, fresh_tip.nothing, w.nil j)
 
-  tip_high : (j u : ℕ) → 3 ≤ j → InOrNone (InCell beta L 2 d) u → N j (tip u) ≡ star (L j u)
+  pub tip_high : (j u : ℕ) → 3 ≤ j → InOrNone (InCell beta L 2 d) u → N j (tip u) ≡ star (L j u)
   tip_high j u l (inl h) = s.along_tip u j h l
   tip_high j u l (inr o) = let a : N j 0 ≡ 0 = nil j (omega arith) in cc (fresh_star.nothing, fresh_tip.nothing, w.nil j)
 
   old_high : (j z : ℕ) → 2 ≤ j → IsOld z → N j z ≡ L j z
   old_high j z l o = kept_old j z (omega arith) o (λ _ q. omega arith)
+
+  pub in_high : (j z : ℕ) → 2 ≤ j → InCell beta L 2 d z → N j z ≡ L j z
+  in_high j z l h = old_high j z l (old_in z h)
 
   back_star : (j x : ℕ) → 2 ≤ j → InCell beta L 2 d x → N j (star x) ≢ 0 → N j (N j (star x)) ≡ star x
   back_star j x l h n = ⊎_elim

@@ -15,7 +15,7 @@ use Rattle.insert_laws.proofs.BetaParts.{laws_from_parts, onward_of, backward_of
 use Rattle.insert_laws.proofs.BetaEdge.{before_copy}
 
 module _ (L : Links) (w : Laws beta L) (d : ℕ) (linked : L 0 d ≢ 0) (star tip : ℕ → ℕ) (fresh_star : IsFresh L (InBetaCorner L d) star) (fresh_tip : IsFresh L (InBetaCorner L d) tip) (two : (x y : ℕ) → InBetaCorner L d x → InBetaCorner L d y → star x ≢ tip y) (N : Links) (s : IsBetaDangled d star tip L N) where
-  begins : (x : ℕ) → InBetaCorner L d x → L 0 x ≢ 0
+  pub begins : (x : ℕ) → InBetaCorner L d x → L 0 x ≢ 0
   begins x here = linked
   begins x (onward {x = u} {y = v} o (word, (j, l, e), q, n)) =
       let a : L j (L 0 u) ≡ v = ap (λ t. through L t u) (sym e) ∙ q in

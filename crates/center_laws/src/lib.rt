@@ -1,43 +1,137 @@
-//! Laws of dangling edges and centres: both keep the laws of a map, in either kind.
+//! Laws of dangling edges and centres: both keep the laws of a map, in either kind, and a centre makes triangles.
 //!
 //! Each law is a function with no parameters and an empty body: what it ensures is the law, for all links of its kind and
 //! of every dimension. A proof uses it by a call. The two series of new darts are fresh and have no dart in common, as
 //! they do where the one is numbered on after the other.
 #![tactic(auto)]
 
-ghost use Rattle.std.specs.Prelude.{◌≢◌, ℕ};
-ghost use Rattle.map_defs.specs.Kind.{alpha, beta};
+ghost use Rattle.std.specs.Prelude.{◌≡◌, ◌≢◌, ◌↔◌, ◌≤◌, ◌+◌, ℕ, List, length, Bool, IsTrue};
+ghost use Rattle.map_defs.specs.Kind.{Kind, alpha, beta};
 ghost use Rattle.map_defs.specs.Links.{Links};
 ghost use Rattle.map_defs.specs.Laws.{Laws};
-ghost use Rattle.map_defs.specs.Cells.{InCell};
-ghost use Rattle.map_defs.specs.Births.{IsFresh};
-ghost use Rattle.map_defs.specs.Insertion.{InAlphaCorner, InBetaCorner};
-ghost use Rattle.map_defs.specs.Closing.{IsAlphaDangled, IsBetaDangled, IsAlphaCentred, IsBetaCentred};
+ghost use Rattle.map_defs.specs.Cells.{InOrbit, InCell};
+ghost use Rattle.map_defs.specs.Births.{IsFresh, IsNumbered};
+ghost use Rattle.map_defs.specs.Insertion.{IsLinkedBy, InAlphaCorner, InBetaCorner};
+ghost use Rattle.map_defs.specs.Closing.{IsAlphaDangled, IsBetaDangled, IsAlphaCentred, IsBetaCentred, IsBesideCentre};
 
 /// A dangling edge at a corner keeps the laws of a generalized map.
 ///
 /// For whoever plans it and applies it: it has no condition.
 pub fn dangling_keeps_the_laws_of_alpha()
-    ensures { (d : ℕ) (star tip : ℕ → ℕ) (L N : Links) → Laws alpha L → d ≢ 0 → IsFresh L (InAlphaCorner L d) star → IsFresh L (InAlphaCorner L d) tip → ((x y : ℕ) → InAlphaCorner L d x → InAlphaCorner L d y → star x ≢ tip y) → IsAlphaDangled d star tip L N → Laws alpha N }
+    ensures { (d : ℕ) (star tip : ℕ → ℕ) (L N : Links) → Laws alpha L → d ≢ 0
+        → IsFresh L (InAlphaCorner L d) star → IsFresh L (InAlphaCorner L d) tip →
+        ((x y : ℕ) → InAlphaCorner L d x → InAlphaCorner L d y → star x ≢ tip y)
+        → IsAlphaDangled d star tip L N → Laws alpha N }
 {}
 
 /// A dangling edge at a corner that a side leads into keeps the laws of a combinatorial map.
 ///
 /// For whoever plans it and applies it: its one condition is that the dart is not 0-free.
 pub fn dangling_keeps_the_laws_of_beta()
-    ensures { (d : ℕ) (star tip : ℕ → ℕ) (L N : Links) → Laws beta L → L 0 d ≢ 0 → IsFresh L (InBetaCorner L d) star → IsFresh L (InBetaCorner L d) tip → ((x y : ℕ) → InBetaCorner L d x → InBetaCorner L d y → star x ≢ tip y) → IsBetaDangled d star tip L N → Laws beta N }
+    ensures { (d : ℕ) (star tip : ℕ → ℕ) (L N : Links) → Laws beta L → L 0 d ≢ 0
+        → IsFresh L (InBetaCorner L d) star → IsFresh L (InBetaCorner L d) tip →
+        ((x y : ℕ) → InBetaCorner L d x → InBetaCorner L d y → star x ≢ tip y)
+        → IsBetaDangled d star tip L N → Laws beta N }
 {}
 
 /// A vertex in the middle of a face keeps the laws of a generalized map.
 ///
 /// For whoever plans it and applies it: the laws do not need that the face is closed, though the operation asks for it.
 pub fn centre_keeps_the_laws_of_alpha()
-    ensures { (d : ℕ) (star tip : ℕ → ℕ) (L N : Links) → Laws alpha L → d ≢ 0 → IsFresh L (InCell alpha L 2 d) star → IsFresh L (InCell alpha L 2 d) tip → ((x y : ℕ) → InCell alpha L 2 d x → InCell alpha L 2 d y → star x ≢ tip y) → IsAlphaCentred d star tip L N → Laws alpha N }
+    ensures { (d : ℕ) (star tip : ℕ → ℕ) (L N : Links) → Laws alpha L → d ≢ 0
+        → IsFresh L (InCell alpha L 2 d) star → IsFresh L (InCell alpha L 2 d) tip →
+        ((x y : ℕ) → InCell alpha L 2 d x → InCell alpha L 2 d y → star x ≢ tip y)
+        → IsAlphaCentred d star tip L N → Laws alpha N }
 {}
 
 /// A vertex in the middle of a face keeps the laws of a combinatorial map.
 ///
 /// For whoever plans it and applies it: the laws do not need that the face is closed, though the operation asks for it.
 pub fn centre_keeps_the_laws_of_beta()
-    ensures { (d : ℕ) (star tip : ℕ → ℕ) (L N : Links) → Laws beta L → d ≢ 0 → IsFresh L (InCell beta L 2 d) star → IsFresh L (InCell beta L 2 d) tip → ((x y : ℕ) → InCell beta L 2 d x → InCell beta L 2 d y → star x ≢ tip y) → IsBetaCentred d star tip L N → Laws beta N }
+    ensures { (d : ℕ) (star tip : ℕ → ℕ) (L N : Links) → Laws beta L → d ≢ 0
+        → IsFresh L (InCell beta L 2 d) star → IsFresh L (InCell beta L 2 d) tip →
+        ((x y : ℕ) → InCell beta L 2 d x → InCell beta L 2 d y → star x ≢ tip y)
+        → IsBetaCentred d star tip L N → Laws beta N }
+{}
+
+/// A vertex in the middle of a face of a generalized map makes triangles around one vertex. Three steps along link 0 and
+/// then link 1 lead from each dart of the old face back to it, if its link 0 is not free. The ends of the new edges, one
+/// new dart for each dart of the old face, are one vertex and all of it. And two darts of the old face lie in one new face
+/// exactly where links 0 and those from 3 upwards lead from one to the other.
+///
+/// For whoever makes triangles of faces, and for whoever looks for the new vertex or the new face of an old side.
+pub fn centre_makes_triangles_of_alpha()
+    ensures around { (d : ℕ) (star tip : ℕ → ℕ) (L N : Links) → Laws alpha L → d ≢ 0
+        → IsFresh L (InCell alpha L 2 d) star → IsFresh L (InCell alpha L 2 d) tip
+        → ((x y : ℕ) → InCell alpha L 2 d x → InCell alpha L 2 d y → star x ≢ tip y)
+        → IsAlphaCentred d star tip L N → (x : ℕ) → InCell alpha L 2 d x → L 0 x ≢ 0
+        → N 1 (N 0 (N 1 (N 0 (N 1 (N 0 x))))) ≡ x }
+    ensures middle { (d : ℕ) (star tip : ℕ → ℕ) (L N : Links) → Laws alpha L → d ≢ 0
+        → IsFresh L (InCell alpha L 2 d) star → IsFresh L (InCell alpha L 2 d) tip
+        → ((x y : ℕ) → InCell alpha L 2 d x → InCell alpha L 2 d y → star x ≢ tip y)
+        → IsAlphaCentred d star tip L N → (x z : ℕ) → InCell alpha L 2 d x
+        → InCell alpha N 0 (tip x) z ↔ ((y : ℕ) × InCell alpha L 2 d y × (z ≡ tip y)) }
+    ensures faces { (d : ℕ) (star tip : ℕ → ℕ) (L N : Links) → Laws alpha L → d ≢ 0
+        → IsFresh L (InCell alpha L 2 d) star → IsFresh L (InCell alpha L 2 d) tip
+        → ((x y : ℕ) → InCell alpha L 2 d x → InCell alpha L 2 d y → star x ≢ tip y)
+        → IsAlphaCentred d star tip L N → (x y : ℕ) → InCell alpha L 2 d x
+        → InCell alpha L 2 d y
+        → InCell alpha N 2 x y ↔ InOrbit (IsLinkedBy L (IsBesideCentre alpha)) x y }
+{}
+
+/// A vertex in the middle of a face of a combinatorial map makes triangles around one vertex. Three steps along link 1 lead
+/// from each dart of the old face back to it. The ends of the new edges, one new dart for each dart of the old face, are
+/// one vertex and all of it. And two darts of the old face lie in one new face exactly where links from 3 upwards lead
+/// from one to the other.
+///
+/// For whoever makes triangles of faces, and for whoever looks for the new vertex or the new face of an old side.
+pub fn centre_makes_triangles_of_beta()
+    ensures around { (d : ℕ) (star tip : ℕ → ℕ) (L N : Links) → Laws beta L → d ≢ 0
+        → IsFresh L (InCell beta L 2 d) star → IsFresh L (InCell beta L 2 d) tip
+        → ((x y : ℕ) → InCell beta L 2 d x → InCell beta L 2 d y → star x ≢ tip y)
+        → IsBetaCentred d star tip L N → (x : ℕ) → InCell beta L 2 d x
+        → N 1 (N 1 (N 1 x)) ≡ x }
+    ensures middle { (d : ℕ) (star tip : ℕ → ℕ) (L N : Links) → Laws beta L → d ≢ 0
+        → IsFresh L (InCell beta L 2 d) star → IsFresh L (InCell beta L 2 d) tip
+        → ((x y : ℕ) → InCell beta L 2 d x → InCell beta L 2 d y → star x ≢ tip y)
+        → IsBetaCentred d star tip L N → (x z : ℕ) → InCell beta L 2 d x
+        → InCell beta N 0 (tip x) z ↔ ((y : ℕ) × InCell beta L 2 d y × (z ≡ tip y)) }
+    ensures faces { (d : ℕ) (star tip : ℕ → ℕ) (L N : Links) → Laws beta L → d ≢ 0
+        → IsFresh L (InCell beta L 2 d) star → IsFresh L (InCell beta L 2 d) tip
+        → ((x y : ℕ) → InCell beta L 2 d x → InCell beta L 2 d y → star x ≢ tip y)
+        → IsBetaCentred d star tip L N → (x y : ℕ) → InCell beta L 2 d x
+        → InCell beta L 2 d y
+        → InCell beta N 2 x y ↔ InOrbit (IsLinkedBy L (IsBesideCentre beta)) x y }
+{}
+
+/// Two series of new darts, one dart in each for each dart of a set, are fresh and have no dart in common, where the first
+/// is numbered on from the number made so far, the second after it, and no dart above that number is linked. So it is for
+/// each set that can be told, and for the corners and the face on which edges are hung.
+///
+/// For whoever plans a dangling edge or a centre: with the numbering of the program the premises of the laws here hold.
+pub fn numbered_series_are_fresh()
+    ensures told { (K : ℕ → Bool) (keys : List ℕ) (made : ℕ) (star tip : ℕ → ℕ) (L : Links)
+        → IsNumbered (λ x. IsTrue (K x)) keys made star
+        → IsNumbered (λ x. IsTrue (K x)) keys (made + length keys) tip
+        → ((x : ℕ) → IsTrue (K x) → x ≤ made) → ((t x : ℕ) → L t x ≢ 0 → x ≤ made)
+        → IsFresh L (λ x. IsTrue (K x)) star × IsFresh L (λ x. IsTrue (K x)) tip
+        × ((x y : ℕ) → IsTrue (K x) → IsTrue (K y) → star x ≢ tip y) }
+    ensures corner_of_alpha { (d : ℕ) (keys : List ℕ) (made : ℕ) (star tip : ℕ → ℕ) (L : Links)
+        → IsNumbered (InAlphaCorner L d) keys made star
+        → IsNumbered (InAlphaCorner L d) keys (made + length keys) tip
+        → ((x : ℕ) → InAlphaCorner L d x → x ≤ made) → ((t x : ℕ) → L t x ≢ 0 → x ≤ made)
+        → IsFresh L (InAlphaCorner L d) star × IsFresh L (InAlphaCorner L d) tip
+        × ((x y : ℕ) → InAlphaCorner L d x → InAlphaCorner L d y → star x ≢ tip y) }
+    ensures corner_of_beta { (d : ℕ) (keys : List ℕ) (made : ℕ) (star tip : ℕ → ℕ) (L : Links)
+        → IsNumbered (InBetaCorner L d) keys made star
+        → IsNumbered (InBetaCorner L d) keys (made + length keys) tip
+        → ((x : ℕ) → InBetaCorner L d x → x ≤ made) → ((t x : ℕ) → L t x ≢ 0 → x ≤ made)
+        → IsFresh L (InBetaCorner L d) star × IsFresh L (InBetaCorner L d) tip
+        × ((x y : ℕ) → InBetaCorner L d x → InBetaCorner L d y → star x ≢ tip y) }
+    ensures face { (k : Kind) (d : ℕ) (keys : List ℕ) (made : ℕ) (star tip : ℕ → ℕ) (L : Links)
+        → IsNumbered (InCell k L 2 d) keys made star
+        → IsNumbered (InCell k L 2 d) keys (made + length keys) tip
+        → ((x : ℕ) → InCell k L 2 d x → x ≤ made) → ((t x : ℕ) → L t x ≢ 0 → x ≤ made)
+        → IsFresh L (InCell k L 2 d) star × IsFresh L (InCell k L 2 d) tip
+        × ((x y : ℕ) → InCell k L 2 d x → InCell k L 2 d y → star x ≢ tip y) }
 {}

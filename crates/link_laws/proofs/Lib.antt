@@ -11,4 +11,6 @@ pub mod Orbits
 pub mod Turned
 pub mod Walking
 pub mod CellFacts
+pub mod CellOf
+pub mod VertexWords
 pub mod RowFacts

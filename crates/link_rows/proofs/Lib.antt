@@ -1,3 +1,8 @@
 pub mod PolygonSides
 pub mod PolygonSound
-pub mod LiveRows
+pub mod RowWrites
+pub mod EditSteps
+pub mod EditSound
+pub mod EditBack
+pub mod EditPlain
+pub mod EditLinks

@@ -1,2 +1,4 @@
 pub use Rattle.map_defs.specs.Rows
+pub use Rattle.map_defs.specs.Edits
 pub use Rattle.map_defs.specs.Polygon
+pub use Rattle.dart_arena.specs.Stock

@@ -1,7 +1,15 @@
-//! The links of a map, kept as rows of plain numbers.
+//! The links of a map, kept as rows of plain numbers, and edits of them.
 #![tactic(auto)]
 
+mod edit;
 mod links;
+mod polygon;
 mod row;
+mod steps;
+#[cfg(test)]
+mod tests;
 
-pub use links::{Links, MADE_MAX, PolygonFault};
+pub use dart_arena::{MADE_MAX, ReserveFault};
+pub use edit::{Change, Edit};
+pub use links::Links;
+pub use polygon::PolygonFault;

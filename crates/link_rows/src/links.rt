@@ -1,42 +1,35 @@
-ghost use Rattle.std.specs.Prelude.{◌≡◌, ℕ, ◌+◌, ◌*◌, ◌≤◌, ◌<◌, ◌↔◌, [], ◌∷◌, ◌++◌, None, Some, map, IsNone, IsTrue, IfOk, IfSome, OnOk, OnErr, IsErrOf, ◌^◌, vec_len, vec_capacity};
-ghost use Rattle.map_defs.specs.Kind.{alpha};
-ghost use Rattle.map_defs.specs.Rows.{links_of, made, live_count, IsLive, IsSound};
-ghost use Rattle.map_defs.specs.Polygon.{polygon_rows, next_side, previous_side};
+ghost use Rattle.std.specs.Prelude.{◌≡◌, ℕ, ◌+◌, ◌-◌, ◌≤◌, ◌<◌, ◌↔◌, [], ◌∷◌, None, length, IsNone, IsOk, IsTrue, IfSome, IfNone, OnOk, OnErr, IsErrOf};
+ghost use Rattle.map_defs.specs.Rows.{Rows, links_of, made, live_count, IsLive, IsSound};
+ghost use Rattle.map_defs.specs.Edits.{after_edit, before_edit, Fits, IsLed};
+ghost use Rattle.dart_arena.specs.Stock.{IsNextLive};
 
-use crate::row::{DIM_MAX, Row};
-use map_kind::{Alpha, Dart, Kind};
+use crate::edit::Edit;
+use crate::row::Row;
+use crate::steps;
+use dart_arena::{Arena, MADE_MAX, ReserveFault};
+use map_kind::{Dart, Kind};
 use std::alloc::Global;
 use std::marker::{Model, PhantomData};
 
-/// How many darts a map ever makes at most.
-pub const MADE_MAX: u32 = 4_194_304;
-
-/// Why a polygon is not made.
-#[derive(Clone, Copy, Debug, PartialEq, Eq)]
-pub enum PolygonFault {
-    /// More than `MADE_MAX` darts would be made.
-    Full,
-    /// There is no memory for the rows.
-    NoMemory,
-}
-
-/// The links of a map of a kind and a dimension from 2 to 8: for each dart, by its number, a row with the dart at each
-/// link. Its type keeps that the inverse link leads back, so that every entry names a live dart.
+/// The links of a map of a kind and a dimension from 2 to 8: for each live dart, by its number, a row with the dart at
+/// each link. Its type keeps that the inverse link leads back, so that every entry names a live dart. It is seen as the
+/// stock of its rows.
 #[derive(Drop)]
 pub struct Links<K: Kind, const DIM: usize> {
-    rows: Vec<Row<DIM>>,
-    kind: PhantomData<K>,
+    pub(crate) rows: Arena<Row<DIM>>,
+    pub(crate) kind: PhantomData<K>,
 }
 
 impl<K: Kind, const DIM: usize> Model for Links<K, DIM> {
-    ghost use Rattle.std.specs.Prelude.{◌∷◌, None, Some, map, List, Option, ℕ, ◌≤◌};
+    ghost use Rattle.std.specs.Prelude.{List, ℕ, length, ◌<◌, ◌≤◌};
     ghost use Rattle.map_defs.specs.Rows.{IsSound};
+    ghost use Rattle.dart_arena.specs.Stock.{Stock};
 
-    ghost Value = { List (Option (List ℕ)) };
+    ghost Value = { Stock (List ℕ) };
 
-    ghost view = { λ links. None ∷ map Some links.rows.items };
+    ghost view = { λ links. links.rows };
 
-    ghost invariant = { λ links. (DIM ≤ 8) × IsSound K.kind DIM (None ∷ map Some links.rows.items) };
+    ghost invariant = { λ links. (DIM ≤ 8) × (0 < length links.rows.rows) × IsSound K.kind DIM links.rows.rows };
 }
 
 impl<K: Kind, const DIM: usize> Links<K, DIM> {
@@ -44,100 +37,115 @@ impl<K: Kind, const DIM: usize> Links<K, DIM> {
     pub fn new(alloc: Global) -> Self
         requires low { 2 ≤ DIM }
         requires high { DIM ≤ 8 }
-        ensures { result ≡ None ∷ [] }
+        ensures rows { result.rows ≡ None ∷ [] }
+        ensures spare { result.spare ≡ 0 }
+        ensures room { result.room ≡ 0 }
     {
         Links {
-            rows: Vec::new(alloc),
+            rows: Arena::new(alloc),
             kind: PhantomData,
         }
     }
 
-    /// How many darts were made so far: the greatest number of a dart, or 0.
+    /// How many darts were made so far, dead ones among them: the greatest number of a dart, or 0.
     pub fn made(&self) -> u32
-        ensures made { result ≡ made self.now }
-        ensures sound { IsSound K.kind DIM self.now }
+        ensures made { result ≡ made self.now.rows }
+        ensures begun { 0 < length self.now.rows }
+        ensures sound { IsSound K.kind DIM self.now.rows }
     {
-        self.rows.len() as u32
+        let _ = &self.kind;
+        self.rows.made()
     }
 
     /// How many darts are live.
     pub fn live_count(&self) -> u32
-        ensures { result ≡ live_count self.now }
+        ensures { result ≡ live_count self.now.rows }
     {
-        self.rows.len() as u32
+        self.rows.live_count()
     }
 
     /// Whether a dart is live.
     pub fn is_live(&self, dart: Dart) -> bool
-        ensures live { IsTrue result ↔ IsLive self.now dart }
-        ensures sound { IsSound K.kind DIM self.now }
+        ensures live { IsTrue result ↔ IsLive self.now.rows dart }
+        ensures sound { IsSound K.kind DIM self.now.rows }
     {
-        dart.number() as usize <= self.rows.len()
+        self.rows.get(dart).is_some()
+    }
+
+    /// The least live dart above a number; none exactly where no dart above it is live. It costs the darts that it
+    /// skips.
+    pub fn next_live(&self, after: u32) -> Option<Dart>
+        ensures next { IfSome result (λ dart. IsNextLive self.now after dart) }
+        ensures none { IfNone result ((e : ℕ) → after < e → IsLive self.now.rows e → ⊥) }
+    {
+        self.rows.next_live(after)
     }
 
     /// The dart at a link of a dart; none exactly where the dart is not live or the link is free.
     pub fn link(&self, dart: Dart, link: usize) -> Option<Dart>
         requires { link ≤ DIM }
-        ensures free { IsNone result ↔ (links_of self.now link dart ≡ 0) }
-        ensures linked { IfSome result (λ other. other ≡ links_of self.now link dart) }
+        ensures free { IsNone result ↔ (links_of self.now.rows link dart ≡ 0) }
+        ensures linked { IfSome result (λ other. other ≡ links_of self.now.rows link dart) }
     {
-        let row = self.rows.get(dart.number() as usize - 1)?;
+        let row = self.rows.get(dart)?;
         Dart::new(row.entry(link))
     }
-}
 
-impl Links<Alpha, 2> {
-    /// Makes a polygon, the face of `sides` sides with two darts each, and answers its first dart: the darts are
-    /// numbered on from those that were made, link 0 pairs the two darts of a side, and link 1 pairs the second with
-    /// the first of the next side, in a circle. A refusal leaves the links as they were.
-    pub fn polygon(&mut self, sides: u32) -> Result<Dart, PolygonFault>
-        requires low { 3 ≤ sides }
-        requires high { sides ≤ 65536 }
-        ensures first { IfOk result (λ first. first ≡ made self.old + 1) }
-        ensures made { OnOk result (self.new ≡ self.old ++ map Some (polygon_rows alpha 2 (made self.old + 1) sides)) }
-        ensures full { IsErrOf result PolygonFault.Full ↔ (MADE_MAX < made self.old + 2 * sides) }
+    /// Whether a link of a live dart is free.
+    pub fn is_free(&self, dart: Dart, link: usize) -> bool
+        requires live { IsLive self.now.rows dart }
+        requires link { link ≤ DIM }
+        ensures { IsTrue result ↔ (links_of self.now.rows link dart ≡ 0) }
+    {
+        self.link(dart, link).is_none()
+    }
+
+    /// Makes room for so many births, and for so many more live darts, all without further memory. `Full` comes
+    /// exactly where more than `MADE_MAX` darts would be made. A refusal leaves the links as they were.
+    pub fn reserve(&mut self, births: u32) -> Result<(), ReserveFault>
+        ensures rows { self.new.rows ≡ self.old.rows }
+
+        // Success leaves that room, and room once there stays.
+        ensures spare { OnOk result (births ≤ self.new.spare) }
+        ensures room { OnOk result (births ≤ self.new.room) }
+        ensures spare_stays { self.old.spare ≤ self.new.spare }
+        ensures room_stays { self.old.room ≤ self.new.room }
+
+        // It fails where there would be too many darts, or where room was missing and there is no memory for it.
+        ensures full { IsErrOf result ReserveFault.Full ↔ (MADE_MAX < made self.old.rows + births) }
+        ensures had_room { births ≤ self.old.spare → births ≤ self.old.room → made self.old.rows + births ≤ MADE_MAX → IsOk result }
         ensures err { OnErr result (self.new ≡ self.old) }
     {
-        let first = self.made() + 1;
-        if 2 * sides > MADE_MAX - self.made() {
-            return Err(PolygonFault::Full);
-        }
-        if self.rows.reserve(2 * sides as usize).is_err() {
-            return Err(PolygonFault::NoMemory);
-        }
-        push_sides(&mut self.rows, first, sides);
-        Ok(Dart::new(first).unwrap())
+        self.rows.reserve(births)
     }
-}
 
-/// Appends the rows of a polygon's sides, whose darts are numbered on from `first`.
-fn push_sides(rows: &mut Vec<Row<2>>, first: u32, sides: u32)
-    requires few { first + 2 * sides < 2 ^ 32 }
-    requires room { vec_len rows.old + 2 * sides ≤ vec_capacity rows.old }
-    ensures { rows.new.items ≡ rows.old.items ++ polygon_rows alpha 2 first sides }
-{
-    for side in 0..sides {
-        let start = first + 2 * side;
-        let end = start + 1;
-        rows.push_reserved(Row::flat(end, first + 2 * previous_side(sides, side) + 1));
-        rows.push_reserved(Row::flat(start, first + 2 * next_side(sides, side)));
+    /// Makes an edit that fits. It takes no memory: room for the births was reserved.
+    pub fn apply(&mut self, edit: &Edit)
+        requires fits { Fits K.kind DIM self.old.rows edit.now }
+        requires spare { edit.now.births ≤ self.old.spare }
+        requires room { edit.now.births ≤ self.old.room }
+        requires few { made self.old.rows + edit.now.births ≤ MADE_MAX }
+        ensures rows { self.new.rows ≡ after_edit DIM edit.now self.old.rows }
+        ensures spare { self.new.spare ≡ self.old.spare - edit.now.births }
+        ensures room { self.new.room ≡ self.old.room - edit.now.births + length edit.now.deaths }
+    {
+        steps::bear(&mut self.rows, edit.births);
+        steps::link(&mut self.rows, &edit.changes);
+        steps::bury(&mut self.rows, &edit.deaths);
     }
-}
 
-/// The side before one of a polygon's sides, in a circle.
-fn previous_side(sides: u32, side: u32) -> u32
-    requires { side < sides }
-    ensures side { result ≡ previous_side sides side }
-    ensures within { result < sides }
-{
-    if side == 0 { sides - 1 } else { side - 1 }
-}
-
-/// The side after one of a polygon's sides, in a circle.
-fn next_side(sides: u32, side: u32) -> u32
-    requires { side < sides }
-    ensures side { result ≡ next_side sides side }
-    ensures within { result < sides }
-{
-    if side + 1 == sides { 0 } else { side + 1 }
+    /// Takes an edit back that led here from links that it fits, and gives those links back, with as many darts made
+    /// as then. It takes no memory.
+    pub fn reverse(&mut self, edit: &Edit)
+        requires led { (rows : Rows) × IsLed K.kind DIM edit.now rows self.old.rows }
+        requires room { length edit.now.deaths ≤ self.old.room + edit.now.births }
+        ensures rows { self.new.rows ≡ before_edit DIM edit.now self.old.rows }
+        ensures back { (rows : Rows) → IsLed K.kind DIM edit.now rows self.old.rows → self.new.rows ≡ rows }
+        ensures spare { self.new.spare ≡ self.old.spare + edit.now.births }
+        ensures room { self.new.room ≡ self.old.room + edit.now.births - length edit.now.deaths }
+    {
+        steps::unbear(&mut self.rows, edit.births);
+        steps::revive(&mut self.rows, &edit.deaths);
+        steps::unlink(&mut self.rows, &edit.changes);
+    }
 }

@@ -1,5 +1,6 @@
-ghost use Rattle.std.specs.Prelude.{◌≡◌, ℕ, ◌+◌, ◌≤◌, ◌<◌, List, length, take, slice_index, slice_set};
+ghost use Rattle.std.specs.Prelude.{◌≡◌, ℕ, ◌+◌, ◌≤◌, List, length, take, slice_index, slice_set};
 ghost use Rattle.map_defs.specs.Polygon.{row_of};
+ghost use Rattle.map_defs.specs.Edits.{free_row};
 
 use std::marker::Model;
 
@@ -22,6 +23,14 @@ impl<const DIM: usize> Model for Row<DIM> {
 }
 
 impl<const DIM: usize> Row<DIM> {
+    /// The row of a dart whose links are all free.
+    pub fn free() -> Self
+        requires { DIM ≤ DIM_MAX }
+        ensures { result ≡ free_row DIM }
+    {
+        Row { entries: [0; 9] }
+    }
+
     /// The row of a dart that is linked by links 0 and 1 alone.
     pub fn flat(zeroth: u32, first: u32) -> Self
         requires low { 1 ≤ DIM }
@@ -40,5 +49,16 @@ impl<const DIM: usize> Row<DIM> {
         ensures { result ≡ slice_index self.now link }
     {
         self.entries[link]
+    }
+
+    /// The row with another entry at a link.
+    pub fn with_entry(&self, link: usize, to: u32) -> Self
+        requires low { link ≤ DIM }
+        requires high { DIM ≤ DIM_MAX }
+        ensures { result ≡ slice_set self.now link to }
+    {
+        let mut entries = self.entries;
+        entries[link] = to;
+        Row { entries }
     }
 }

@@ -1,7 +1,6 @@
 -- One program has one text and one status.
-use Rattle.std.proofs.Common.{◌≡◌, ℕ, ◌<◌, ◌≤◌, ◌⊎◌, List, [], ◌∷◌, ◌++◌, length, Option, Some, None, refl, sym, ap, ◌∙◌, subst, append_assoc, inl, inr, arith}
+use Rattle.std.proofs.Common.{◌≡◌, ℕ, ◌≤◌, List, ◌++◌, length, Option, Some, None, sym, ap, ◌∙◌, subst, append_assoc, inl, inr, arith}
 use Rattle.std.proofs.lemmas.Grind.{flat_map-append}
-use Rattle.map_defs.specs.Kind.{Kind}
 use Rattle.map_defs.specs.State.{State, empty_state}
 use Rattle.map_defs.specs.Script.{lines_of}
 use Rattle.map_defs.specs.Text.{Reply, reply_text, replies_text, any_refused}

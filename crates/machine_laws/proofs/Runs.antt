@@ -1,8 +1,8 @@
 -- One run has one list of replies and one state.
-use Rattle.std.proofs.Common.{◌≡◌, ℕ, List, [], ◌∷◌, ◌++◌, Option, Some, None, refl, sym, ap, ◌∙◌, subst, append_assoc}
+use Rattle.std.proofs.Common.{◌≡◌, ℕ, List, [], ◌∷◌, ◌++◌, sym, ap, ◌∙◌, subst, append_assoc}
 use Rattle.map_defs.specs.State.{State}
 use Rattle.map_defs.specs.Script.{Line, line_of, words_of}
-use Rattle.map_defs.specs.Text.{Reply, Refused}
+use Rattle.map_defs.specs.Text.{Reply}
 use Rattle.map_defs.specs.Machine.{Obeys, blank, unread, obeyed, Run, Step}
 use Rattle.machine_laws.proofs.Steps.{step-one}
 

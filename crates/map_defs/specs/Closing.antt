@@ -1,6 +1,6 @@
 -- Closing a boundary, a dangling edge at a corner, a vertex in the middle of a face. Source: CGAL's operations of these
 -- names; the general forms are this project's.
-use Rattle.std.specs.Prelude.{ℕ, suc, ◌≡◌, ◌≢◌, ◌≤◌}
+use Rattle.std.specs.Prelude.{ℕ, suc, ◌≡◌, ◌≢◌, ◌≤◌, ◌⊎◌}
 use Rattle.map_defs.specs.Kind.{Kind, alpha, beta, inverse, IsDistant}
 use Rattle.map_defs.specs.Links.{Links, IsTurned}
 use Rattle.map_defs.specs.Cells.{InCell}
@@ -77,3 +77,8 @@ pub record IsBetaCentred (d : ℕ) (star tip : ℕ → ℕ) (L N : Links) : Type
 -- the face of d is closed, as a vertex in its middle needs
 abbrev pub IsClosedFace : Kind → Links → ℕ → Type 0
 IsClosedFace k L d = (x : ℕ) → InCell k L 2 d x → (L 0 x ≢ 0) × (L 1 x ≢ 0)
+
+-- the links along which the new faces around a vertex in the middle of a face run at the darts of the old face
+abbrev pub IsBesideCentre : Kind → ℕ → Type 0
+IsBesideCentre alpha j = (j ≡ 0) ⊎ (3 ≤ j)
+IsBesideCentre beta j = 3 ≤ j

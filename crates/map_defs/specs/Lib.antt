@@ -4,6 +4,7 @@ pub mod Laws
 pub mod Words
 pub mod Cells
 pub mod Rows
+pub mod Edits
 pub mod Values
 pub mod Refusal
 pub mod State
@@ -24,4 +25,5 @@ pub mod Contraction
 pub mod Dual
 pub mod Touched
 pub mod Carry
+pub mod Totals
 pub mod Program

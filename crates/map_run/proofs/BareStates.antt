@@ -1,11 +1,11 @@
 -- States without values, rules and marks.
-use Rattle.std.proofs.Common.{◌≡◌, ℕ, zero, suc, ◌+◌, ◌<◌, ◌≤◌, ◌⊎◌, inl, inr, length, get_or, replicate, arith, List, [], ◌∷◌, ◌++◌, map, Option, Some, None, refl, sym, ap, ◌∙◌}
+use Rattle.std.proofs.Common.{◌≡◌, ℕ, zero, suc, ◌+◌, inl, inr, length, get_or, replicate, arith, List, [], ◌∷◌, ◌++◌, map, Option, Some, None, refl, sym, ap, ◌∙◌}
 use Rattle.std.proofs.lemmas.List.{map-append, get_or-map, get_or_past, length-map}
 use Rattle.std.proofs.lemmas.Bool.{cases_lt}
 use Rattle.map_defs.specs.Kind.{Kind, alpha}
 use Rattle.map_defs.specs.Rows.{Rows}
 use Rattle.map_defs.specs.Values.{Value}
-use Rattle.map_defs.specs.State.{Content, with_born, no_values, value_at}
+use Rattle.map_defs.specs.State.{with_born, no_values, value_at}
 use Rattle.map_defs.specs.Listing.{ListsValues, listing_with}
 use Rattle.map_defs.specs.Text.{Shown}
 use Rattle.map_defs.specs.Script.{Show}

@@ -1,14 +1,14 @@
 -- How the program ends, by what was fetched and written.
-use Rattle.std.proofs.Common.{◌≡◌, ℕ, ◌+◌, ◌<◌, ◌≤◌, ◌⊎◌, List, [], ◌∷◌, ◌++◌, length, Option, Some, None, Result, Ok, Err, Bool, true, false, cond, nat_lt, refl, sym, ap, ◌∙◌, subst, inl, inr, arith, lit≤, lit<}
+use Rattle.std.proofs.Common.{◌≡◌, ℕ, ◌≤◌, ◌⊎◌, List, [], length, Option, Some, None, Result, Ok, Err, Bool, true, false, cond, nat_lt, refl, subst, inl, inr, arith, lit≤}
 use Rattle.std.proofs.lemmas.List.{append-nil}
-use Rattle.std.proofs.lemmas.Bool.{cases_lt, lt-ltb, le-ltb}
+use Rattle.std.proofs.lemmas.Bool.{cases_lt, lt-ltb}
 use Rattle.map_io.specs.declared.sink.PutFault.{PutFault}
 use Rattle.map_io.specs.declared.sink.PutFault.TheVariants.{Failed, NoMemory}
 use Rattle.map_defs.specs.Kind.{alpha}
-use Rattle.map_defs.specs.Outside.{Files, held, Appended, IsFront}
+use Rattle.map_defs.specs.Outside.{Files, held, Appended}
 use Rattle.map_defs.specs.State.{empty_state}
 use Rattle.map_defs.specs.Script.{lines_of}
-use Rattle.map_defs.specs.Program.{Command, RunScript, Tells, FileAnswer, ScriptAnswer, CommandAnswer, Answers, untold, told, Begins, Starts, whole, lines, EndsLine, Outcome, answered, unread, unwritten, no_memory, file_limit, cannot_read, too_long, usage, run_status}
+use Rattle.map_defs.specs.Program.{RunScript, Tells, Answers, told, Starts, whole, lines, Outcome, answered, unread, unwritten, no_memory, file_limit, cannot_read, too_long}
 use Rattle.map_run.specs.Going.{ObeysScript, IsObeyed}
 use Rattle.map_run.specs.Ending.{IsLast, WritesLast, Ends, EndsWhole, status_of}
 use Rattle.map_run.proofs.WritingFacts.{Appended-nothing, Appended-then, IsFront-all, IsFront-nothing}

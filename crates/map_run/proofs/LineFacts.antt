@@ -1,15 +1,14 @@
 -- What a line answers, from what its reply is.
-use Rattle.std.proofs.Common.{◌≡◌, ℕ, ◌⊎◌, List, [], ◌∷◌, ◌++◌, Option, Some, None, Result, Ok, Err, Bool, true, false, ◌||◌, refl, sym, ap, ◌∙◌, subst, append_assoc, inl, inr, OnOk, IfErr}
+use Rattle.std.proofs.Common.{◌≡◌, ℕ, List, [], ◌∷◌, Option, Some, None, Result, Ok, Err, Bool, true, false, ◌||◌, refl, sym, ◌∙◌, subst, inl, inr, OnOk, IfErr}
 use Rattle.std.proofs.lemmas.List.{append-nil}
 use Rattle.map_io.specs.declared.sink.PutFault.{PutFault}
 use Rattle.map_io.specs.declared.sink.PutFault.TheVariants.{Failed, NoMemory}
-use Rattle.map_defs.specs.Outside.{Appended, IsFront}
+use Rattle.map_defs.specs.Outside.{IsFront}
 use Rattle.map_defs.specs.State.{State}
 use Rattle.map_defs.specs.Script.{Line, line_of}
 use Rattle.map_defs.specs.Text.{Reply, Refused, reply_text, replies_text, is_refused, any_refused}
 use Rattle.map_defs.specs.Refusal.{Syntax}
-use Rattle.map_defs.specs.Machine.{Step, Obeys, obeyed, unread, blank}
-use Rattle.map_defs.specs.Program.{EndsLine}
+use Rattle.map_defs.specs.Machine.{Step, obeyed, unread}
 use Rattle.map_run.specs.Writing.{Writes, IsWritten, IsAnsweredStep, AnswersStep, IsAnswered, AnswersLine}
 
 -- the reply is written, or cut short

@@ -1,6 +1,6 @@
 -- Words that tell no polygon.
-use Rattle.std.proofs.Common.{◌≡◌, ℕ, List, [], ◌∷◌, Option, Some, None, Bool, true, false, cond, refl}
-use Rattle.map_defs.specs.Script.{Line, polygon_line, numerals, put_first, is_numeral, value_of}
+use Rattle.std.proofs.Common.{◌≡◌, ℕ, List, ◌∷◌, Option, Some, None, true, false, cond, refl}
+use Rattle.map_defs.specs.Script.{polygon_line, numerals, put_first, is_numeral, value_of}
 
 put-put : (o : Option (List ℕ)) (v w : ℕ) → polygon_line (put_first (put_first o w) v) ≡ None
 put-put None v w = refl

@@ -1,11 +1,11 @@
 -- The texts of rows, one dart after another.
-use Rattle.std.proofs.Common.{◌≡◌, ℕ, ◌+◌, ◌<◌, ◌≤◌, List, [], ◌∷◌, ◌++◌, length, take, drop, Option, Some, None, refl, sym, ap, ◌∙◌, arith, inl, inr}
+use Rattle.std.proofs.Common.{◌≡◌, ℕ, ◌+◌, ◌<◌, List, [], ◌∷◌, ◌++◌, length, take, drop, Option, Some, None, refl, sym, ap, ◌∙◌, arith, inl, inr}
 use Rattle.std.specs.List.{flat_map}
 use Rattle.std.proofs.lemmas.Grind.{flat_map-append}
 use Rattle.std.proofs.lemmas.List.{append-nil, take_more, take-append-drop, length-take-le}
 use Rattle.map_defs.specs.Rows.{Rows, row_at}
 use Rattle.map_defs.specs.Text.{row_text}
-use Rattle.map_defs.specs.Listing.{ListRow, live_rows_from}
+use Rattle.map_defs.specs.Listing.{live_rows_from}
 use Rattle.map_defs.specs.Program.{EndsLine}
 use Rattle.map_run.proofs.WritingFacts.{EndsLine-then}
 use Rattle.map_run.proofs.ListingRows.{live_rows_from-append}

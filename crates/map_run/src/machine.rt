@@ -43,7 +43,7 @@ pub fn obey_line<S: Sink>(
     out: &mut S,
 ) -> Result<bool, PutFault>
     ensures answered { AnswersLine (S.written out.old) (S.written out.new)
-        (state_of links.old) (state_of links.new) (words_of line.now) result }
+        (state_of links.old.rows) (state_of links.new.rows) (words_of line.now) result }
     ensures cause { HasCause (S.faults out.old) (S.faults out.new) (IsErrOf result PutFault.Failed) }
 {
     let Ok(words) = script::split_words(alloc, line) else {
@@ -69,7 +69,7 @@ fn obey_polygon<S: Sink>(
     out: &mut S,
 ) -> Result<bool, PutFault>
     ensures answered { AnswersStep (S.written out.old) (S.written out.new)
-        (state_of links.old) (state_of links.new) (Polygon sides) result }
+        (state_of links.old.rows) (state_of links.new.rows) (Polygon sides) result }
     ensures cause { HasCause (S.faults out.old) (S.faults out.new) (IsErrOf result PutFault.Failed) }
 {
     match polygon(links, sides) {
@@ -91,7 +91,7 @@ fn answered(written: Result<(), PutFault>, refused: bool) -> Result<bool, PutFau
 
 /// Makes a polygon, or refuses it.
 fn polygon(links: &mut Links<Alpha, 2>, sides: u64) -> Result<Reply, AllocError>
-    ensures { IfOk result (λ reply. Step (state_of links.old) (Polygon sides) (reply_meaning reply) (state_of links.new)) }
+    ensures { IfOk result (λ reply. Step (state_of links.old.rows) (Polygon sides) (reply_meaning reply) (state_of links.new.rows)) }
 {
     if sides < 3 || sides > 65536 {
         return Ok(Reply::Refused(Refusal::BadCount));

@@ -47,7 +47,7 @@ pub fn write_listing<S: Sink>(
     links: &Links<Alpha, 2>,
 ) -> Result<(), PutFault>
     ensures written { Writes (S.written out.old) (S.written out.new) result
-        (listing_text (listing_with (state_of links.now).present [])) }
+        (listing_text (listing_with (state_of links.now.rows).present [])) }
     ensures cause { HasCause (S.faults out.old) (S.faults out.new) (IsErrOf result PutFault.Failed) }
 {
     let mut line = Vec::new(alloc);
@@ -62,7 +62,7 @@ fn write_header<S: Sink>(
     links: &Links<Alpha, 2>,
 ) -> Result<(), PutFault>
     ensures written { Writes (S.written out.old) (S.written out.new) result
-        (header_text (listing_with (state_of links.now).present [])) }
+        (header_text (listing_with (state_of links.now.rows).present [])) }
     ensures cause { HasCause (S.faults out.old) (S.faults out.new) (IsErrOf result PutFault.Failed) }
 {
     line.clear();
@@ -78,7 +78,7 @@ fn write_rows<S: Sink>(
     links: &Links<Alpha, 2>,
 ) -> Result<(), PutFault>
     ensures written { Writes (S.written out.old) (S.written out.new) result
-        (flat_map row_text (live_rows_from 0 links.now)) }
+        (flat_map row_text (live_rows_from 0 links.now.rows)) }
     ensures cause { HasCause (S.faults out.old) (S.faults out.new) (IsErrOf result PutFault.Failed) }
 {
     for number in 0..links.made() {
@@ -95,7 +95,7 @@ fn write_row<S: Sink>(
     dart: Dart,
 ) -> Result<(), PutFault>
     ensures written { Writes (S.written out.old) (S.written out.new) result
-        (flat_map row_text (live_rows_from dart (row_at links.now dart ∷ []))) }
+        (flat_map row_text (live_rows_from dart (row_at links.now.rows dart ∷ []))) }
     ensures cause { HasCause (S.faults out.old) (S.faults out.new) (IsErrOf result PutFault.Failed) }
 {
     if !links.is_live(dart) {

@@ -54,7 +54,7 @@ pub fn append_refusal(text: &mut Vec<u8>, refusal: Refusal) -> Result<(), AllocE
 
 /// Appends the first line of a listing.
 pub fn append_header(text: &mut Vec<u8>, links: &Links<Alpha, 2>) -> Result<(), AllocError>
-    ensures { OnOk result (text.new.items ≡ text.old.items ++ header_text (listing_with (state_of links.now).present [])) }
+    ensures { OnOk result (text.new.items ≡ text.old.items ++ header_text (listing_with (state_of links.now.rows).present [])) }
 {
     text.extend_from_slice(b"cellmap 1 g")?;
     append_spaced(text, 2)?;
@@ -66,7 +66,7 @@ pub fn append_header(text: &mut Vec<u8>, links: &Links<Alpha, 2>) -> Result<(), 
 
 /// Appends the row of a live dart.
 pub fn append_row(text: &mut Vec<u8>, links: &Links<Alpha, 2>, dart: Dart) -> Result<(), AllocError>
-    ensures { OnOk result ((row : List ℕ) → row_at links.now dart ≡ Some row → length row ≡ 3 →
+    ensures { OnOk result ((row : List ℕ) → row_at links.now.rows dart ≡ Some row → length row ≡ 3 →
         text.new.items ≡ text.old.items ++ row_text (record { dart = dart; links = row })) }
 {
     append_number(text, dart.number())?;
@@ -81,7 +81,7 @@ pub fn append_row(text: &mut Vec<u8>, links: &Links<Alpha, 2>, dart: Dart) -> Re
 /// The number of the dart at a link, or 0.
 fn entry(links: &Links<Alpha, 2>, dart: Dart, link: usize) -> u32
     requires { link ≤ 2 }
-    ensures { result ≡ links_of links.now link dart }
+    ensures { result ≡ links_of links.now.rows link dart }
 {
     match links.link(dart, link) {
         Some(other) => other.number(),

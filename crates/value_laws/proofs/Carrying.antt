@@ -17,7 +17,7 @@ pieces_one Live Old New Cell Other p q a b e = rising_one p q a.ascending b.asce
 
 module _ (rule : Meaning) (value : ℕ → Value) (Live : ℕ → Type 0) (Old New : ℕ → ℕ → Type 0) where
   -- a piece gets one part
-  gets_one : (m : ℕ) (u v : Option Value) → Gets rule value Live Old New m u → Gets rule value Live Old New m v → u ≡ v
+  pub gets_one : (m : ℕ) (u v : Option Value) → Gets rule value Live Old New m u → Gets rule value Live Old New m v → u ≡ v
   gets_one m u v g h = g.is ∙ (share_same ∙ sym h.is)
     where
       same : g.pieces ≡ h.pieces

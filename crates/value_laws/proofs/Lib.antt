@@ -8,3 +8,7 @@ pub mod Rules
 pub mod MapValues
 pub mod OfRows
 pub mod Dealing
+pub mod Adding
+pub mod Grouping
+pub mod Summing
+pub mod Totalling

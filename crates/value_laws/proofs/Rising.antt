@@ -20,14 +20,18 @@ pub held_none : (m : ℕ) → Contains [] m → ⊥
 held_none m h = let g = h.1 in omega arith
 
 -- in a rising list the first is below the others, and the others rise
-Rises : List ℕ → Type 0
+pub Rises : List ℕ → Type 0
 Rises xs = AllPairs (λ x y. x < y) xs
 
-first_below : (x : ℕ) (xs : List ℕ) (m : ℕ) → Rises (x ∷ xs) → Contains xs m → x < m
+pub rising_rises : (xs : List ℕ) → IsStrictlyIncreasing xs → Rises xs
+unfolding Rises
+rising_rises xs r = AllPairs-from_increasing xs r
+
+pub first_below : (x : ℕ) (xs : List ℕ) (m : ℕ) → Rises (x ∷ xs) → Contains xs m → x < m
 unfolding Rises
 first_below x xs m r h = let g = h.1 in subst (λ z. x < z) h.2 (r 0 (suc h.0) m (omega arith) (omega arith))
 
-rest_rises : (x : ℕ) (xs : List ℕ) → Rises (x ∷ xs) → Rises xs
+pub rest_rises : (x : ℕ) (xs : List ℕ) → Rises (x ∷ xs) → Rises xs
 unfolding Rises
 rest_rises x xs r i j d h g = r (suc i) (suc j) d (omega arith) (omega arith)
 

@@ -11,7 +11,7 @@ dealt_whole : (v : ℤ) → dealt 1 0 v ≡ v
 dealt_whole (pos a) = rw (none_left a, div-one) refl
 dealt_whole (negsuc a) = rw (none_left a, div-one) refl
 
-same_value : (x y : Value) → x.a ≡ y.a → x.b ≡ y.b → x.c ≡ y.c → x ≡ y
+pub same_value : (x y : Value) → x.a ≡ y.a → x.b ≡ y.b → x.c ≡ y.c → x ≡ y
 same_value x y p q r = λ i. record { a = p i; b = q i; c = r i }
 
 -- a rule of the table deals a whole value to the one piece of a cell that is not split, where the hook does

@@ -31,6 +31,7 @@ ghost use Rattle.map_defs.specs.Walks.{IsTold};
 ghost use Rattle.map_defs.specs.Touched.{IsTouched, IsOldCell, Touches, IsAlike, IsLabelled, Covers};
 ghost use Rattle.map_defs.specs.Values.{Value, Rule, Meaning, meaning_of, KeepsWhole, dealt, total};
 ghost use Rattle.map_defs.specs.Carry.{IsCarried, AreCarried, AreCarriedByLabel, IsValuedWith, AreEqualOnCells, known};
+ghost use Rattle.map_defs.specs.Totals.{sum_share, ListsValuedCells, total_value, NoSumLeaves};
 
 /// The touched darts touch every dimension: each new cell without one of them is an old cell.
 ///
@@ -82,13 +83,15 @@ pub fn old_cells_keep_their_values()
         → AreEqualOnCells k i (links_of old) (IsLive old) values
         → (d : ℕ) → IsLive new d → IsOldCell k i (links_of old) (IsLive old) (links_of new) d
         → (r : Option Value)
-        → IsCarried rule (λ x. known (values x)) (λ x. IsLive old x × IsLive new x) (IsValuedWith k i (links_of old) values) (InCell k (links_of new) i) d r → r ≡ values d }
+        → IsCarried rule (λ x. known (values x)) (λ x. IsLive old x × IsLive new x)
+        (IsValuedWith k i (links_of old) values) (InCell k (links_of new) i) d r → r ≡ values d }
     ensures given { (k : Kind) (i : ℕ) (rule : Meaning) (old new : Rows) (values : ℕ → Option Value)
         → Laws k (links_of old) → Laws k (links_of new) → KeepsWhole rule
         → AreEqualOnCells k i (links_of old) (IsLive old) values
         → (d : ℕ) → IsLive new d → IsOldCell k i (links_of old) (IsLive old) (links_of new) d
         → IsTold (InCell k (links_of new) i d) ⊎ (values d ≡ None)
-        → IsCarried rule (λ x. known (values x)) (λ x. IsLive old x × IsLive new x) (IsValuedWith k i (links_of old) values) (InCell k (links_of new) i) d (values d) }
+        → IsCarried rule (λ x. known (values x)) (λ x. IsLive old x × IsLive new x)
+        (IsValuedWith k i (links_of old) values) (InCell k (links_of new) i) d (values d) }
 {}
 
 /// The names of the old cells do not matter: other labels for the same cells carry the same values, and labels that tell
@@ -107,7 +110,8 @@ pub fn names_of_cells_do_not_matter()
         → ((x y : ℕ) → IsLive old x → IsLive old y
         → IsAlike label x y ↔ IsValuedWith k i (links_of old) values x y) → ((x : ℕ) → IsLive old x
         → IsAlike label x x → value x ≡ known (values x))
-        → AreCarriedByLabel k i rule (IsLive old) label value (links_of new) (IsLive new) after ↔ AreCarried k i rule (links_of old) (IsLive old) values (links_of new) (IsLive new) after }
+        → AreCarriedByLabel k i rule (IsLive old) label value (links_of new) (IsLive new) after
+        ↔ AreCarried k i rule (links_of old) (IsLive old) values (links_of new) (IsLive new) after }
 {}
 
 /// Every rule of the table leaves whole the value of a cell that is not split, if the hook does.
@@ -126,4 +130,22 @@ pub fn dealt_numbers_add_up()
         → v ≡ int_div_euclid v (pos k) *ℤ pos k +ℤ int_rem_euclid v (pos k) }
     ensures rest { (k : ℕ) (v : ℤ) → 0 < k → (r : ℕ) × (r < k) × (int_rem_euclid v (pos k) ≡ pos r) }
     ensures parts { (k : ℕ) (v : ℤ) → 0 < k → total k (λ p. dealt k p v) ≡ v }
+{}
+
+/// Under the rule `sum share` the total of a dimension stays: the values of its cells, each of the three numbers by itself,
+/// add up to the same before and after a change of links by which no dart dies, if no sum of parts leaves 64 bits. The
+/// cells are told by their least darts, each cell that has a value once.
+///
+/// For whoever keeps amounts in cells, as lengths on edges: to make polygons and darts, to sew and unsew and to insert
+/// neither makes nor loses anything. Where all darts of a cell die, its value is lost.
+pub fn sum_share_keeps_totals()
+    ensures { (k : Kind) (i : ℕ) (hook : Meaning) (old new : Rows) (values after : ℕ → Option Value)
+        (cells cells_after : List ℕ) → Laws k (links_of old) → Laws k (links_of new)
+        → ((x : ℕ) → IsLive old x → IsLive new x)
+        → AreEqualOnCells k i (links_of old) (IsLive old) values
+        → AreCarried k i (sum_share hook) (links_of old) (IsLive old) values (links_of new) (IsLive new) after
+        → NoSumLeaves k i (sum_share hook) (links_of old) (IsLive old) values (links_of new) (IsLive new)
+        → ListsValuedCells k i (links_of old) (IsLive old) values cells
+        → ListsValuedCells k i (links_of new) (IsLive new) after cells_after
+        → total_value values cells ≡ total_value after cells_after }
 {}

@@ -1,6 +1,6 @@
-use Rattle.std.proofs.Common.{◌≡◌, ℕ, List, ◌∷◌, [], map, length, ap, arith, true, false, string_bytes, String, refl, sym, ◌∙◌}
+use Rattle.std.proofs.Common.{◌≡◌, List, ◌∷◌, [], map, length, ap, arith, string_bytes, String, refl, sym, ◌∙◌}
 use Rattle.std.specs.declared.alloc.Global.{Global}
-use Rattle.std.proofs.lemmas.Bool.{true≢false, false≢true}
+use Rattle.std.proofs.lemmas.Bool.{true≢false}
 use Rattle.map_defs.specs.Kind.{alpha}
 use Rattle.map_defs.specs.Program.{RunScript, Tells}
 use Rattle.map_run.proofs.Commands.{five, as_told, not_told}

@@ -1,7 +1,7 @@
-use Rattle.std.proofs.Common.{◌≡◌, ℕ, ◌⊎◌, List, map, string_bytes, refl, inl, inr, lit≤}
+use Rattle.std.proofs.Common.{map, string_bytes, refl, inl, inr, lit≤}
 use Rattle.map_defs.specs.Kind.{alpha}
-use Rattle.map_defs.specs.Outside.{Rose, Files}
-use Rattle.map_defs.specs.Program.{RunScript, Tells, Known, IsNoCommand, untold, usage}
+use Rattle.map_defs.specs.Outside.{Rose}
+use Rattle.map_defs.specs.Program.{RunScript, untold, usage}
 use Rattle.map_run.proofs.EndingFacts.{Ends-last}
 use Rattle.map_run.proofs.program.answer.Goals as goal
 

@@ -1,11 +1,7 @@
-use Rattle.std.proofs.Common.{◌≡◌, ℕ, ◌<◌, ◌≤◌, List, length, Option, Some, Ok, Err, refl, sym, ap, ◌∙◌, inl, inr, lit≤, Result, Bool}
-use Rattle.map_io.specs.declared.sink.PutFault.TheVariants.{Failed}
-use Rattle.map_io.specs.Fetched.{IsFetched}
+use Rattle.std.proofs.Common.{refl, inl, lit≤}
 use Rattle.map_defs.specs.Kind.{alpha}
-use Rattle.map_defs.specs.Outside.{Rose, Files, held}
-use Rattle.map_defs.specs.State.{empty_state}
-use Rattle.map_defs.specs.Program.{RunScript, Tells, file_limit, too_long, told}
-use Rattle.map_run.specs.Going.{ObeysScript}
+use Rattle.map_defs.specs.Outside.{Rose}
+use Rattle.map_defs.specs.Program.{RunScript, too_long, told}
 use Rattle.map_run.proofs.EndingFacts.{Ends-last, Ends-nothing, Ends-script}
 use Rattle.map_run.proofs.program.run_script.Goals as goal
 

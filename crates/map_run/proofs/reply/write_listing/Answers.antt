@@ -1,13 +1,13 @@
-use Rattle.std.proofs.Common.{◌≡◌, ℕ, List, [], ◌++◌, Option, Result, Ok, Err, codes, sym, ap, ◌∙◌, subst, append_assoc, inr, refl, ◌∷◌, length}
+use Rattle.std.proofs.Common.{◌≡◌, [], ◌++◌, Err, codes, sym, subst, append_assoc, inr, refl, ◌∷◌, length}
 use Rattle.std.proofs.lemmas.Result.{err_from_is_err_and}
 use Rattle.map_defs.specs.Rows.{Rows}
 use Rattle.map_defs.specs.Text.{header_text, listing_text, ended, letter, spaced}
 use Rattle.map_defs.specs.Listing.{Listing, listing_with}
 use Rattle.map_defs.specs.Program.{EndsLine}
 use Rattle.map_run.specs.Bare.{state_of}
-use Rattle.map_run.specs.Writing.{Writes, HasWritten}
+use Rattle.map_run.specs.Writing.{Writes}
 use Rattle.map_run.proofs.RowTexts.{rows_text, rows_end}
-use Rattle.map_run.proofs.WritingFacts.{Writes-then, Writes-cut, Writes-put, HasWritten-from, HasWritten-then}
+use Rattle.map_run.proofs.WritingFacts.{Writes-then, Writes-cut, Writes-put, HasWritten-from}
 use Rattle.map_run.proofs.reply.write_listing.Goals as goal
 
 abbrev listing : Rows → Listing
@@ -19,7 +19,7 @@ parts rows = simp append_assoc
 
 pub returns-in_err-write_header-clause-written : goal.returns-in_err-write_header-clause-written
 returns-in_err-write_header-clause-written g c =
-    let rows : Rows = c.args.links.now in
+    let rows : Rows = c.args.links.now.rows in
     let p = err_from_is_err_and c.from_residual.result c.from_residual.ensures.1 in
     let here = rw c.in_err-write_header.was at c.write_header.ensures.written in
     rw (p.1, p.2)
@@ -33,7 +33,7 @@ header_ends rows =
 
 pub returns-in_err-write_rows-clause-written : goal.returns-in_err-write_rows-clause-written
 returns-in_err-write_rows-clause-written g c =
-    let rows : Rows = c.args.links.now in
+    let rows : Rows = c.args.links.now.rows in
     let p = err_from_is_err_and c.from_residual-in_err-write_rows.result c.from_residual-in_err-write_rows.ensures.1 in
     let head = rw c.in_ok-write_header.was at c.write_header.ensures.written in
     let here = rw c.in_err-write_rows.was at c.write_rows.ensures.written in
@@ -45,7 +45,7 @@ returns-in_err-write_rows-clause-written g c =
 
 pub returns-clause-written : goal.returns-clause-written
 returns-clause-written g c =
-    let rows : Rows = c.args.links.now in
+    let rows : Rows = c.args.links.now.rows in
     let head = rw c.in_ok-write_header.was at c.write_header.ensures.written in
     let body = rw c.in_ok-write_rows.was at c.write_rows.ensures.written in
     subst (Writes (g.S.Sink.written c.args.out.now) (g.S.Sink.written c.put.new.self) c.put.result) (sym (parts rows))

@@ -1,14 +1,13 @@
-use Rattle.std.proofs.Common.{◌≡◌, ℕ, ◌+◌, ◌<◌, ◌≤◌, List, ◌++◌, length, take, Option, Ok, Err, sym, ap, ◌∙◌, subst, arith}
+use Rattle.std.proofs.Common.{◌≡◌, ℕ, ◌+◌, ◌<◌, ◌++◌, length, take, Err, arith}
 use Rattle.std.proofs.lemmas.Result.{err_from_is_err_and}
 use Rattle.map_defs.specs.Rows.{Rows, row_at}
-use Rattle.map_run.specs.Writing.{Writes, HasWritten}
 use Rattle.map_run.proofs.RowTexts.{rows_text, row_text_at, row_ends, rows_text-more, rows_text-rest}
 use Rattle.map_run.proofs.WritingFacts.{Writes-then, Writes-cut, HasWritten-from, HasWritten-then}
 use Rattle.map_run.proofs.reply.write_rows.Goals as goal
 
 pub returns-in_err-write_row-clause-written : goal.returns-in_err-write_row-clause-written
 returns-in_err-write_row-clause-written g c =
-    let rows : Rows = c.args.links.now in
+    let rows : Rows = c.args.links.now.rows in
     let k : ℕ = c.loop-number.number + 1 in
     let within : k < length rows = omega (arith, c.made-number-end.ensures.made) in
     let dart : c.unwrap.result ≡ k = rw c.unwrap.ensures at c.new.ensures.same in
@@ -22,7 +21,7 @@ returns-in_err-write_row-clause-written g c =
 
 pub loop-number-preserved : goal.loop-number-preserved
 loop-number-preserved g c =
-    let rows : Rows = c.args.links.now in
+    let rows : Rows = c.args.links.now.rows in
     let k : ℕ = c.loop-number.number + 1 in
     let within : k < length rows = omega (arith, c.made-number-end.ensures.made) in
     let dart : c.unwrap.result ≡ k = rw c.unwrap.ensures at c.new.ensures.same in

@@ -1,0 +1,9 @@
+//! Rows under dart numbers: a dart's number rises with each birth, and is used again only after the birth is taken
+//! back.
+#![tactic(auto)]
+
+mod arena;
+#[cfg(test)]
+mod tests;
+
+pub use arena::{Arena, MADE_MAX, ReserveFault};

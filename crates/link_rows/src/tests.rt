@@ -1,0 +1,72 @@
+ghost use Rattle.std.specs.Prelude.{◌≡◌};
+
+use crate::{Change, Edit, Links, ReserveFault};
+use dart_arena::MADE_MAX;
+use map_kind::{Alpha, Dart};
+use std::test::Fail;
+
+#[test]
+fn darts_are_born_and_taken_back(rt: HostRuntime) -> Result<(), Fail> {
+    let alloc = rt.alloc();
+    let mut links = Links::<Alpha, 8>::new(alloc);
+    assert!(&rt; links.reserve(2).is_ok());
+    let births = Edit {
+        births: 2,
+        deaths: Vec::new(alloc),
+        changes: Vec::new(alloc),
+    };
+    links.apply(&births);
+    assert_eq!(&rt; (links.made(), links.live_count()), (2, 2));
+    assert_eq!(&rt; links.next_live(1).map(Dart::number), Some(2));
+    links.reverse(&births);
+    assert_eq!(&rt; (links.made(), links.live_count()), (0, 0));
+    Ok(())
+}
+
+// Two darts are born and sewn, the first one ends, and both steps are taken back.
+#[test]
+fn links_are_changed_and_taken_back(rt: HostRuntime) -> Result<(), Fail> {
+    let alloc = rt.alloc();
+    let one = Dart::new(1).unwrap();
+    let two = Dart::new(2).unwrap();
+    let mut links = Links::<Alpha, 8>::new(alloc);
+    assert!(&rt; links.reserve(2).is_ok());
+    let sewn = Edit {
+        births: 2,
+        deaths: Vec::new(alloc),
+        changes: Vec::from_slice(alloc, &[change(one, 0, 2), change(two, 0, 1)])?,
+    };
+    links.apply(&sewn);
+    assert_eq!(&rt; links.link(one, 8), Some(two));
+    assert!(&rt; links.is_free(two, 7));
+    let ended = Edit {
+        births: 0,
+        deaths: Vec::from_slice(alloc, &[one])?,
+        changes: Vec::from_slice(alloc, &[change(one, 2, 0), change(two, 1, 0)])?,
+    };
+    links.apply(&ended);
+    assert_eq!(&rt; (links.is_live(one), links.link(two, 8)), (false, None));
+    links.reverse(&ended);
+    assert_eq!(&rt;
+        (links.link(one, 8), links.link(two, 8)),
+        (Some(two), Some(one))
+    );
+    Ok(())
+}
+
+fn change(dart: Dart, old: u32, new: u32) -> Change
+    ensures { result ≡ record { dart = dart; link = 8; old = old; new = new } }
+{
+    Change {
+        dart,
+        link: 8,
+        old,
+        new,
+    }
+}
+
+#[test]
+fn no_more_darts_are_made_than_may_be(rt: HostRuntime) {
+    let mut links = Links::<Alpha, 2>::new(rt.alloc());
+    assert_eq!(&rt; links.reserve(MADE_MAX + 1), Err(ReserveFault::Full));
+}
