@@ -1,3 +1,4 @@
+//! What a listing tells, as plain data.
 use map_kind::{Dart, Place};
 use std::marker::Model;
 
@@ -33,18 +34,19 @@ impl Model for ListValue {
     ghost inverse = { λ v. record { dim = v.dim; place = record { dart = v.dart; value = v.value } } };
 }
 
-/// What a listing tells of a map.
+/// What a listing tells of a map: its darts, links and values. A listing is data to be written, and need not be that of a
+/// map: any numbers may stand in it, in any order. Only its letter is always that of a kind.
 #[derive(Debug, Drop)]
 pub struct Listing {
     /// The letter of the map's kind: `g` for a generalized, `c` for a combinatorial map.
     pub letter: u8,
     /// The map's dimension.
     pub dim: u32,
-    /// How many darts were ever made: the highest number of a dart.
+    /// How many darts were ever made, those that have ended among them.
     pub made: u32,
-    /// The rows of the live darts, in the order in which they are listed.
+    /// The rows of the live darts; a map lists them by ascending dart.
     pub rows: Vec<ListRow>,
-    /// The cells that have a value, in the order in which they are listed.
+    /// The cells that have a value; a map lists them by ascending dimension and then by ascending dart.
     pub values: Vec<ListValue>,
 }
 

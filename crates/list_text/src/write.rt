@@ -8,9 +8,9 @@ use itoa::{Buffer, Integer};
 use map_kind::{Dart, Place};
 use std::alloc::{AllocError, Global};
 
-/// The text of a listing: a line that begins with `cellmap 1` and names the kind, the dimension, the darts made and the
-/// number of rows, then a line for each row, a line for each value, and `end`. Nothing is asked of the listing: it is
-/// written as it stands, whatever its dimension, its darts and their order.
+/// The text of a listing, in version 1 of this project's format: a line that names the kind, the dimension, how many darts
+/// were made and how many rows there are, then a line for each row, a line for each value, and `end`. Nothing is asked of
+/// the listing: it is written as it stands, whatever its dimension, its darts and their order.
 pub fn write_listing(alloc: Global, listing: &Listing) -> Result<Vec<u8>, AllocError>
     ensures { IfOk result (λ text. text.items ≡ listing_text listing.now) }
 {
@@ -28,8 +28,8 @@ pub fn write_listing(alloc: Global, listing: &Listing) -> Result<Vec<u8>, AllocE
     Ok(text)
 }
 
-/// Appends the first line of a listing: the letter of the kind, the dimension, how many darts were made and how many are
-/// live. After want of memory a part of the line may have been appended.
+/// Appends the first line of a listing: `cellmap`, the format's version 1, the letter of the kind, the dimension, how many
+/// darts were made and how many are live. After want of memory a part of the line may have been appended.
 pub fn append_header(
     text: &mut Vec<u8>,
     letter: u8,
@@ -48,8 +48,8 @@ pub fn append_header(
     Ok(())
 }
 
-/// Appends the row of a dart: its number, a colon, and the number of the dart to which each link leads, 0 for a free
-/// link. After want of memory a part of the line may have been appended.
+/// Appends the row of a dart: its number, a colon, and for each link from 0 on the number of the dart to which it leads, 0
+/// for a free link. After want of memory a part of the line may have been appended.
 pub fn append_row(text: &mut Vec<u8>, dart: Dart, links: &[u32]) -> Result<(), AllocError>
     ensures { OnOk result (text.new.items ≡ text.old.items ++ row_text (record { dart = dart; links = links.now })) }
 {
