@@ -4,7 +4,9 @@
 mod dart;
 mod kind;
 mod refusal;
+mod word;
 
 pub use dart::Dart;
 pub use kind::{Alpha, Kind};
 pub use refusal::Refusal;
+pub use word::Word;
