@@ -52,6 +52,16 @@ impl<K: Kind, const DIM: usize> Links<K, DIM> {
         }
     }
 
+    /// The dimension of the map.
+    pub fn dimension(&self) -> usize
+        ensures dimension { result ≡ DIM }
+        ensures high { DIM ≤ 8 }
+        ensures sound { IsSound K.kind DIM self.now }
+    {
+        let _ = &self.rows;
+        DIM
+    }
+
     /// How many darts were made so far: the greatest number of a dart, or 0.
     pub fn made(&self) -> u32
         ensures made { result ≡ made self.now }
