@@ -10,5 +10,6 @@ pub mod SameRows
 pub mod Orbits
 pub mod Turned
 pub mod Walking
+pub mod CellTurns
 pub mod CellFacts
 pub mod RowFacts

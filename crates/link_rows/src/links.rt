@@ -90,6 +90,7 @@ impl<K: Kind, const DIM: usize> Links<K, DIM> {
         requires { link ≤ DIM }
         ensures free { IsNone result ↔ (links_of self.now link dart ≡ 0) }
         ensures linked { IfSome result (λ other. other ≡ links_of self.now link dart) }
+        ensures sound { IsSound K.kind DIM self.now }
     {
         let row = self.rows.get(dart.number() as usize - 1)?;
         Dart::new(row.entry(link))

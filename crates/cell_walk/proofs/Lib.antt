@@ -1,0 +1,2 @@
+mod FoundDarts
+mod Walks

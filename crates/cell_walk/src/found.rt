@@ -1,0 +1,76 @@
+ghost use Rattle.std.specs.Prelude.{◌≡◌, ℕ, ◌<◌, ◌↔◌, [], length, slice_index, Contains, OnOk};
+ghost use Rattle.std.specs.List.Sorted.{IsStrictlyIncreasing};
+ghost use Rattle.cell_walk.specs.Visits.{IsAdded};
+
+use map_kind::Dart;
+use std::alloc::{AllocError, Global};
+use std::collections::BTreeSet;
+use std::marker::Model;
+
+/// The darts that a walk has found, each once, in the order in which they were found. It costs what was found, whatever
+/// the size of the map.
+#[derive(Drop)]
+pub(crate) struct Found {
+    darts: Vec<Dart>,
+    seen: BTreeSet<Dart>,
+}
+
+impl Model for Found {
+    ghost use Rattle.std.specs.Prelude.{ℕ, List};
+    ghost use Rattle.cell_walk.specs.Visits.{ListsOnce};
+
+    ghost Value = { List ℕ };
+
+    ghost view = { λ found. found.darts.items };
+
+    ghost invariant = { λ found. ListsOnce found.seen.keys found.darts.items };
+}
+
+impl Found {
+    /// Nothing found yet.
+    pub(crate) fn new(alloc: Global) -> Self
+        ensures { result ≡ [] }
+    {
+        Found {
+            darts: Vec::new(alloc),
+            seen: BTreeSet::new(alloc),
+        }
+    }
+
+    /// How many darts were found.
+    pub(crate) fn len(&self) -> usize
+        ensures { result ≡ length self.now }
+    {
+        self.darts.len()
+    }
+
+    /// The dart that was found after so many others.
+    pub(crate) fn at(&self, place: usize) -> Dart
+        requires { place < length self.now }
+        ensures { result ≡ slice_index self.now place }
+    {
+        self.darts[place]
+    }
+
+    /// Adds a dart, unless it was found before.
+    pub(crate) fn add(&mut self, dart: Dart) -> Result<(), AllocError>
+        ensures { OnOk result (IsAdded self.old self.new dart) }
+    {
+        self.darts.reserve(1)?;
+        if self.seen.insert(dart)? {
+            self.darts.push_reserved(dart);
+        }
+        Ok(())
+    }
+
+    /// The darts that were found, ascending.
+    pub(crate) fn into_ascending(self) -> Vec<Dart>
+        ensures members { (d : ℕ) → Contains result.items d ↔ Contains self d }
+        ensures ascending { IsStrictlyIncreasing result.items }
+    {
+        let Found { mut darts, seen } = self;
+        drop(seen);
+        darts.sort_unstable();
+        darts
+    }
+}
