@@ -6,3 +6,4 @@ pub mod GrownFrom
 pub mod FaceBack
 pub mod VertexBack
 pub mod EdgeBack
+pub mod DangleBack

@@ -17,7 +17,7 @@ use Rattle.back_laws.proofs.CellOf.{RunsAlongAll}
 use Rattle.back_laws.proofs.Grown.{GrowsFrom, cell_new, cell_all}
 
 -- the steps of two distant links that are their own inverses commute
-steps_commute : (k : Kind) (L : Links) → Laws k L → (a b x : ℕ) → inverse k a ≡ a → inverse k b ≡ b → IsDistant k a b → step L a (step L b x) ≡ step L b (step L a x)
+pub steps_commute : (k : Kind) (L : Links) → Laws k L → (a b x : ℕ) → inverse k a ≡ a → inverse k b ≡ b → IsDistant k a b → step L a (step L b x) ≡ step L b (step L a x)
 steps_commute k L w a b x own_a own_b far =
     let q : L (inverse k a) (L b x) ≡ L (inverse k b) (L a x) = w.square a b x far in
     let q' : L a (L b x) ≡ L b (L a x) = cc in

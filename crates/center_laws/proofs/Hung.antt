@@ -24,26 +24,26 @@ pub record IsHangingSet (m : ℕ) (L : Links) (K : ℕ → Type 0) : Type 0 wher
 
 module _ (m : ℕ) (L : Links) (w : Laws alpha L) (K : ℕ → Type 0) (set : IsHangingSet m L K) (star tip : ℕ → ℕ) (fresh_star : IsFresh L K star) (fresh_tip : IsFresh L K tip) (two : (x y : ℕ) → K x → K y → star x ≢ tip y) (N : Links) (s : IsHung m K star tip L N) where
   -- neither the begin nor the end of a new edge
-  IsOld : ℕ → Type 0
+  unfoldable pub IsOld : ℕ → Type 0
   IsOld z = (IsNew K star z → ⊥) × (IsNew K tip z → ⊥)
 
   old_zero : IsOld 0
   unfolding IsOld
   old_zero = (fresh_none alpha L w K star fresh_star, fresh_none alpha L w K tip fresh_tip)
 
-  old_link : (t z : ℕ) → IsOld (L t z)
+  pub old_link : (t z : ℕ) → IsOld (L t z)
   unfolding IsOld
   old_link t z = (fresh_link alpha L w K star fresh_star t z, fresh_link alpha L w K tip fresh_tip t z)
 
-  old_in : (z : ℕ) → K z → IsOld z
+  pub old_in : (z : ℕ) → K z → IsOld z
   unfolding IsOld
   old_in z h = (fresh_old alpha L w K star fresh_star z h, fresh_old alpha L w K tip fresh_tip z h)
 
-  kept_old : (t z : ℕ) → IsOld z → (K z → t ≢ 1) → N t z ≡ L t z
+  pub kept_old : (t z : ℕ) → IsOld z → (K z → t ≢ 1) → N t z ≡ L t z
   unfolding IsOld
   kept_old t z o f = s.kept z t f (λ y h e. o.0 (y, h, e)) (λ y h e. o.1 (y, h, e))
 
-  nil : (t : ℕ) → N t 0 ≡ 0
+  pub nil : (t : ℕ) → N t 0 ≡ 0
   nil t = kept_old t 0 old_zero (λ h. absurd (set.dart 0 h refl)) ∙ w.nil t
 
   -- a claim on a dart from the four sorts of darts
@@ -52,11 +52,11 @@ module _ (m : ℕ) (L : Links) (w : Laws alpha L) (K : ℕ → Type 0) (set : Is
   by_sort z a b f g h o = by_cases (IsNew K star z) a b (λ v. f v.0 v.1 v.2) (λ n. by_cases (IsNew K tip z) a b (λ v. g v.0 v.1 v.2)
       (λ n'. by_cases (K z) a b (λ k. h k (n, n')) (λ k. o k (n, n'))))
 
-  closed : (x j : ℕ) → InOrNone K x → (j ≡ 1) ⊎ ((3 ≤ j) ⊎ (j ≡ m)) → InOrNone K (L j x)
+  pub closed : (x j : ℕ) → InOrNone K x → (j ≡ 1) ⊎ ((3 ≤ j) ⊎ (j ≡ m)) → InOrNone K (L j x)
   closed x j (inl h) c = ⊎_elim (λ z. inr z) (λ n. inl (set.on x j h c n)) (same_or_not (L j x) 0)
   closed x j (inr o) c = inr (ap (L j) o ∙ w.nil j)
 
-  beside_closed : (t : ℕ) → 2 ≤ t → (beside t ≡ 1) ⊎ ((3 ≤ beside t) ⊎ (beside t ≡ m))
+  pub beside_closed : (t : ℕ) → 2 ≤ t → (beside t ≡ 1) ⊎ ((3 ≤ beside t) ⊎ (beside t ≡ m))
   beside_closed zero l = absurd (omega arith)
   beside_closed (suc zero) l = absurd (omega arith)
   beside_closed (suc (suc zero)) l = inl refl
@@ -71,11 +71,11 @@ module _ (m : ℕ) (L : Links) (w : Laws alpha L) (K : ℕ → Type 0) (set : Is
   tip_zero x (inl h) = s.begins x h
   tip_zero x (inr o) = let a : N 0 0 ≡ 0 = nil 0 in cc (fresh_star.nothing, fresh_tip.nothing)
 
-  star_one : (x : ℕ) → InOrNone K x → N 1 (star x) ≡ x
+  pub star_one : (x : ℕ) → InOrNone K x → N 1 (star x) ≡ x
   star_one x (inl h) = s.old x h
   star_one x (inr o) = let a : N 1 0 ≡ 0 = nil 1 in cc (fresh_star.nothing)
 
-  dart_one : (x : ℕ) → InOrNone K x → N 1 x ≡ star x
+  pub dart_one : (x : ℕ) → InOrNone K x → N 1 x ≡ star x
   dart_one x (inl h) = s.new x h
   dart_one x (inr o) = let a : N 1 0 ≡ 0 = nil 1 in cc (fresh_star.nothing)
 
@@ -83,14 +83,14 @@ module _ (m : ℕ) (L : Links) (w : Laws alpha L) (K : ℕ → Type 0) (set : Is
   tip_one x (inl h) = s.turns x h
   tip_one x (inr o) = let a : N 1 0 ≡ 0 = nil 1 in cc (fresh_tip.nothing, w.nil m)
 
-  star_high : (t x : ℕ) → 2 ≤ t → InOrNone K x → N t (star x) ≡ star (L (beside t) x)
+  pub star_high : (t x : ℕ) → 2 ≤ t → InOrNone K x → N t (star x) ≡ star (L (beside t) x)
   star_high zero x l h = absurd (omega arith)
   star_high (suc zero) x l h = absurd (omega arith)
   star_high (suc (suc zero)) x l (inl h) = s.beyond x h
   star_high (suc (suc (suc t))) x l (inl h) = s.along x (suc (suc (suc t))) h (omega arith)
   star_high (suc (suc t)) x l (inr o) = let a : N (suc (suc t)) 0 ≡ 0 = nil (suc (suc t)) in cc (fresh_star.nothing, w.nil (beside (suc (suc t))))
 
-  tip_high : (t x : ℕ) → 2 ≤ t → InOrNone K x → N t (tip x) ≡ tip (L (beside t) x)
+  pub tip_high : (t x : ℕ) → 2 ≤ t → InOrNone K x → N t (tip x) ≡ tip (L (beside t) x)
   tip_high zero x l h = absurd (omega arith)
   tip_high (suc zero) x l h = absurd (omega arith)
   tip_high (suc (suc zero)) x l (inl h) = s.beyond_tip x h
@@ -103,7 +103,7 @@ module _ (m : ℕ) (L : Links) (w : Laws alpha L) (K : ℕ → Type 0) (set : Is
       let b : L j (L j z) ≡ z = w.back j z n in
       rw b at (set.on (L j z) j h (inr (inl l)) (λ o. dart_of_link alpha L w j z n (sym b ∙ o)))
 
-  kept_out : (t z : ℕ) → IsOld z → (K z → ⊥) → N t z ≡ L t z
+  pub kept_out : (t z : ℕ) → IsOld z → (K z → ⊥) → N t z ≡ L t z
   kept_out t z o n = kept_old t z o (λ h. absurd (n h))
 
   beside_high : (j : ℕ) → 3 ≤ j → beside j ≡ j

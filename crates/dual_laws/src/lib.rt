@@ -16,15 +16,20 @@ ghost use Rattle.map_defs.specs.Dual.{IsDual, IsDualable};
 ///
 /// For whoever plans the dual and applies it.
 pub fn dual_keeps_the_laws()
-    ensures { (k : Kind) (n : ℕ) (rows : Rows) (N : Links) → 2 ≤ n → Laws k (links_of rows) → IsDualable k n (links_of rows) (IsLive rows) → IsDual k n (links_of rows) N → Laws k N }
+    ensures { (k : Kind) (n : ℕ) (rows : Rows) (N : Links) → 2 ≤ n → Laws k (links_of rows)
+        → IsDualable k n (links_of rows) (IsLive rows) → IsDual k n (links_of rows) N → Laws k N }
 {}
 
 /// Taking the dual twice gives all links back: the dual has a dual in its turn, and that is the map.
 ///
 /// For an editor that shows the dual for a while and takes it again to return.
 pub fn dual_twice_is_the_map()
-    ensures possible { (k : Kind) (n : ℕ) (rows : Rows) (N : Links) → 2 ≤ n → AreWide n rows → Laws k (links_of rows) → IsDualable k n (links_of rows) (IsLive rows) → IsDual k n (links_of rows) N → IsDualable k n N (IsLive rows) }
-    ensures back { (k : Kind) (n : ℕ) (rows : Rows) (N M : Links) → 2 ≤ n → AreWide n rows → Laws k (links_of rows) → IsDualable k n (links_of rows) (IsLive rows) → IsDual k n (links_of rows) N → IsDual k n N M
+    ensures possible { (k : Kind) (n : ℕ) (rows : Rows) (N : Links) → 2 ≤ n → AreWide n rows
+        → Laws k (links_of rows) → IsDualable k n (links_of rows) (IsLive rows)
+        → IsDual k n (links_of rows) N → IsDualable k n N (IsLive rows) }
+    ensures back { (k : Kind) (n : ℕ) (rows : Rows) (N M : Links) → 2 ≤ n → AreWide n rows
+        → Laws k (links_of rows) → IsDualable k n (links_of rows) (IsLive rows)
+        → IsDual k n (links_of rows) N → IsDual k n N M
         → (t x : ℕ) → M t x ≡ links_of rows t x }
 {}
 
@@ -32,13 +37,15 @@ pub fn dual_twice_is_the_map()
 ///
 /// For whoever compares a planned dual with another account of it.
 pub fn dual_is_one()
-    ensures { (k : Kind) (n : ℕ) (L N M : Links) → 2 ≤ n → IsDual k n L N → IsDual k n L M → (t x : ℕ) → N t x ≡ M t x }
+    ensures { (k : Kind) (n : ℕ) (L N M : Links) → 2 ≤ n → IsDual k n L N → IsDual k n L M → (t x : ℕ)
+        → N t x ≡ M t x }
 {}
 
 /// The cells of dimension i of the dual are the cells of dimension n - i of the map, as sets of darts.
 ///
 /// For whoever carries values over to the dual: no cell is split or merged, so its value and its label stay its own.
 pub fn dual_has_the_same_cells()
-    ensures { (k : Kind) (n : ℕ) (rows : Rows) (N : Links) → 2 ≤ n → AreWide n rows → Laws k (links_of rows) → IsDualable k n (links_of rows) (IsLive rows) → IsDual k n (links_of rows) N
+    ensures { (k : Kind) (n : ℕ) (rows : Rows) (N : Links) → 2 ≤ n → AreWide n rows → Laws k (links_of rows)
+        → IsDualable k n (links_of rows) (IsLive rows) → IsDual k n (links_of rows) N
         → (i d x : ℕ) → i ≤ n → d ≢ 0 → InCell k N i d x ↔ InCell k (links_of rows) (n - i) d x }
 {}

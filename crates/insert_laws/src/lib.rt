@@ -18,35 +18,44 @@ ghost use Rattle.map_defs.specs.Closing.{IsOpen, IsClosed};
 /// For whoever adds an operation of his own that makes one new dart beyond a link of each dart of a set: it is enough to
 /// meet the premises of `IsInsertable`.
 pub fn insertion_keeps_the_laws()
-    ensures { (k : Kind) (i : ℕ) (K : ℕ → Bool) (P : ℕ → ℕ → ℕ → Bool) (star : ℕ → ℕ) (L N : Links) → Laws k L → IsInsertable k i (λ x. IsTrue (K x)) (λ x y t. IsTrue (P x y t)) L → IsFresh L (λ x. IsTrue (K x)) star → IsInserted k i (λ x. IsTrue (K x)) (λ x y t. IsTrue (P x y t)) star L N → Laws k N }
+    ensures { (k : Kind) (i : ℕ) (K : ℕ → Bool) (P : ℕ → ℕ → ℕ → Bool) (star : ℕ → ℕ) (L N : Links)
+        → Laws k L → IsInsertable k i (λ x. IsTrue (K x)) (λ x y t. IsTrue (P x y t)) L
+        → IsFresh L (λ x. IsTrue (K x)) star
+        → IsInserted k i (λ x. IsTrue (K x)) (λ x y t. IsTrue (P x y t)) star L N → Laws k N }
 {}
 
 /// New darts that are numbered on from the number made so far are fresh where no dart above that number is linked.
 ///
 /// For whoever plans an insertion: with the numbering of the program the premise `IsFresh` of the laws here holds.
 pub fn numbered_darts_are_fresh()
-    ensures { (K : ℕ → Bool) (keys : List ℕ) (made : ℕ) (star : ℕ → ℕ) (L : Links) → IsNumbered (λ x. IsTrue (K x)) keys made star → ((x : ℕ) → IsTrue (K x) → x ≤ made) → ((t x : ℕ) → L t x ≢ 0 → x ≤ made) → IsFresh L (λ x. IsTrue (K x)) star }
+    ensures { (K : ℕ → Bool) (keys : List ℕ) (made : ℕ) (star : ℕ → ℕ) (L : Links)
+        → IsNumbered (λ x. IsTrue (K x)) keys made star → ((x : ℕ) → IsTrue (K x) → x ≤ made) →
+        ((t x : ℕ) → L t x ≢ 0 → x ≤ made) → IsFresh L (λ x. IsTrue (K x)) star }
 {}
 
 /// A vertex on an edge keeps the laws of a generalized map.
 ///
 /// For whoever plans it and applies it: it has no condition.
 pub fn vertex_keeps_the_laws_of_alpha()
-    ensures { (d : ℕ) (star : ℕ → ℕ) (L N : Links) → Laws alpha L → d ≢ 0 → IsFresh L (InCell alpha L 1 d) star → IsAlphaVertex d star L N → Laws alpha N }
+    ensures { (d : ℕ) (star : ℕ → ℕ) (L N : Links) → Laws alpha L → d ≢ 0
+        → IsFresh L (InCell alpha L 1 d) star → IsAlphaVertex d star L N → Laws alpha N }
 {}
 
 /// An edge whose pairs are good keeps the laws of a generalized map, also where it joins corners of two faces.
 ///
 /// For whoever plans it and applies it: of its three conditions the laws need good pairs alone.
 pub fn edge_keeps_the_laws_of_alpha()
-    ensures { (d e : ℕ) (star : ℕ → ℕ) (L N : Links) → Laws alpha L → d ≢ 0 → e ≢ 0 → AreAlphaEdgePaired L d e → IsFresh L (AlphaEdgeDarts L d e) star → IsAlphaEdge d e star L N → Laws alpha N }
+    ensures { (d e : ℕ) (star : ℕ → ℕ) (L N : Links) → Laws alpha L → d ≢ 0 → e ≢ 0
+        → AreAlphaEdgePaired L d e → IsFresh L (AlphaEdgeDarts L d e) star → IsAlphaEdge d e star L N
+        → Laws alpha N }
 {}
 
 /// A vertex on an edge keeps the laws of a combinatorial map.
 ///
 /// For whoever plans it and applies it: it has no condition.
 pub fn vertex_keeps_the_laws_of_beta()
-    ensures { (d : ℕ) (star : ℕ → ℕ) (L N : Links) → Laws beta L → d ≢ 0 → IsFresh L (InCell beta L 1 d) star → IsBetaVertex d star L N → Laws beta N }
+    ensures { (d : ℕ) (star : ℕ → ℕ) (L N : Links) → Laws beta L → d ≢ 0
+        → IsFresh L (InCell beta L 1 d) star → IsBetaVertex d star L N → Laws beta N }
 {}
 
 /// An edge between two corners of a combinatorial map keeps the laws, where neither is a copy of the other and the pairs
@@ -55,14 +64,18 @@ pub fn vertex_keeps_the_laws_of_beta()
 /// For whoever plans it and applies it: the laws need no corners of one face. They need two corners, since an edge from a
 /// corner to itself would join its one new dart to itself.
 pub fn edge_keeps_the_laws_of_beta()
-    ensures { (d e : ℕ) (star : ℕ → ℕ) (L N : Links) → Laws beta L → (InBetaCorner L d e → ⊥) → AreBetaEdgePaired L d e → IsFresh L (BetaEdgeDarts L d e) star → IsBetaEdge d e star L N → Laws beta N }
+    ensures { (d e : ℕ) (star : ℕ → ℕ) (L N : Links) → Laws beta L → (InBetaCorner L d e → ⊥)
+        → AreBetaEdgePaired L d e → IsFresh L (BetaEdgeDarts L d e) star → IsBetaEdge d e star L N
+        → Laws beta N }
 {}
 
 /// A face along a closed path whose pairs are good keeps the laws of a map of either kind.
 ///
 /// For whoever plans it and applies it: the laws need no path on one volume.
 pub fn face_keeps_the_laws()
-    ensures { (k : Kind) (path : List ℕ) (star : ℕ → ℕ) (L N : Links) → Laws k L → ((b : ℕ) → Contains path b → b ≢ 0) → IsClosedPath k L path → IsFacePaired k L path → IsFresh L (FaceDarts k L path) star → IsFace k path star L N → Laws k N }
+    ensures { (k : Kind) (path : List ℕ) (star : ℕ → ℕ) (L N : Links) → Laws k L
+        → ((b : ℕ) → Contains path b → b ≢ 0) → IsClosedPath k L path → IsFacePaired k L path
+        → IsFresh L (FaceDarts k L path) star → IsFace k path star L N → Laws k N }
 {}
 
 /// Closing at a link keeps the laws of a map of either kind.
@@ -70,19 +83,36 @@ pub fn face_keeps_the_laws()
 /// For whoever plans it and applies it: its condition is that the link is its own inverse, which all links of a generalized
 /// map are, and those from 2 upwards in a combinatorial map.
 pub fn closing_keeps_the_laws()
-    ensures { (k : Kind) (i : ℕ) (Live : ℕ → Bool) (keys : List ℕ) (made : ℕ) (star : ℕ → ℕ) (L N : Links) → inverse k i ≡ i → Laws k L → IsCounted made (λ x. IsTrue (Live x)) → LeadsToLive (λ x. IsTrue (Live x)) L → IsNumbered (IsOpen (λ x. IsTrue (Live x)) i L) keys made star → IsClosed k i (λ x. IsTrue (Live x)) star L N → Laws k N }
+    ensures { (k : Kind) (i : ℕ) (Live : ℕ → Bool) (keys : List ℕ) (made : ℕ) (star : ℕ → ℕ) (L N : Links)
+        → inverse k i ≡ i → Laws k L → IsCounted made (λ x. IsTrue (Live x))
+        → LeadsToLive (λ x. IsTrue (Live x)) L
+        → IsNumbered (IsOpen (λ x. IsTrue (Live x)) i L) keys made star
+        → IsClosed k i (λ x. IsTrue (Live x)) star L N → Laws k N }
 {}
 
 /// After closing at a link no live dart is free there.
 ///
 /// For whoever closes a map because a later step, as the dual, asks for a map without a boundary.
 pub fn closing_leaves_no_free_dart()
-    ensures { (k : Kind) (i : ℕ) (Live LiveAfter : ℕ → Bool) (keys : List ℕ) (made : ℕ) (star : ℕ → ℕ) (L N : Links) → inverse k i ≡ i → Laws k L → IsCounted made (λ x. IsTrue (Live x)) → LeadsToLive (λ x. IsTrue (Live x)) L → IsNumbered (IsOpen (λ x. IsTrue (Live x)) i L) keys made star → IsClosed k i (λ x. IsTrue (Live x)) star L N → AreBorn made (length keys) (λ x. IsTrue (Live x)) (λ x. IsTrue (LiveAfter x)) → (x : ℕ) → IsTrue (LiveAfter x) → N i x ≢ 0 }
+    ensures { (k : Kind) (i : ℕ) (Live LiveAfter : ℕ → Bool) (keys : List ℕ) (made : ℕ) (star : ℕ → ℕ)
+        (L N : Links) → inverse k i ≡ i → Laws k L → IsCounted made (λ x. IsTrue (Live x))
+        → LeadsToLive (λ x. IsTrue (Live x)) L
+        → IsNumbered (IsOpen (λ x. IsTrue (Live x)) i L) keys made star
+        → IsClosed k i (λ x. IsTrue (Live x)) star L N
+        → AreBorn made (length keys) (λ x. IsTrue (Live x)) (λ x. IsTrue (LiveAfter x)) → (x : ℕ)
+        → IsTrue (LiveAfter x) → N i x ≢ 0 }
 {}
 
 /// Where no live dart was free below a link, after closing at it none is free up to it.
 ///
 /// For whoever closes a map link by link, upwards: closing at one link opens no link below it.
 pub fn closing_upwards_closes_all()
-    ensures { (k : Kind) (i : ℕ) (Live LiveAfter : ℕ → Bool) (keys : List ℕ) (made : ℕ) (star : ℕ → ℕ) (L N : Links) → inverse k i ≡ i → Laws k L → IsCounted made (λ x. IsTrue (Live x)) → LeadsToLive (λ x. IsTrue (Live x)) L → IsNumbered (IsOpen (λ x. IsTrue (Live x)) i L) keys made star → IsClosed k i (λ x. IsTrue (Live x)) star L N → AreBorn made (length keys) (λ x. IsTrue (Live x)) (λ x. IsTrue (LiveAfter x)) → ((t x : ℕ) → IsTrue (Live x) → t < i → L t x ≢ 0) → (t x : ℕ) → IsTrue (LiveAfter x) → t ≤ i → N t x ≢ 0 }
+    ensures { (k : Kind) (i : ℕ) (Live LiveAfter : ℕ → Bool) (keys : List ℕ) (made : ℕ) (star : ℕ → ℕ)
+        (L N : Links) → inverse k i ≡ i → Laws k L → IsCounted made (λ x. IsTrue (Live x))
+        → LeadsToLive (λ x. IsTrue (Live x)) L
+        → IsNumbered (IsOpen (λ x. IsTrue (Live x)) i L) keys made star
+        → IsClosed k i (λ x. IsTrue (Live x)) star L N
+        → AreBorn made (length keys) (λ x. IsTrue (Live x)) (λ x. IsTrue (LiveAfter x)) →
+        ((t x : ℕ) → IsTrue (Live x) → t < i → L t x ≢ 0) → (t x : ℕ) → IsTrue (LiveAfter x) → t ≤ i
+        → N t x ≢ 0 }
 {}

@@ -22,7 +22,8 @@ pub fn laws_are_as_told()
 ///
 /// For whoever plans a sewing and applies it: the map stays a map, also in combinatorial maps with free links.
 pub fn sewing_keeps_the_laws()
-    ensures { (k : Kind) (i d e : ℕ) (L N : Links) → Laws k L → d ≢ 0 → e ≢ 0 → IsSewable k L i d e → IsSewn k i d e L N → Laws k N }
+    ensures { (k : Kind) (i d e : ℕ) (L N : Links) → Laws k L → d ≢ 0 → e ≢ 0 → IsSewable k L i d e
+        → IsSewn k i d e L N → Laws k N }
 {}
 
 /// Unsewing a dart keeps the laws.
@@ -36,8 +37,10 @@ pub fn unsewing_keeps_the_laws()
 ///
 /// For an editor that takes a sewing back without a journal.
 pub fn unsewing_undoes_sewing()
-    ensures linked { (k : Kind) (i d e : ℕ) (L N : Links) → Laws k L → d ≢ 0 → e ≢ 0 → IsSewable k L i d e → IsSewn k i d e L N → N i d ≢ 0 }
-    ensures back { (k : Kind) (i d e : ℕ) (L N M : Links) → Laws k L → d ≢ 0 → e ≢ 0 → IsSewable k L i d e → IsSewn k i d e L N → IsUnsewn k i d N M → (t x : ℕ) → M t x ≡ L t x }
+    ensures linked { (k : Kind) (i d e : ℕ) (L N : Links) → Laws k L → d ≢ 0 → e ≢ 0 → IsSewable k L i d e
+        → IsSewn k i d e L N → N i d ≢ 0 }
+    ensures back { (k : Kind) (i d e : ℕ) (L N M : Links) → Laws k L → d ≢ 0 → e ≢ 0 → IsSewable k L i d e
+        → IsSewn k i d e L N → IsUnsewn k i d N M → (t x : ℕ) → M t x ≡ L t x }
 {}
 
 /// There is one map with given live darts and links: rows of one number are the same where the same darts live and have
@@ -45,12 +48,15 @@ pub fn unsewing_undoes_sewing()
 ///
 /// For whoever shows that two ways lead to one map, as undoing and the copy of a mark: it is enough to compare links.
 pub fn links_tell_the_rows()
-    ensures { (n : ℕ) (a b : Rows) → AreWide n a → AreWide n b → length a ≡ length b → ((d : ℕ) → IsLive a d ↔ IsLive b d) → ((i d : ℕ) → i ≤ n → links_of a i d ≡ links_of b i d) → a ≡ b }
+    ensures { (n : ℕ) (a b : Rows) → AreWide n a → AreWide n b → length a ≡ length b
+        → ((d : ℕ) → IsLive a d ↔ IsLive b d) → ((i d : ℕ) → i ≤ n → links_of a i d ≡ links_of b i d)
+        → a ≡ b }
 {}
 
 /// Links lead to live darts alone.
 ///
 /// For whoever follows a link: where it is not free, there is a row behind it.
 pub fn links_lead_to_live_darts()
-    ensures { (k : Kind) (rows : Rows) → Laws k (links_of rows) → LeadsToLive (IsLive rows) (links_of rows) }
+    ensures { (k : Kind) (rows : Rows) → Laws k (links_of rows)
+        → LeadsToLive (IsLive rows) (links_of rows) }
 {}

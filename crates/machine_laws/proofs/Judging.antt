@@ -1,5 +1,5 @@
 -- Lists of checks: the first that fails has the least number.
-use Rattle.std.proofs.Common.{◌≡◌, ℕ, ◌+◌, ◌<◌, ◌≤◌, ◌⊎◌, List, [], ◌∷◌, refl, sym, ap, ◌∙◌, subst, inl, inr, arith, lit<}
+use Rattle.std.proofs.Common.{◌≡◌, ℕ, ◌<◌, ◌≤◌, List, [], ◌∷◌, sym, ap, ◌∙◌, inl, inr, arith, lit<}
 use Rattle.map_defs.specs.Refusal.{Refusal, number}
 use Rattle.map_defs.specs.State.{State}
 use Rattle.map_defs.specs.Script.{Line, Polygon, Show}

@@ -1,7 +1,6 @@
 -- One program has one text and one status.
-use Rattle.std.proofs.Common.{◌≡◌, ℕ, ◌<◌, ◌≤◌, ◌⊎◌, List, [], ◌∷◌, ◌++◌, length, Option, Some, None, refl, sym, ap, ◌∙◌, subst, append_assoc, inl, inr, arith}
+use Rattle.std.proofs.Common.{◌≡◌, ℕ, ◌≤◌, List, ◌++◌, length, Option, Some, None, sym, ap, ◌∙◌, subst, append_assoc, inl, inr, arith}
 use Rattle.std.proofs.lemmas.Grind.{flat_map-append}
-use Rattle.map_defs.specs.Kind.{Kind}
 use Rattle.map_defs.specs.State.{State, empty_state}
 use Rattle.map_defs.specs.Script.{lines_of}
 use Rattle.map_defs.specs.Text.{Reply, reply_text, replies_text, any_refused}
@@ -44,9 +43,10 @@ answer-one words files one other status status' (told c tells a) (told c' tells'
 
 front-of-all : (start : State) (script front text : List ℕ) (status : ℕ) → Begins start (lines_of script) front → ScriptAnswer start script text status → IsFront front text
 front-of-all start script front text status b a =
-    let more = run-front start b.done b.left b.replies a.0 b.new a.1 b.run (subst (λ (ls : List (List ℕ)). Run start ls a.0 a.1) b.all a.2) in
-    (b.begins.0 ++ replies_text more.0,
-    a.3 ∙ ap replies_text more.1 ∙ flat_map-append reply_text b.replies more.0 ∙ ap (λ (t : List ℕ). t ++ replies_text more.0) b.begins.1 ∙ append_assoc front b.begins.0 (replies_text more.0))
+    let more = run-front start b.done b.left b.replies a.0 b.new a.1 b.run (subst (λ (ls : List (List ℕ)). Run start ls a.0 a.1) b.all a.2) in (
+      b.begins.0 ++ replies_text more.0,
+      a.3 ∙ ap replies_text more.1 ∙ flat_map-append reply_text b.replies more.0 ∙ ap (λ (t : List ℕ). t ++ replies_text more.0) b.begins.1 ∙ append_assoc front b.begins.0 (replies_text more.0),
+    )
 
 file-front : (o : Option (List ℕ)) (start : State) (bytes front text : List ℕ) (status : ℕ) → o ≡ Some bytes → length bytes ≤ file_limit → Begins start (lines_of bytes) front
     → FileAnswer o (ScriptAnswer start) text status → IsFront front text

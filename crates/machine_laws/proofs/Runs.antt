@@ -1,8 +1,8 @@
 -- One run has one list of replies and one state.
-use Rattle.std.proofs.Common.{◌≡◌, ℕ, List, [], ◌∷◌, ◌++◌, Option, Some, None, refl, sym, ap, ◌∙◌, subst, append_assoc}
+use Rattle.std.proofs.Common.{◌≡◌, ℕ, List, [], ◌∷◌, ◌++◌, sym, ap, ◌∙◌, subst, append_assoc}
 use Rattle.map_defs.specs.State.{State}
 use Rattle.map_defs.specs.Script.{Line, line_of, words_of}
-use Rattle.map_defs.specs.Text.{Reply, Refused}
+use Rattle.map_defs.specs.Text.{Reply}
 use Rattle.map_defs.specs.Machine.{Obeys, blank, unread, obeyed, Run, Step}
 use Rattle.machine_laws.proofs.Steps.{step-one}
 
@@ -33,6 +33,8 @@ pub run-front : (s : State) (done left : List (List ℕ)) (replies all : List Re
 run-front s [] left replies all mid new r q = (all, ap (λ (rs : List Reply). rs ++ all) (sym r.0))
 run-front s (line ∷ done) left replies all mid new r q =
     let first = obeys-one s (words_of line) r.0 q.0 r.2 q.2 r.3 q.3 in
-    let rest = run-front q.2 done left r.1 q.1 mid new (subst (λ (t : State). Run t done r.1 mid) first.1 r.4) q.4 in
-    (rest.0, q.5 ∙ ap (λ (more : List Reply). q.0 ++ more) rest.1 
-        ∙ ap (λ (here : List Reply). here ++ (r.1 ++ rest.0)) (sym first.0) ∙ sym (append_assoc r.0 r.1 rest.0) ∙ ap (λ (t : List Reply). t ++ rest.0) (sym r.5))
+    let rest = run-front q.2 done left r.1 q.1 mid new (subst (λ (t : State). Run t done r.1 mid) first.1 r.4) q.4 in (
+      rest.0,
+      q.5 ∙ ap (λ (more : List Reply). q.0 ++ more) rest.1
+          ∙ ap (λ (here : List Reply). here ++ (r.1 ++ rest.0)) (sym first.0) ∙ sym (append_assoc r.0 r.1 rest.0) ∙ ap (λ (t : List Reply). t ++ rest.0) (sym r.5),
+    )

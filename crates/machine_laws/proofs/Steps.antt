@@ -1,11 +1,11 @@
 -- One step has one reply and one state.
-use Rattle.std.proofs.Common.{◌≡◌, ℕ, List, refl, sym, ap, ◌∙◌}
+use Rattle.std.proofs.Common.{◌≡◌, List, sym, ap, ◌∙◌}
 use Rattle.map_defs.specs.Refusal.{Refusal}
 use Rattle.map_defs.specs.State.{State}
 use Rattle.map_defs.specs.Script.{Line, Polygon, Show}
 use Rattle.map_defs.specs.Listing.{ListValue, listing_with}
 use Rattle.map_defs.specs.Text.{Reply, Shown, Refused}
-use Rattle.map_defs.specs.Machine.{Step, Effect, checks, FailsFor}
+use Rattle.map_defs.specs.Machine.{Step, Effect, checks}
 use Rattle.machine_laws.proofs.Judging.{ordered, judged-one}
 use Rattle.machine_laws.proofs.ValueLists.{one-listing}
 

@@ -19,15 +19,13 @@ pub fn least_refusal()
         (q : Refusal) → FailsFor (checks s line) q → number r ≤ number q }
     ensures unchanged { (s : State) (line : Line) (r : Refusal) (new : State) → Step s line (Refused r) new
         → new ≡ s }
-{
-}
+{}
 
 /// A line is accepted only where none of its conditions of refusal holds.
 pub fn accepted_without_refusal()
     ensures { (s : State) (line : Line) (reply : Reply) (new : State) → Step s line reply new →
         ((r : Refusal) → reply ≡ Refused r → ⊥) → (q : Refusal) → FailsFor (checks s line) q → ⊥ }
-{
-}
+{}
 
 /// A line has one reply and leads to one state.
 pub fn one_step()
@@ -35,8 +33,7 @@ pub fn one_step()
         → Step s line other new' → one ≡ other }
     ensures state { (s : State) (line : Line) (one other : Reply) (new new' : State) → Step s line one new
         → Step s line other new' → new ≡ new' }
-{
-}
+{}
 
 /// The program has one text and one status for its words and files.
 pub fn one_answer()
@@ -44,12 +41,10 @@ pub fn one_answer()
         Answers words files one status → Answers words files other status' → one ≡ other }
     ensures status { (words : List (List ℕ)) (files : Files) (one other : List ℕ) (status status' : ℕ) →
         Answers words files one status → Answers words files other status' → status ≡ status' }
-{
-}
+{}
 
 /// What a call that was cut short has written is a front of the program's one text.
 pub fn one_front()
     ensures { (words : List (List ℕ)) (files : Files) (front text : List ℕ) (status : ℕ) →
         Starts words files front → Answers words files text status → IsFront front text }
-{
-}
+{}

@@ -62,9 +62,9 @@ Step s line reply new = Judged s (checks s line) (Effect s line) reply new
 pub data Obeys (s : State) (words : List (List ℕ)) (replies : List Reply) (new : State) : Type 0 where
   blank : words ≡ [] → replies ≡ [] → new ≡ s → Obeys s words replies new
   unread : (first : List ℕ) (more : List (List ℕ)) → words ≡ first ∷ more → line_of words ≡ None
-    → replies ≡ Refused Syntax ∷ [] → new ≡ s → Obeys s words replies new
+      → replies ≡ Refused Syntax ∷ [] → new ≡ s → Obeys s words replies new
   obeyed : (line : Line) (reply : Reply) → line_of words ≡ Some line → Step s line reply new → replies ≡ reply ∷ []
-    → Obeys s words replies new
+      → Obeys s words replies new
 
 -- the machine obeys the lines one after another
 abbrev pub Run : State → List (List ℕ) → List Reply → State → Type 0

@@ -6,7 +6,7 @@ use Rattle.map_defs.specs.State.{State, empty_state}
 use Rattle.map_defs.specs.Text.{Reply, letter, ended, replies_text, any_refused}
 use Rattle.map_defs.specs.Script.{lines_of}
 use Rattle.map_defs.specs.Machine.{Run}
-use Rattle.map_defs.specs.Outside.{Files, held, Rose, IsFront}
+use Rattle.map_defs.specs.Outside.{Files, held, IsFront}
 
 -- a command: run a script over the empty map of a kind and a dimension
 pub data Command : Type 0 where

@@ -3,6 +3,7 @@ ghost use Rattle.std.specs.Prelude.{◌≡◌, ℕ, ◌+◌, ◌-◌, ◌^◌, N
 
 use map_io::{FetchFault, PutFault, Shelf, Sink};
 use std::alloc::{AllocError, Global};
+use std::process::Abort;
 
 /// A shelf whose one file is of this text, under every name; or none, where the text is left out.
 #[derive(Drop)]
@@ -66,9 +67,22 @@ impl Sink for Narrow {
     }
 }
 
-/// A call of the program, with what is written and the status.
-struct Call {
-    words: &'static [&'static str],
+/// Words that are no command: none, an unknown one, one too few, one too many, the other kind, another dimension, a
+/// dimension with a leading zero, and a mesh file.
+const NO_COMMANDS: [&[&str]; 8] = [
+    &[],
+    &["fly"],
+    &["run", "g", "2", "-"],
+    &["run", "g", "2", "-", "s", "s"],
+    &["run", "c", "2", "-", "s"],
+    &["run", "g", "3", "-", "s"],
+    &["run", "g", "02", "-", "s"],
+    &["run", "g", "2", "s", "s"],
+];
+
+/// A sink or a shelf that fails, what is written nevertheless, and the status.
+#[derive(Drop)]
+struct Fault {
     file: Option<&'static [u8]>,
     room: u64,
     flushes: bool,
@@ -76,144 +90,85 @@ struct Call {
     status: u8,
 }
 
-const RUN: &[&str] = &["run", "g", "2", "-", "s"];
+const NO_FILE: Fault = Fault {
+    file: None,
+    room: 9,
+    flushes: true,
+    text: "cannot read\n",
+    status: 5,
+};
 
-const CALLS: [Call; 14] = [
-    Call {
-        words: &[],
-        file: Some(b"show\n"),
-        room: 9,
-        flushes: true,
-        text: "usage\n",
-        status: 2,
-    },
-    Call {
-        words: &["fly"],
-        file: Some(b"show\n"),
-        room: 9,
-        flushes: true,
-        text: "usage\n",
-        status: 2,
-    },
-    Call {
-        words: &["run", "g", "2", "-"],
-        file: Some(b"show\n"),
-        room: 9,
-        flushes: true,
-        text: "usage\n",
-        status: 2,
-    },
-    Call {
-        words: &["run", "g", "2", "-", "s", "s"],
-        file: Some(b"show\n"),
-        room: 9,
-        flushes: true,
-        text: "usage\n",
-        status: 2,
-    },
-    Call {
-        words: &["run", "c", "2", "-", "s"],
-        file: Some(b"show\n"),
-        room: 9,
-        flushes: true,
-        text: "usage\n",
-        status: 2,
-    },
-    Call {
-        words: &["run", "g", "3", "-", "s"],
-        file: Some(b"show\n"),
-        room: 9,
-        flushes: true,
-        text: "usage\n",
-        status: 2,
-    },
-    Call {
-        words: &["run", "g", "02", "-", "s"],
-        file: Some(b"show\n"),
-        room: 9,
-        flushes: true,
-        text: "usage\n",
-        status: 2,
-    },
-    Call {
-        words: &["run", "g", "2", "s", "s"],
-        file: Some(b"show\n"),
-        room: 9,
-        flushes: true,
-        text: "usage\n",
-        status: 2,
-    },
-    Call {
-        words: RUN,
-        file: None,
-        room: 9,
-        flushes: true,
-        text: "cannot read\n",
-        status: 5,
-    },
-    Call {
-        words: RUN,
-        file: None,
-        room: 0,
-        flushes: true,
-        text: "",
-        status: 6,
-    },
-    Call {
-        words: RUN,
-        file: Some(b"polygon 3\nshow\n"),
-        room: 3,
-        flushes: true,
-        text: "ok 1 6\ncellmap 1 g 2 6 6\n1: 2 6 0\n",
-        status: 6,
-    },
-    Call {
-        words: RUN,
-        file: Some(b"polygon 3\n"),
-        room: 1,
-        flushes: true,
-        text: "ok 1 6\n",
-        status: 0,
-    },
-    Call {
-        words: RUN,
-        file: Some(b"polygon 3\n"),
-        room: 1,
-        flushes: false,
-        text: "ok 1 6\n",
-        status: 6,
-    },
-    Call {
-        words: RUN,
-        file: None,
-        room: 1,
-        flushes: false,
-        text: "cannot read\n",
-        status: 6,
-    },
-];
+const NO_ROOM: Fault = Fault {
+    file: None,
+    room: 0,
+    flushes: true,
+    text: "",
+    status: 6,
+};
+
+const CUT_SHORT: Fault = Fault {
+    file: Some(b"polygon 3\nshow\n"),
+    room: 3,
+    flushes: true,
+    text: "ok 1 6\ncellmap 1 g 2 6 6\n1: 2 6 0\n",
+    status: 6,
+};
+
+const ROOM_ENOUGH: Fault = Fault {
+    file: Some(b"polygon 3\n"),
+    room: 1,
+    flushes: true,
+    text: "ok 1 6\n",
+    status: 0,
+};
+
+const NO_FLUSH: Fault = Fault {
+    file: Some(b"polygon 3\n"),
+    room: 1,
+    flushes: false,
+    text: "ok 1 6\n",
+    status: 6,
+};
+
+/// Runs the program on these words, over a shelf with this file and a sink with this room, and compares.
+fn check(rt: &impl Abort, alloc: Global, words: &[&str], fault: &Fault) -> Result<(), AllocError> {
+    let mut owned = Vec::new(alloc);
+    for word in words {
+        owned.push(word.to_string(alloc)?)?;
+    }
+    let mut shelf = OneFile {
+        text: fault.file,
+        faults: 0,
+    };
+    let mut out = Narrow {
+        text: Vec::new(alloc),
+        room: fault.room,
+        flushes: fault.flushes,
+        faults: 0,
+    };
+    let status = map_run::run(alloc, owned.as_slice(), &mut shelf, &mut out);
+    assert_eq!(rt; out.text.as_slice(), fault.text.as_bytes());
+    assert_eq!(rt; status, fault.status);
+    Ok(())
+}
 
 #[test]
-fn faults_and_usage(rt: HostRuntime) -> Result<(), AllocError> {
-    let alloc = rt.alloc();
-    for call in &CALLS {
-        let mut words = Vec::new(alloc);
-        for word in call.words {
-            words.push(word.to_string(alloc)?)?;
-        }
-        let mut shelf = OneFile {
-            text: call.file,
-            faults: 0,
-        };
-        let mut out = Narrow {
-            text: Vec::new(alloc),
-            room: call.room,
-            flushes: call.flushes,
-            faults: 0,
-        };
-        let status = map_run::run(alloc, words.as_slice(), &mut shelf, &mut out);
-        assert_eq!(rt; out.text.as_slice(), call.text.as_bytes());
-        assert_eq!(rt; status, call.status);
+fn words_that_are_no_command(rt: HostRuntime) -> Result<(), AllocError> {
+    let usage = Fault {
+        text: "usage\n",
+        status: 2,
+        ..ROOM_ENOUGH
+    };
+    for words in &NO_COMMANDS {
+        check(&rt, rt.alloc(), words, &usage)?;
+    }
+    Ok(())
+}
+
+#[test]
+fn what_fails_outside(rt: HostRuntime) -> Result<(), AllocError> {
+    for fault in &[NO_FILE, NO_ROOM, CUT_SHORT, ROOM_ENOUGH, NO_FLUSH] {
+        check(&rt, rt.alloc(), &["run", "g", "2", "-", "s"], fault)?;
     }
     Ok(())
 }

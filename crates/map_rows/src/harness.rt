@@ -61,7 +61,12 @@ pub fn check_rows(rt: &impl Abort, alloc: Global, rows: &[Row]) -> Result<(), Al
     for row in rows {
         let script = Vec::from_slice(alloc, row.script.as_bytes())?;
         let answer = obey(alloc, script)?;
-        assert_eq!(rt; answer.text.as_slice(), row.text.as_bytes(), "{}", row.script);
+        assert_eq!(rt;
+            answer.text.as_slice(),
+            row.text.as_bytes(),
+            "{}",
+            row.script
+        );
         assert_eq!(rt; answer.status, row.status, "{}", row.script);
     }
     Ok(())

@@ -64,7 +64,9 @@ fn fills_the_map(rt: HostRuntime) -> Result<(), AllocError> {
     script.extend_from_slice(b"polygon 2\npolygon 3\n")?;
     let answer = obey(rt.alloc(), script)?;
     assert!(rt; answer.text.starts_with(b"ok 1 131072\nok 131073 131072\n"));
-    assert!(rt; answer.text.ends_with(b"ok 3932161 131072\nok 4063233 131072\nno 16 BadCount\nno 21 Full\n"));
+    assert!(rt;
+        answer.text.ends_with(b"ok 3932161 131072\nok 4063233 131072\nno 16 BadCount\nno 21 Full\n")
+    );
     assert_eq!(rt; answer.status, 1);
     Ok(())
 }

@@ -1,11 +1,11 @@
 -- States without values, rules and marks.
-use Rattle.std.proofs.Common.{◌≡◌, ℕ, zero, suc, ◌+◌, ◌<◌, ◌≤◌, ◌⊎◌, inl, inr, length, get_or, replicate, arith, List, [], ◌∷◌, ◌++◌, map, Option, Some, None, refl, sym, ap, ◌∙◌}
+use Rattle.std.proofs.Common.{◌≡◌, ℕ, zero, suc, ◌+◌, inl, inr, length, get_or, replicate, arith, List, [], ◌∷◌, ◌++◌, map, Option, Some, None, refl, sym, ap, ◌∙◌}
 use Rattle.std.proofs.lemmas.List.{map-append, get_or-map, get_or_past, length-map}
 use Rattle.std.proofs.lemmas.Bool.{cases_lt}
 use Rattle.map_defs.specs.Kind.{Kind, alpha}
 use Rattle.map_defs.specs.Rows.{Rows}
 use Rattle.map_defs.specs.Values.{Value}
-use Rattle.map_defs.specs.State.{Content, with_born, no_values, value_at}
+use Rattle.map_defs.specs.State.{with_born, no_values, value_at}
 use Rattle.map_defs.specs.Listing.{ListsValues, listing_with}
 use Rattle.map_defs.specs.Text.{Shown}
 use Rattle.map_defs.specs.Script.{Show}
@@ -23,9 +23,9 @@ pub with_born-bare : (k : Kind) (n : ℕ) (rows : Rows) (born : List (List ℕ))
 with_born-bare k n rows born =
     let nv : List (Option Value) = no_values n in
     let e : map (λ (row : Option (List ℕ)). nv) rows ++ map (λ (row : List ℕ). nv) born
-            ≡ map (λ (row : Option (List ℕ)). nv) (rows ++ map (λ (row : List ℕ). Some row) born) =
-        ap (λ (vs : List (List (Option Value))). map (λ (row : Option (List ℕ)). nv) rows ++ vs) (constant_map nv born)
-        ∙ sym (map-append (λ (row : Option (List ℕ)). nv) rows (map (λ (row : List ℕ). Some row) born)) in
+    ≡ map (λ (row : Option (List ℕ)). nv) (rows ++ map (λ (row : List ℕ). Some row) born) =
+    ap (λ (vs : List (List (Option Value))). map (λ (row : Option (List ℕ)). nv) rows ++ vs) (constant_map nv born)
+    ∙ sym (map-append (λ (row : Option (List ℕ)). nv) rows (map (λ (row : List ℕ). Some row) born)) in
     ap (λ (vs : List (List (Option Value))). record (bare_content k n (rows ++ map (λ (row : List ℕ). Some row) born)) { values = vs }) e
 
 no_value : (m i : ℕ) → get_or (replicate m None) i None ≡ (let none : Option Value = None in none)
@@ -36,15 +36,17 @@ no_value (suc m) (suc i) = no_value m i
 pub value_at-bare : (k : Kind) (n : ℕ) (rows : Rows) (i d : ℕ) → value_at (bare_content k n rows) i d ≡ None
 value_at-bare k n rows i d =
     elim (cases_lt d (length rows)) [
-      inl within ↦ ap (λ (vs : List (Option Value)). get_or vs i None) (get_or-map (λ (row : Option (List ℕ)). no_values n) rows d None [] within) ∙ no_value (n + 1) i
-    | inr beyond ↦ ap (λ (vs : List (Option Value)). get_or vs i None)
-        (get_or_past (map (λ (row : Option (List ℕ)). no_values n) rows) d [] (omega (arith, length-map rows (λ (row : Option (List ℕ)). no_values n)))) ]
+      | inl within ↦ ap (λ (vs : List (Option Value)). get_or vs i None) (get_or-map (λ (row : Option (List ℕ)). no_values n) rows d None [] within) ∙ no_value (n + 1) i
+      | inr beyond ↦ ap (λ (vs : List (Option Value)). get_or vs i None)
+          (get_or_past (map (λ (row : Option (List ℕ)). no_values n) rows) d [] (omega (arith, length-map rows (λ (row : Option (List ℕ)). no_values n))))
+    ]
 
 -- the listing of a map without values shows none
 pub ListsValues-bare : (k : Kind) (n : ℕ) (rows : Rows) → ListsValues (bare_content k n rows) []
 ListsValues-bare k n rows = record {
   members = λ v. (λ listed. absurd (omega (arith, listed.1)), λ valued. absurd (let none = value_at-bare k n rows v.dim v.dart in let some = valued.0 in cc));
-  ordered = λ j k d below within. absurd (omega arith) }
+  ordered = λ j k d below within. absurd (omega arith);
+}
 
 -- what `show` does there
 pub Step-show : (rows : Rows) → Step (state_of rows) Show (Shown (listing_with (state_of rows).present [])) (state_of rows)

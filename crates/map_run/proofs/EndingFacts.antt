@@ -1,14 +1,14 @@
 -- How the program ends, by what was fetched and written.
-use Rattle.std.proofs.Common.{◌≡◌, ℕ, ◌+◌, ◌<◌, ◌≤◌, ◌⊎◌, List, [], ◌∷◌, ◌++◌, length, Option, Some, None, Result, Ok, Err, Bool, true, false, cond, nat_lt, refl, sym, ap, ◌∙◌, subst, inl, inr, arith, lit≤, lit<}
+use Rattle.std.proofs.Common.{◌≡◌, ℕ, ◌≤◌, ◌⊎◌, List, [], length, Option, Some, None, Result, Ok, Err, Bool, true, false, cond, nat_lt, refl, subst, inl, inr, arith, lit≤}
 use Rattle.std.proofs.lemmas.List.{append-nil}
-use Rattle.std.proofs.lemmas.Bool.{cases_lt, lt-ltb, le-ltb}
+use Rattle.std.proofs.lemmas.Bool.{cases_lt, lt-ltb}
 use Rattle.map_io.specs.declared.sink.PutFault.{PutFault}
 use Rattle.map_io.specs.declared.sink.PutFault.TheVariants.{Failed, NoMemory}
 use Rattle.map_defs.specs.Kind.{alpha}
-use Rattle.map_defs.specs.Outside.{Files, held, Appended, IsFront}
+use Rattle.map_defs.specs.Outside.{Files, held, Appended}
 use Rattle.map_defs.specs.State.{empty_state}
 use Rattle.map_defs.specs.Script.{lines_of}
-use Rattle.map_defs.specs.Program.{Command, RunScript, Tells, FileAnswer, ScriptAnswer, CommandAnswer, Answers, untold, told, Begins, Starts, whole, lines, EndsLine, Outcome, answered, unread, unwritten, no_memory, file_limit, cannot_read, too_long, usage, run_status}
+use Rattle.map_defs.specs.Program.{RunScript, Tells, Answers, told, Starts, whole, lines, Outcome, answered, unread, unwritten, no_memory, file_limit, cannot_read, too_long}
 use Rattle.map_run.specs.Going.{ObeysScript, IsObeyed}
 use Rattle.map_run.specs.Ending.{IsLast, WritesLast, Ends, EndsWhole, status_of}
 use Rattle.map_run.proofs.WritingFacts.{Appended-nothing, Appended-then, IsFront-all, IsFront-nothing}
@@ -36,9 +36,15 @@ module _ (words : List (List ℕ)) (files : Files) (shelf_rose sink_rose : Type 
       by_length : (bytes : List ℕ) → held files script ≡ Some bytes → Starts words files []
       by_length bytes is =
           elim (cases_lt file_limit (length bytes)) [
-            inl long ↦ whole too_long 4 (told (RunScript alpha 2 script) tells (rw is (inl (long, refl, refl)))) (IsFront-nothing too_long)
-          | inr within ↦ lines (RunScript alpha 2 script) tells (bytes, is, within,
-              record { done = []; left = lines_of bytes; all = refl; replies = []; new = empty_state alpha 2; run = (refl, refl); begins = IsFront-nothing [] }) ]
+            | inl long ↦ whole too_long 4 (told (RunScript alpha 2 script) tells (rw is (inl (long, refl, refl)))) (IsFront-nothing too_long)
+            | inr within ↦ lines (RunScript alpha 2 script) tells (
+              bytes,
+              is,
+              within,
+              record { done = []; left = lines_of bytes; all = refl; replies = []; new = empty_state alpha 2; run = (refl, refl); begins = IsFront-nothing [] },
+            )
+          ]
+
       by_file : (o : Option (List ℕ)) → held files script ≡ o → Starts words files []
       by_file None is = whole cannot_read 5 (told (RunScript alpha 2 script) tells (rw is (refl, refl))) (IsFront-nothing cannot_read)
       by_file (Some bytes) is = by_length bytes is
@@ -85,23 +91,35 @@ module _ (words : List (List ℕ)) (files : Files) (shelf_rose sink_rose : Type 
 pub Ends-last : (before after : Option (List ℕ)) (words : List (List ℕ)) (files : Files) (shelf_rose sink_rose : Type 0) (line : List ℕ) (status result : ℕ)
     → Answers words files line status → status ≤ 4 → WritesLast before after sink_rose line status result → Ends before after words files shelf_rose sink_rose result
 Ends-last before after words files shelf_rose sink_rose line status result answers small w = record {
-  text = w.piece; appended = w.appended; outcome = last-outcome words files shelf_rose sink_rose line status result w.piece answers small w.is }
+  text = w.piece;
+  appended = w.appended;
+  outcome = last-outcome words files shelf_rose sink_rose line status result w.piece answers small w.is;
+}
 
 pub Ends-unread : (before after : Option (List ℕ)) (words : List (List ℕ)) (files : Files) (shelf_rose sink_rose : Type 0) (result : ℕ)
     → shelf_rose → WritesLast before after sink_rose cannot_read 5 result → Ends before after words files shelf_rose sink_rose result
 Ends-unread before after words files shelf_rose sink_rose result shelf w = record {
-  text = w.piece; appended = w.appended; outcome = unread-outcome words files shelf_rose sink_rose result w.piece shelf w.is }
+  text = w.piece;
+  appended = w.appended;
+  outcome = unread-outcome words files shelf_rose sink_rose result w.piece shelf w.is;
+}
 
 pub Ends-nothing : (o : Option (List ℕ)) (words : List (List ℕ)) (files : Files) (shelf_rose sink_rose : Type 0) (script : List ℕ)
     → Tells words (RunScript alpha 2 script) → Ends o o words files shelf_rose sink_rose 7
 Ends-nothing o words files shelf_rose sink_rose script tells = record {
-  text = []; appended = Appended-nothing o; outcome = no_memory refl (inl refl) (inl (starts-nothing words files shelf_rose sink_rose script tells)) }
+  text = [];
+  appended = Appended-nothing o;
+  outcome = no_memory refl (inl refl) (inl (starts-nothing words files shelf_rose sink_rose script tells));
+}
 
 pub Ends-script : (before after : Option (List ℕ)) (words : List (List ℕ)) (files : Files) (shelf_rose sink_rose : Type 0) (script bytes : List ℕ) (obeyed : Result Bool PutFault)
     → Tells words (RunScript alpha 2 script) → held files script ≡ Some bytes → length bytes ≤ file_limit → (obeyed ≡ Err Failed → sink_rose)
     → ObeysScript before after (empty_state alpha 2) bytes obeyed → Ends before after words files shelf_rose sink_rose (status_of obeyed)
 Ends-script before after words files shelf_rose sink_rose script bytes obeyed tells is within rose o = record {
-  text = o.piece; appended = o.appended; outcome = script-outcome words files shelf_rose sink_rose script bytes obeyed o.piece tells is within rose o.is }
+  text = o.piece;
+  appended = o.appended;
+  outcome = script-outcome words files shelf_rose sink_rose script bytes obeyed o.piece tells is within rose o.is;
+}
 
 pub Ends-flushed : (before middle after : Option (List ℕ)) (words : List (List ℕ)) (files : Files) (shelf_rose sink_rose sink_rose' : Type 0) (status : ℕ)
     → (sink_rose → sink_rose') → Ends before middle words files shelf_rose sink_rose status → Appended middle after []
@@ -109,7 +127,8 @@ pub Ends-flushed : (before middle after : Option (List ℕ)) (words : List (List
 Ends-flushed before middle after words files shelf_rose sink_rose sink_rose' status grows e nothing = record {
   text = e.text;
   appended = subst (Appended before after) (append-nil e.text) (Appended-then before middle after e.text [] e.appended nothing);
-  outcome = flushed-outcome words files shelf_rose sink_rose sink_rose' status e.text grows e.outcome }
+  outcome = flushed-outcome words files shelf_rose sink_rose sink_rose' status e.text grows e.outcome;
+}
 
 pub Ends-unflushed : (before middle after : Option (List ℕ)) (words : List (List ℕ)) (files : Files) (shelf_rose sink_rose sink_rose' : Type 0) (status : ℕ)
     → sink_rose' → Ends before middle words files shelf_rose sink_rose status → Appended middle after []
@@ -117,11 +136,13 @@ pub Ends-unflushed : (before middle after : Option (List ℕ)) (words : List (Li
 Ends-unflushed before middle after words files shelf_rose sink_rose sink_rose' status rose e nothing = record {
   text = e.text;
   appended = subst (Appended before after) (append-nil e.text) (Appended-then before middle after e.text [] e.appended nothing);
-  outcome = unflushed-outcome words files shelf_rose sink_rose sink_rose' status e.text rose e.outcome }
+  outcome = unflushed-outcome words files shelf_rose sink_rose sink_rose' status e.text rose e.outcome;
+}
 
 pub EndsWhole-from : (before after : Option (List ℕ)) (words : List (List ℕ)) (files : Files) (shelf_rose sink_rose : Type 0) (status : ℕ)
     → (shelf_rose → ⊥) → (sink_rose → ⊥) → Ends before after words files shelf_rose sink_rose status → (status ≡ 7) ⊎ EndsWhole before after words files status
 EndsWhole-from before after words files shelf_rose sink_rose status no_shelf no_sink e =
     elim (complete-outcome words files shelf_rose sink_rose status e.text no_shelf no_sink e.outcome) [
-      inl seven ↦ inl seven
-    | inr answers ↦ inr (record { text = e.text; appended = e.appended; answers = answers }) ]
+      | inl seven ↦ inl seven
+      | inr answers ↦ inr (record { text = e.text; appended = e.appended; answers = answers })
+    ]

@@ -1,15 +1,14 @@
 -- What a line answers, from what its reply is.
-use Rattle.std.proofs.Common.{◌≡◌, ℕ, ◌⊎◌, List, [], ◌∷◌, ◌++◌, Option, Some, None, Result, Ok, Err, Bool, true, false, ◌||◌, refl, sym, ap, ◌∙◌, subst, append_assoc, inl, inr, OnOk, IfErr}
+use Rattle.std.proofs.Common.{◌≡◌, ℕ, List, [], ◌∷◌, Option, Some, None, Result, Ok, Err, Bool, true, false, ◌||◌, refl, sym, ◌∙◌, subst, inl, inr, OnOk, IfErr}
 use Rattle.std.proofs.lemmas.List.{append-nil}
 use Rattle.map_io.specs.declared.sink.PutFault.{PutFault}
 use Rattle.map_io.specs.declared.sink.PutFault.TheVariants.{Failed, NoMemory}
-use Rattle.map_defs.specs.Outside.{Appended, IsFront}
+use Rattle.map_defs.specs.Outside.{IsFront}
 use Rattle.map_defs.specs.State.{State}
 use Rattle.map_defs.specs.Script.{Line, line_of}
 use Rattle.map_defs.specs.Text.{Reply, Refused, reply_text, replies_text, is_refused, any_refused}
 use Rattle.map_defs.specs.Refusal.{Syntax}
-use Rattle.map_defs.specs.Machine.{Step, Obeys, obeyed, unread, blank}
-use Rattle.map_defs.specs.Program.{EndsLine}
+use Rattle.map_defs.specs.Machine.{Step, obeyed, unread}
 use Rattle.map_run.specs.Writing.{Writes, IsWritten, IsAnsweredStep, AnswersStep, IsAnswered, AnswersLine}
 
 -- the reply is written, or cut short
@@ -29,7 +28,8 @@ pub AnswersStep-from : (before after : Option (List ℕ)) (s new : State) (line 
 AnswersStep-from before after s new line reply written result refused step same ok err w = record {
   piece = w.piece;
   appended = w.appended;
-  is = step-is s new line reply written result refused w.piece step same ok err w.is }
+  is = step-is s new line reply written result refused w.piece step same ok err w.is;
+}
 
 one-reply : (reply : Reply) → reply_text reply ≡ replies_text (reply ∷ [])
 one-reply reply = sym (append-nil (reply_text reply))
@@ -57,7 +57,8 @@ pub AnswersLine-from : (before after : Option (List ℕ)) (s new : State) (words
 AnswersLine-from before after s new words line result told p = record {
   piece = p.piece;
   appended = p.appended;
-  is = line-is s new words line result p.piece told p.is }
+  is = line-is s new words line result p.piece told p.is;
+}
 
 -- a line outside the grammar
 unread-is : (s : State) (words : List (List ℕ)) (written : Result (Unit {0}) PutFault) (result : Result Bool PutFault) (piece first : List ℕ) (more : List (List ℕ))
@@ -76,4 +77,5 @@ pub AnswersLine-unread : (before after : Option (List ℕ)) (s : State) (words :
 AnswersLine-unread before after s words written result first more are none ok err w = record {
   piece = w.piece;
   appended = w.appended;
-  is = unread-is s words written result w.piece first more are none ok err w.is }
+  is = unread-is s words written result w.piece first more are none ok err w.is;
+}

@@ -1,5 +1,5 @@
 -- The rows of a listing, one dart after another.
-use Rattle.std.proofs.Common.{◌≡◌, ℕ, ◌+◌, ◌-◌, ◌<◌, ◌≤◌, List, [], ◌∷◌, ◌++◌, length, map, take, get_or, Option, Some, None, refl, sym, ap, ◌∙◌, arith, suc, zero, filter, is_some, add-one, add-zero, add-suc}
+use Rattle.std.proofs.Common.{◌≡◌, ℕ, ◌+◌, List, [], ◌∷◌, ◌++◌, length, get_or, Some, None, refl, ap, ◌∙◌, arith, suc}
 use Rattle.map_defs.specs.Rows.{Rows, live_count}
 use Rattle.map_defs.specs.Listing.{ListRow, live_rows_from}
 

@@ -1,11 +1,11 @@
 -- The texts of rows, one dart after another.
-use Rattle.std.proofs.Common.{◌≡◌, ℕ, ◌+◌, ◌<◌, ◌≤◌, List, [], ◌∷◌, ◌++◌, length, take, drop, Option, Some, None, refl, sym, ap, ◌∙◌, arith, inl, inr}
+use Rattle.std.proofs.Common.{◌≡◌, ℕ, ◌+◌, ◌<◌, List, [], ◌∷◌, ◌++◌, length, take, drop, Option, Some, None, refl, sym, ap, ◌∙◌, arith, inl, inr}
 use Rattle.std.specs.List.{flat_map}
 use Rattle.std.proofs.lemmas.Grind.{flat_map-append}
 use Rattle.std.proofs.lemmas.List.{append-nil, take_more, take-append-drop, length-take-le}
 use Rattle.map_defs.specs.Rows.{Rows, row_at}
 use Rattle.map_defs.specs.Text.{row_text}
-use Rattle.map_defs.specs.Listing.{ListRow, live_rows_from}
+use Rattle.map_defs.specs.Listing.{live_rows_from}
 use Rattle.map_defs.specs.Program.{EndsLine}
 use Rattle.map_run.proofs.WritingFacts.{EndsLine-then}
 use Rattle.map_run.proofs.ListingRows.{live_rows_from-append}
@@ -36,9 +36,10 @@ rows_text-more rows k h =
 
 -- what comes after the first darts
 pub rows_text-rest : (rows : Rows) (k : ℕ) → (rest : List ℕ) × (rows_text rows ≡ rows_text (take k rows) ++ rest)
-rows_text-rest rows k =
-    (flat_map row_text (live_rows_from (length (take k rows)) (drop k rows)),
-    ap rows_text (sym (take-append-drop k rows)) ∙ rows_text-append (take k rows) (drop k rows))
+rows_text-rest rows k = (
+  flat_map row_text (live_rows_from (length (take k rows)) (drop k rows)),
+  ap rows_text (sym (take-append-drop k rows)) ∙ rows_text-append (take k rows) (drop k rows),
+)
 
 -- the rows end with a line
 pub rows_end : (d : ℕ) (rows : Rows) → EndsLine (flat_map row_text (live_rows_from d rows))

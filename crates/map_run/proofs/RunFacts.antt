@@ -1,6 +1,6 @@
 -- Runs that go on by one line, and what is written of them.
-use Rattle.std.proofs.Common.{◌≡◌, ℕ, ◌⊎◌, List, [], ◌∷◌, ◌++◌, Option, Some, None, Result, Ok, Err, Bool, true, false, ◌||◌, ◌==◌, cond, codes, refl, sym, ap, ◌∙◌, subst, append_assoc, inl, inr}
-use Rattle.std.specs.List.{flat_map, list_any}
+use Rattle.std.proofs.Common.{◌≡◌, ℕ, List, [], ◌∷◌, ◌++◌, Option, Ok, Err, Bool, true, false, ◌||◌, ◌==◌, cond, codes, refl, sym, ap, ◌∙◌, subst, append_assoc, inl, inr}
+use Rattle.std.specs.List.{flat_map}
 use Rattle.std.proofs.lemmas.Grind.{flat_map-append}
 use Rattle.std.proofs.lemmas.List.{append-nil}
 use Rattle.map_io.specs.declared.sink.PutFault.{PutFault}
@@ -38,9 +38,14 @@ pub Run-more : (s mid new : State) (done : List (List ℕ)) (line : List ℕ) (r
 Run-more s mid new [] line replies here run last =
     let at : Obeys s (words_of line) here new = subst (λ (t : State). Obeys t (words_of line) here new) run.1 last in
     (here, [], new, at, (refl, refl), ap (λ (rs : List Reply). rs ++ here) run.0 ∙ sym (append-nil here))
-Run-more s mid new (first ∷ done) line replies here run last =
-    (run.0, run.1 ++ here, run.2, run.3, Run-more run.2 mid new done line run.1 here run.4 last,
-    ap (λ (rs : List Reply). rs ++ here) run.5 ∙ append_assoc run.0 run.1 here)
+Run-more s mid new (first ∷ done) line replies here run last = (
+  run.0,
+  run.1 ++ here,
+  run.2,
+  run.3,
+  Run-more run.2 mid new done line run.1 here run.4 last,
+  ap (λ (rs : List Reply). rs ++ here) run.5 ∙ append_assoc run.0 run.1 here,
+)
 
 or-assoc : (a b c : Bool) → (a || (b || c)) ≡ ((a || b) || c)
 or-assoc true b c = refl
@@ -70,7 +75,8 @@ Going-more start mid new done line refused here before middle after going answer
       run = Run-more start mid new done line replies own going.run answer.is.1;
       any = rw (a, b) (sym (any-append replies own));
       appended = subst (Appended before after) (sym (text-append replies own))
-        (Appended-then before middle after (replies_text replies) (replies_text own) going.appended (subst (Appended middle after) answer.is.2 answer.appended)) }
+          (Appended-then before middle after (replies_text replies) (replies_text own) going.appended (subst (Appended middle after) answer.is.2 answer.appended));
+    }
 
 begins-here : (start mid : State) (done after : List (List ℕ)) (line : List ℕ) (lines : List (List ℕ)) (replies : List Reply) (piece : List ℕ)
     → lines ≡ done ++ line ∷ after → Run start done replies mid → IsFrontOfLine mid (words_of line) piece → Begins start lines (replies_text replies ++ piece)
@@ -81,7 +87,8 @@ begins-here start mid done after line lines replies piece are run front = record
   replies = replies ++ front.0;
   new = front.1;
   run = Run-more start mid front.1 done line replies front.0 run front.2;
-  begins = subst (IsFront (replies_text replies ++ piece)) (sym (text-append replies front.0)) (IsFront-then (replies_text replies) piece (replies_text front.0) front.3) }
+  begins = subst (IsFront (replies_text replies ++ piece)) (sym (text-append replies front.0)) (IsFront-then (replies_text replies) piece (replies_text front.0) front.3);
+}
 
 cut-is : (start mid new : State) (script : List ℕ) (done after : List (List ℕ)) (line : List ℕ) (fault : PutFault) (replies : List Reply) (piece : List ℕ)
     → lines_of script ≡ done ++ line ∷ after → Run start done replies mid → IsAnswered mid new (words_of line) (Err fault) piece
@@ -89,10 +96,18 @@ cut-is : (start mid new : State) (script : List ℕ) (done after : List (List �
 cut-is start mid new script done after line Failed replies piece are run p = begins-here start mid done after line (lines_of script) replies piece are run p
 cut-is start mid new script done after line NoMemory replies piece are run (ends, inr p) =
     (EndsLine-then (replies_text replies) piece (replies_end replies) ends, begins-here start mid done after line (lines_of script) replies piece are run p)
-cut-is start mid new script done after line NoMemory replies piece are run (ends, inl none) =
-    (EndsLine-then (replies_text replies) piece (replies_end replies) ends,
-    record { done = done; left = line ∷ after; all = are; replies = replies; new = mid; run = run;
-      begins = rw (none, append-nil (replies_text replies)) (IsFront-all (replies_text replies)) })
+cut-is start mid new script done after line NoMemory replies piece are run (ends, inl none) = (
+  EndsLine-then (replies_text replies) piece (replies_end replies) ends,
+  record {
+    done = done;
+    left = line ∷ after;
+    all = are;
+    replies = replies;
+    new = mid;
+    run = run;
+    begins = rw (none, append-nil (replies_text replies)) (IsFront-all (replies_text replies));
+  },
+)
 
 -- the script is cut short at a line
 pub Going-cut : (start mid new : State) (script : List ℕ) (done after : List (List ℕ)) (line : List ℕ) (refused : Bool) (fault : PutFault) (before middle end : Option (List ℕ))
@@ -101,7 +116,8 @@ pub Going-cut : (start mid new : State) (script : List ℕ) (done after : List (
 Going-cut start mid new script done after line refused fault before middle end are going answer = record {
   piece = replies_text going.replies ++ answer.piece;
   appended = Appended-then before middle end (replies_text going.replies) answer.piece going.appended answer.appended;
-  is = cut-is start mid new script done after line fault going.replies answer.piece are going.run answer.is }
+  is = cut-is start mid new script done after line fault going.replies answer.piece are going.run answer.is;
+}
 
 -- the script is obeyed to its end
 pub Going-end : (start new : State) (script : List ℕ) (done : List (List ℕ)) (refused : Bool) (before after : Option (List ℕ))
@@ -112,4 +128,5 @@ Going-end start new script done refused before after are going =
     record {
       piece = replies_text going.replies;
       appended = going.appended;
-      is = (going.replies, new, subst (λ (ls : List (List ℕ)). Run start ls going.replies new) (sym all) going.run, refl, ap run_status a) }
+      is = (going.replies, new, subst (λ (ls : List (List ℕ)). Run start ls going.replies new) (sym all) going.run, refl, ap run_status a);
+    }

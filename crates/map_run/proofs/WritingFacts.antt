@@ -1,5 +1,5 @@
 -- Texts that are appended one after another.
-use Rattle.std.proofs.Common.{◌≡◌, ℕ, ◌⊎◌, List, [], ◌∷◌, ◌++◌, Option, Some, None, Result, Ok, Err, refl, sym, ap, ◌∙◌, subst, append_assoc, inl, inr}
+use Rattle.std.proofs.Common.{◌≡◌, ℕ, List, [], ◌∷◌, ◌++◌, Option, Some, None, Result, Ok, Err, refl, sym, ap, ◌∙◌, subst, append_assoc, inl, inr}
 use Rattle.std.proofs.lemmas.List.{append-nil}
 use Rattle.map_io.specs.declared.sink.PutFault.{PutFault}
 use Rattle.map_io.specs.declared.sink.PutFault.TheVariants.{Failed, NoMemory}
@@ -48,7 +48,8 @@ pub Writes-then : (before middle after : Option (List ℕ)) (result : Result (Un
 Writes-then before middle after result one other p q = record {
   piece = one ++ q.piece;
   appended = Appended-then before middle after one q.piece p.appended q.appended;
-  is = then-is result one other q.piece p.ends q.is }
+  is = then-is result one other q.piece p.ends q.is;
+}
 
 -- what was cut is the same where more would have come
 pub Writes-cut : (before after : Option (List ℕ)) (fault : PutFault) (text more : List ℕ)
@@ -66,7 +67,8 @@ pub HasWritten-then : (before middle after : Option (List ℕ)) (one other : Lis
     → HasWritten before middle one → HasWritten middle after other → HasWritten before after (one ++ other)
 HasWritten-then before middle after one other p q = record {
   appended = Appended-then before middle after one other p.appended q.appended;
-  ends = EndsLine-then one other p.ends q.ends }
+  ends = EndsLine-then one other p.ends q.ends;
+}
 
 pub Writes-done : (before after : Option (List ℕ)) (done : Unit {0}) (text : List ℕ) → HasWritten before after text → Writes before after (Ok done) text
 Writes-done before after done text p = record { piece = text; appended = p.appended; is = refl }

@@ -3,8 +3,8 @@
 
 mod command;
 mod machine;
-mod reply;
 mod program;
+mod reply;
 mod script;
 mod text;
 

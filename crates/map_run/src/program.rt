@@ -8,9 +8,7 @@ ghost use Rattle.map_io.specs.Cause.{HasCause};
 ghost use Rattle.map_run.specs.Going.{ObeysScript};
 ghost use Rattle.map_run.specs.Ending.{WritesLast, Ends, EndsWhole, status_of};
 
-use crate::command;
-use crate::machine;
-use crate::script;
+use crate::{command, machine, script};
 use link_rows::Links;
 use map_io::{FetchFault, PutFault, Shelf, Sink};
 use std::alloc::Global;
@@ -73,7 +71,7 @@ fn run_script<F: Shelf, S: Sink>(alloc: Global, script: &str, shelf: &mut F, out
     ensures outcome { (words : List (List ℕ)) (files : Files) → Tells words (RunScript alpha 2 script.now)
         → F.holds shelf.old ≡ Some files →
         Ends (S.written out.old) (S.written out.new) words files
-            (Rose (F.faults shelf.old) (F.faults shelf.new)) (Rose (S.faults out.old) (S.faults out.new)) result }
+        (Rose (F.faults shelf.old) (F.faults shelf.new)) (Rose (S.faults out.old) (S.faults out.new)) result }
     ensures command { result ≢ 2 }
     ensures range { result ≤ 7 }
     ensures unread { result ≡ 5 → Rose (F.faults shelf.old) (F.faults shelf.new) }
@@ -100,7 +98,7 @@ fn answer<F: Shelf, S: Sink>(alloc: Global, words: &[String], shelf: &mut F, out
     requires { (name : List ℕ) → Needs (map string_bytes words.now) name → F.may_ask shelf.old name }
     ensures outcome { (files : Files) → Known (map string_bytes words.now) (F.holds shelf.old) files →
         Ends (S.written out.old) (S.written out.new) (map string_bytes words.now) files
-            (Rose (F.faults shelf.old) (F.faults shelf.new)) (Rose (S.faults out.old) (S.faults out.new)) result }
+        (Rose (F.faults shelf.old) (F.faults shelf.new)) (Rose (S.faults out.old) (S.faults out.new)) result }
     ensures usage { result ≡ 2 → IsNoCommand (map string_bytes words.now) }
     ensures range { result ≤ 7 }
     ensures unread { result ≡ 5 → Rose (F.faults shelf.old) (F.faults shelf.new) }
@@ -118,7 +116,7 @@ fn serve<F: Shelf, S: Sink>(alloc: Global, words: &[String], shelf: &mut F, out:
     requires { (name : List ℕ) → Needs (map string_bytes words.now) name → F.may_ask shelf.old name }
     ensures outcome { (files : Files) → Known (map string_bytes words.now) (F.holds shelf.old) files →
         Ends (S.written out.old) (S.written out.new) (map string_bytes words.now) files
-            (Rose (F.faults shelf.old) (F.faults shelf.new)) (Rose (S.faults out.old) (S.faults out.new)) result }
+        (Rose (F.faults shelf.old) (F.faults shelf.new)) (Rose (S.faults out.old) (S.faults out.new)) result }
     ensures usage { result ≡ 2 → IsNoCommand (map string_bytes words.now) }
     ensures range { result ≤ 7 }
     ensures unread { result ≡ 5 → Rose (F.faults shelf.old) (F.faults shelf.new) }
@@ -154,7 +152,7 @@ pub fn run<F: Shelf, S: Sink>(alloc: Global, words: &[String], shelf: &mut F, ou
     requires { (name : List ℕ) → Needs (map string_bytes words.now) name → F.may_ask shelf.old name }
     ensures outcome { (files : Files) → Known (map string_bytes words.now) (F.holds shelf.old) files →
         Ends (S.written out.old) (S.written out.new) (map string_bytes words.now) files
-            (Rose (F.faults shelf.old) (F.faults shelf.new)) (Rose (S.faults out.old) (S.faults out.new)) result }
+        (Rose (F.faults shelf.old) (F.faults shelf.new)) (Rose (S.faults out.old) (S.faults out.new)) result }
     ensures complete { (files : Files) → Known (map string_bytes words.now) (F.holds shelf.old) files →
         ¬ (Rose (F.faults shelf.old) (F.faults shelf.new)) → ¬ (Rose (S.faults out.old) (S.faults out.new)) →
         (result ≡ 7) ⊎ EndsWhole (S.written out.old) (S.written out.new) (map string_bytes words.now) files result }

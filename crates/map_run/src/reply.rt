@@ -41,7 +41,11 @@ pub fn write_reply<S: Sink>(alloc: Global, out: &mut S, reply: Reply) -> Result<
 }
 
 /// Writes the listing of a map without values.
-pub fn write_listing<S: Sink>(alloc: Global, out: &mut S, links: &Links<Alpha, 2>) -> Result<(), PutFault>
+pub fn write_listing<S: Sink>(
+    alloc: Global,
+    out: &mut S,
+    links: &Links<Alpha, 2>,
+) -> Result<(), PutFault>
     ensures written { Writes (S.written out.old) (S.written out.new) result
         (listing_text (listing_with (state_of links.now).present [])) }
     ensures cause { HasCause (S.faults out.old) (S.faults out.new) (IsErrOf result PutFault.Failed) }
@@ -52,7 +56,11 @@ pub fn write_listing<S: Sink>(alloc: Global, out: &mut S, links: &Links<Alpha, 2
     out.put(b"end\n")
 }
 
-fn write_header<S: Sink>(line: &mut Vec<u8>, out: &mut S, links: &Links<Alpha, 2>) -> Result<(), PutFault>
+fn write_header<S: Sink>(
+    line: &mut Vec<u8>,
+    out: &mut S,
+    links: &Links<Alpha, 2>,
+) -> Result<(), PutFault>
     ensures written { Writes (S.written out.old) (S.written out.new) result
         (header_text (listing_with (state_of links.now).present [])) }
     ensures cause { HasCause (S.faults out.old) (S.faults out.new) (IsErrOf result PutFault.Failed) }
@@ -64,7 +72,11 @@ fn write_header<S: Sink>(line: &mut Vec<u8>, out: &mut S, links: &Links<Alpha, 2
     }
 }
 
-fn write_rows<S: Sink>(line: &mut Vec<u8>, out: &mut S, links: &Links<Alpha, 2>) -> Result<(), PutFault>
+fn write_rows<S: Sink>(
+    line: &mut Vec<u8>,
+    out: &mut S,
+    links: &Links<Alpha, 2>,
+) -> Result<(), PutFault>
     ensures written { Writes (S.written out.old) (S.written out.new) result
         (flat_map row_text (live_rows_from 0 links.now)) }
     ensures cause { HasCause (S.faults out.old) (S.faults out.new) (IsErrOf result PutFault.Failed) }
@@ -76,7 +88,12 @@ fn write_rows<S: Sink>(line: &mut Vec<u8>, out: &mut S, links: &Links<Alpha, 2>)
 }
 
 /// Writes the row of a dart, if it is live.
-fn write_row<S: Sink>(line: &mut Vec<u8>, out: &mut S, links: &Links<Alpha, 2>, dart: Dart) -> Result<(), PutFault>
+fn write_row<S: Sink>(
+    line: &mut Vec<u8>,
+    out: &mut S,
+    links: &Links<Alpha, 2>,
+    dart: Dart,
+) -> Result<(), PutFault>
     ensures written { Writes (S.written out.old) (S.written out.new) result
         (flat_map row_text (live_rows_from dart (row_at links.now dart ∷ []))) }
     ensures cause { HasCause (S.faults out.old) (S.faults out.new) (IsErrOf result PutFault.Failed) }

@@ -114,5 +114,9 @@ fn is_digits(word: &[u8]) -> bool
 fn is_length_of_numeral(first: u8, others: usize) -> bool
     ensures { result ≡ (if first == 48 then others == 0 else nat_le others 18) }
 {
-    if first == b'0' { others == 0 } else { others <= 18 }
+    if first == b'0' {
+        others == 0
+    } else {
+        others <= 18
+    }
 }

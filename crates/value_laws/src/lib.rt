@@ -37,8 +37,10 @@ ghost use Rattle.map_defs.specs.Carry.{IsCarried, AreCarried, AreCarriedByLabel,
 /// For whoever looks for the cells that a change of links may have changed: it is enough to look at the cells of the
 /// darts that were born, that are changed, and in a combinatorial map that one old or new link joins to a changed dart.
 pub fn touched_darts_touch()
-    ensures { (k : Kind) (i : ℕ) (old new : Rows) (touched : List ℕ) → Laws k (links_of old) → Laws k (links_of new)
-        → ((x : ℕ) → IsTouched k (links_of old) (IsLive old) (links_of new) (IsLive new) x → Contains touched x)
+    ensures { (k : Kind) (i : ℕ) (old new : Rows) (touched : List ℕ) → Laws k (links_of old)
+        → Laws k (links_of new)
+        → ((x : ℕ) → IsTouched k (links_of old) (IsLive old) (links_of new) (IsLive new) x
+        → Contains touched x)
         → Touches k i (links_of old) (IsLive old) (links_of new) (IsLive new) (Contains touched) }
 {}
 
@@ -47,8 +49,10 @@ pub fn touched_darts_touch()
 ///
 /// For whoever carries values by labels and looks at the cells of some darts alone.
 pub fn touching_darts_cover()
-    ensures { (k : Kind) (i : ℕ) (old new : Rows) (label : ℕ → Option ℕ) (touched : List ℕ) → Laws k (links_of old)
-        → ((x : ℕ) → IsLive new x → (IsLive old x → ⊥) → label x ≡ None) → IsLabelled k i (links_of old) (IsLive old) label
+    ensures { (k : Kind) (i : ℕ) (old new : Rows) (label : ℕ → Option ℕ) (touched : List ℕ)
+        → Laws k (links_of old)
+        → ((x : ℕ) → IsLive new x → (IsLive old x → ⊥) → label x ≡ None)
+        → IsLabelled k i (links_of old) (IsLive old) label
         → Touches k i (links_of old) (IsLive old) (links_of new) (IsLive new) (Contains touched)
         → Covers k i (links_of new) (IsLive new) label (Contains touched) }
 {}
@@ -57,10 +61,14 @@ pub fn touching_darts_cover()
 ///
 /// For whoever keeps one value for a cell, and for whoever compares two ways to carry the values of a map.
 pub fn new_cells_have_one_value()
-    ensures on_cells { (k : Kind) (i : ℕ) (rule : Meaning) (old new : Rows) (values after : ℕ → Option Value) → Laws k (links_of old) → Laws k (links_of new)
-        → AreCarried k i rule (links_of old) (IsLive old) values (links_of new) (IsLive new) after → AreEqualOnCells k i (links_of new) (IsLive new) after }
-    ensures one { (k : Kind) (i : ℕ) (rule : Meaning) (old new : Rows) (values after other : ℕ → Option Value) → Laws k (links_of old) → Laws k (links_of new)
-        → AreCarried k i rule (links_of old) (IsLive old) values (links_of new) (IsLive new) after → AreCarried k i rule (links_of old) (IsLive old) values (links_of new) (IsLive new) other
+    ensures on_cells { (k : Kind) (i : ℕ) (rule : Meaning) (old new : Rows)
+        (values after : ℕ → Option Value) → Laws k (links_of old) → Laws k (links_of new)
+        → AreCarried k i rule (links_of old) (IsLive old) values (links_of new) (IsLive new) after
+        → AreEqualOnCells k i (links_of new) (IsLive new) after }
+    ensures one { (k : Kind) (i : ℕ) (rule : Meaning) (old new : Rows)
+        (values after other : ℕ → Option Value) → Laws k (links_of old) → Laws k (links_of new)
+        → AreCarried k i rule (links_of old) (IsLive old) values (links_of new) (IsLive new) after
+        → AreCarried k i rule (links_of old) (IsLive old) values (links_of new) (IsLive new) other
         → (d : ℕ) → IsLive new d → after d ≡ other d }
 {}
 
@@ -69,11 +77,17 @@ pub fn new_cells_have_one_value()
 ///
 /// For whoever leaves the cells alone in which no dart is touched.
 pub fn old_cells_keep_their_values()
-    ensures kept { (k : Kind) (i : ℕ) (rule : Meaning) (old new : Rows) (values : ℕ → Option Value) → Laws k (links_of old) → Laws k (links_of new) → KeepsWhole rule → AreEqualOnCells k i (links_of old) (IsLive old) values
+    ensures kept { (k : Kind) (i : ℕ) (rule : Meaning) (old new : Rows) (values : ℕ → Option Value)
+        → Laws k (links_of old) → Laws k (links_of new) → KeepsWhole rule
+        → AreEqualOnCells k i (links_of old) (IsLive old) values
         → (d : ℕ) → IsLive new d → IsOldCell k i (links_of old) (IsLive old) (links_of new) d
-        → (r : Option Value) → IsCarried rule (λ x. known (values x)) (λ x. IsLive old x × IsLive new x) (IsValuedWith k i (links_of old) values) (InCell k (links_of new) i) d r → r ≡ values d }
-    ensures given { (k : Kind) (i : ℕ) (rule : Meaning) (old new : Rows) (values : ℕ → Option Value) → Laws k (links_of old) → Laws k (links_of new) → KeepsWhole rule → AreEqualOnCells k i (links_of old) (IsLive old) values
-        → (d : ℕ) → IsLive new d → IsOldCell k i (links_of old) (IsLive old) (links_of new) d → IsTold (InCell k (links_of new) i d) ⊎ (values d ≡ None)
+        → (r : Option Value)
+        → IsCarried rule (λ x. known (values x)) (λ x. IsLive old x × IsLive new x) (IsValuedWith k i (links_of old) values) (InCell k (links_of new) i) d r → r ≡ values d }
+    ensures given { (k : Kind) (i : ℕ) (rule : Meaning) (old new : Rows) (values : ℕ → Option Value)
+        → Laws k (links_of old) → Laws k (links_of new) → KeepsWhole rule
+        → AreEqualOnCells k i (links_of old) (IsLive old) values
+        → (d : ℕ) → IsLive new d → IsOldCell k i (links_of old) (IsLive old) (links_of new) d
+        → IsTold (InCell k (links_of new) i d) ⊎ (values d ≡ None)
         → IsCarried rule (λ x. known (values x)) (λ x. IsLive old x × IsLive new x) (IsValuedWith k i (links_of old) values) (InCell k (links_of new) i) d (values d) }
 {}
 
@@ -82,11 +96,17 @@ pub fn old_cells_keep_their_values()
 ///
 /// For whoever gives a label freely, and for whoever reads the values that labels carry as those of the map.
 pub fn names_of_cells_do_not_matter()
-    ensures labels { (k : Kind) (i : ℕ) (rule : Meaning) (old new : Rows) (label other : ℕ → Option ℕ) (value worth : ℕ → Value) (after : ℕ → Option Value)
-        → ((x y : ℕ) → IsLive old x → IsLive old y → IsAlike label x y ↔ IsAlike other x y) → ((x : ℕ) → IsLive old x → IsAlike label x x → value x ≡ worth x)
-        → AreCarriedByLabel k i rule (IsLive old) label value (links_of new) (IsLive new) after → AreCarriedByLabel k i rule (IsLive old) other worth (links_of new) (IsLive new) after }
-    ensures cells { (k : Kind) (i : ℕ) (rule : Meaning) (old new : Rows) (values : ℕ → Option Value) (label : ℕ → Option ℕ) (value : ℕ → Value) (after : ℕ → Option Value)
-        → ((x y : ℕ) → IsLive old x → IsLive old y → IsAlike label x y ↔ IsValuedWith k i (links_of old) values x y) → ((x : ℕ) → IsLive old x → IsAlike label x x → value x ≡ known (values x))
+    ensures labels { (k : Kind) (i : ℕ) (rule : Meaning) (old new : Rows) (label other : ℕ → Option ℕ)
+        (value worth : ℕ → Value) (after : ℕ → Option Value)
+        → ((x y : ℕ) → IsLive old x → IsLive old y → IsAlike label x y ↔ IsAlike other x y) → ((x : ℕ)
+        → IsLive old x → IsAlike label x x → value x ≡ worth x)
+        → AreCarriedByLabel k i rule (IsLive old) label value (links_of new) (IsLive new) after
+        → AreCarriedByLabel k i rule (IsLive old) other worth (links_of new) (IsLive new) after }
+    ensures cells { (k : Kind) (i : ℕ) (rule : Meaning) (old new : Rows) (values : ℕ → Option Value)
+        (label : ℕ → Option ℕ) (value : ℕ → Value) (after : ℕ → Option Value)
+        → ((x y : ℕ) → IsLive old x → IsLive old y
+        → IsAlike label x y ↔ IsValuedWith k i (links_of old) values x y) → ((x : ℕ) → IsLive old x
+        → IsAlike label x x → value x ≡ known (values x))
         → AreCarriedByLabel k i rule (IsLive old) label value (links_of new) (IsLive new) after ↔ AreCarried k i rule (links_of old) (IsLive old) values (links_of new) (IsLive new) after }
 {}
 
@@ -102,7 +122,8 @@ pub fn rules_leave_whole_what_is_not_split()
 ///
 /// For whoever relies on totals: dealing out neither makes nor loses anything, for numbers below 0 too.
 pub fn dealt_numbers_add_up()
-    ensures quotient { (k : ℕ) (v : ℤ) → 0 < k → v ≡ int_div_euclid v (pos k) *ℤ pos k +ℤ int_rem_euclid v (pos k) }
+    ensures quotient { (k : ℕ) (v : ℤ) → 0 < k
+        → v ≡ int_div_euclid v (pos k) *ℤ pos k +ℤ int_rem_euclid v (pos k) }
     ensures rest { (k : ℕ) (v : ℤ) → 0 < k → (r : ℕ) × (r < k) × (int_rem_euclid v (pos k) ≡ pos r) }
     ensures parts { (k : ℕ) (v : ℤ) → 0 < k → total k (λ p. dealt k p v) ≡ v }
 {}

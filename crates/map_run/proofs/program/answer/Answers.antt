@@ -1,7 +1,7 @@
-use Rattle.std.proofs.Common.{◌≡◌, ℕ, ◌⊎◌, List, map, string_bytes, refl, inl, inr, lit≤}
+use Rattle.std.proofs.Common.{map, string_bytes, refl, inl, inr, lit≤}
 use Rattle.map_defs.specs.Kind.{alpha}
-use Rattle.map_defs.specs.Outside.{Rose, Files}
-use Rattle.map_defs.specs.Program.{RunScript, Tells, Known, IsNoCommand, untold, usage}
+use Rattle.map_defs.specs.Outside.{Rose}
+use Rattle.map_defs.specs.Program.{RunScript, untold, usage}
 use Rattle.map_run.proofs.EndingFacts.{Ends-last}
 use Rattle.map_run.proofs.program.answer.Goals as goal
 
@@ -10,10 +10,11 @@ run_script-requires g c = c.requires c.in-Some.script.now (RunScript alpha 2 c.i
 
 pub returns-in-Some-clause-outcome : goal.returns-in-Some-clause-outcome
 returns-in-Some-clause-outcome g c = λ files known. elim known [
-    inl holds ↦ c.run_script.ensures.outcome (map string_bytes c.args.words.now) files c.in-Some.ensures.told holds
-  | inr needless ↦ absurd (needless c.in-Some.script.now (RunScript alpha 2 c.in-Some.script.now, c.in-Some.ensures.told, refl)) ]
+  | inl holds ↦ c.run_script.ensures.outcome (map string_bytes c.args.words.now) files c.in-Some.ensures.told holds
+  | inr needless ↦ absurd (needless c.in-Some.script.now (RunScript alpha 2 c.in-Some.script.now, c.in-Some.ensures.told, refl))
+]
 
 pub returns-in-None-clause-outcome : goal.returns-in-None-clause-outcome
 returns-in-None-clause-outcome g c = λ files known.
     Ends-last (g.S.Sink.written c.args.out.now) (g.S.Sink.written c.write_last.new.out) (map string_bytes c.args.words.now) files (Rose (g.F.Shelf.faults c.args.shelf.now) (g.F.Shelf.faults c.args.shelf.now)) (Rose (g.S.Sink.faults c.args.out.now) (g.S.Sink.faults c.write_last.new.out))
-        usage 2 c.write_last.result (untold (c.in-None.ensures.none.0 refl) refl refl) (lit≤ tt) c.write_last.ensures.written
+    usage 2 c.write_last.result (untold (c.in-None.ensures.none.0 refl) refl refl) (lit≤ tt) c.write_last.ensures.written

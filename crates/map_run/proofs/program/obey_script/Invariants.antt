@@ -1,4 +1,4 @@
-use Rattle.std.proofs.Common.{◌≡◌, ℕ, ◌≤◌, List, ◌++◌, Option}
+use Rattle.std.proofs.Common.{◌≡◌, ℕ, ◌≤◌, List, ◌++◌}
 use Rattle.map_defs.specs.Kind.{alpha}
 use Rattle.map_defs.specs.State.{empty_state}
 use Rattle.map_defs.specs.Script.{lines_of}
@@ -11,7 +11,7 @@ use Rattle.map_run.proofs.program.obey_script.Given as goal
 abbrev pub invariant-loop-rest : goal.invariant-loop-rest
 invariant-loop-rest g l =
     ((done : List (List ℕ)) × (lines_of l.fn.script ≡ done ++ lines_after l.rest)
-        × IsGoing (empty_state alpha 2) (state_of l.links) done l.refused (g.S.Sink.written l.fn.out) (g.S.Sink.written l.out))
+    × IsGoing (empty_state alpha 2) (state_of l.links) done l.refused (g.S.Sink.written l.fn.out) (g.S.Sink.written l.out))
     × (g.S.Sink.faults l.fn.out ≤ g.S.Sink.faults l.out)
 
 abbrev pub decreases-loop-rest : goal.decreases-loop-rest

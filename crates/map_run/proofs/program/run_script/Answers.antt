@@ -1,11 +1,7 @@
-use Rattle.std.proofs.Common.{◌≡◌, ℕ, ◌<◌, ◌≤◌, List, length, Option, Some, Ok, Err, refl, sym, ap, ◌∙◌, inl, inr, lit≤, Result, Bool}
-use Rattle.map_io.specs.declared.sink.PutFault.TheVariants.{Failed}
-use Rattle.map_io.specs.Fetched.{IsFetched}
+use Rattle.std.proofs.Common.{refl, inl, lit≤}
 use Rattle.map_defs.specs.Kind.{alpha}
-use Rattle.map_defs.specs.Outside.{Rose, Files, held}
-use Rattle.map_defs.specs.State.{empty_state}
-use Rattle.map_defs.specs.Program.{RunScript, Tells, file_limit, too_long, told}
-use Rattle.map_run.specs.Going.{ObeysScript}
+use Rattle.map_defs.specs.Outside.{Rose}
+use Rattle.map_defs.specs.Program.{RunScript, too_long, told}
 use Rattle.map_run.proofs.EndingFacts.{Ends-last, Ends-nothing, Ends-script}
 use Rattle.map_run.proofs.program.run_script.Goals as goal
 
@@ -15,14 +11,14 @@ returns-in-Ok-clause-outcome g c = λ words files tells holds.
     let script = rw c.as_slice.ensures.value at c.obey_script.ensures.obeyed in
     rw c.script_status.ensures
     (Ends-script (g.S.Sink.written c.args.out.now) (g.S.Sink.written c.obey_script.new.out) words files (Rose (g.F.Shelf.faults c.args.shelf.now) (g.F.Shelf.faults c.fetch.new.self)) (Rose (g.S.Sink.faults c.args.out.now) (g.S.Sink.faults c.obey_script.new.out))
-        c.args.script.now c.in-Ok.bytes.items c.obey_script.result tells fetched.1 fetched.0 c.obey_script.ensures.cause.rose script)
+    c.args.script.now c.in-Ok.bytes.items c.obey_script.result tells fetched.1 fetched.0 c.obey_script.ensures.cause.rose script)
 
 pub returns-in-Err-TooLong-clause-outcome : goal.returns-in-Err-TooLong-clause-outcome
 returns-in-Err-TooLong-clause-outcome g c = λ words files tells holds.
     let seen = rw (c.in-Err-TooLong.field-0-is, holds) at c.in-Err-TooLong.ensures.bytes in
     let is = seen.1.1 in
     Ends-last (g.S.Sink.written c.args.out.now) (g.S.Sink.written c.write_last-in-Err-TooLong.new.out) words files (Rose (g.F.Shelf.faults c.args.shelf.now) (g.F.Shelf.faults c.fetch.new.self)) (Rose (g.S.Sink.faults c.args.out.now) (g.S.Sink.faults c.write_last-in-Err-TooLong.new.out))
-        too_long 4 c.write_last-in-Err-TooLong.result (told (RunScript alpha 2 c.args.script.now) tells (rw is (inl (seen.1.2, refl, refl)))) (lit≤ tt) c.write_last-in-Err-TooLong.ensures.written
+    too_long 4 c.write_last-in-Err-TooLong.result (told (RunScript alpha 2 c.args.script.now) tells (rw is (inl (seen.1.2, refl, refl)))) (lit≤ tt) c.write_last-in-Err-TooLong.ensures.written
 
 pub returns-in-Err-NoMemory-clause-outcome : goal.returns-in-Err-NoMemory-clause-outcome
 returns-in-Err-NoMemory-clause-outcome g c = λ words files tells holds.

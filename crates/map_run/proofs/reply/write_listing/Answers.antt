@@ -1,13 +1,13 @@
-use Rattle.std.proofs.Common.{◌≡◌, ℕ, List, [], ◌++◌, Option, Result, Ok, Err, codes, sym, ap, ◌∙◌, subst, append_assoc, inr, refl, ◌∷◌, length}
+use Rattle.std.proofs.Common.{◌≡◌, [], ◌++◌, Err, codes, sym, subst, append_assoc, inr, refl, ◌∷◌, length}
 use Rattle.std.proofs.lemmas.Result.{err_from_is_err_and}
 use Rattle.map_defs.specs.Rows.{Rows}
 use Rattle.map_defs.specs.Text.{header_text, listing_text, ended, letter, spaced}
 use Rattle.map_defs.specs.Listing.{Listing, listing_with}
 use Rattle.map_defs.specs.Program.{EndsLine}
 use Rattle.map_run.specs.Bare.{state_of}
-use Rattle.map_run.specs.Writing.{Writes, HasWritten}
+use Rattle.map_run.specs.Writing.{Writes}
 use Rattle.map_run.proofs.RowTexts.{rows_text, rows_end}
-use Rattle.map_run.proofs.WritingFacts.{Writes-then, Writes-cut, Writes-put, HasWritten-from, HasWritten-then}
+use Rattle.map_run.proofs.WritingFacts.{Writes-then, Writes-cut, Writes-put, HasWritten-from}
 use Rattle.map_run.proofs.reply.write_listing.Goals as goal
 
 abbrev listing : Rows → Listing
@@ -40,8 +40,8 @@ returns-in_err-write_rows-clause-written g c =
     rw (p.1, p.2)
     (subst (Writes (g.S.Sink.written c.args.out.now) (g.S.Sink.written c.write_rows.new.out) (Err c.in_err-write_rows.field-0.0)) (sym (parts rows))
     (Writes-then (g.S.Sink.written c.args.out.now) (g.S.Sink.written c.write_header.new.out) (g.S.Sink.written c.write_rows.new.out) (Err c.in_err-write_rows.field-0.0) (header_text (listing rows)) (rows_text rows ++ ended (codes "end"))
-        (HasWritten-from (g.S.Sink.written c.args.out.now) (g.S.Sink.written c.write_header.new.out) c.in_ok-write_header.field-0 (header_text (listing rows)) head (header_ends rows))
-        (Writes-cut (g.S.Sink.written c.write_header.new.out) (g.S.Sink.written c.write_rows.new.out) c.in_err-write_rows.field-0.0 (rows_text rows) (ended (codes "end")) here)))
+    (HasWritten-from (g.S.Sink.written c.args.out.now) (g.S.Sink.written c.write_header.new.out) c.in_ok-write_header.field-0 (header_text (listing rows)) head (header_ends rows))
+    (Writes-cut (g.S.Sink.written c.write_header.new.out) (g.S.Sink.written c.write_rows.new.out) c.in_err-write_rows.field-0.0 (rows_text rows) (ended (codes "end")) here)))
 
 pub returns-clause-written : goal.returns-clause-written
 returns-clause-written g c =
@@ -50,7 +50,7 @@ returns-clause-written g c =
     let body = rw c.in_ok-write_rows.was at c.write_rows.ensures.written in
     subst (Writes (g.S.Sink.written c.args.out.now) (g.S.Sink.written c.put.new.self) c.put.result) (sym (parts rows))
     (Writes-then (g.S.Sink.written c.args.out.now) (g.S.Sink.written c.write_header.new.out) (g.S.Sink.written c.put.new.self) c.put.result (header_text (listing rows)) (rows_text rows ++ ended (codes "end"))
-        (HasWritten-from (g.S.Sink.written c.args.out.now) (g.S.Sink.written c.write_header.new.out) c.in_ok-write_header.field-0 (header_text (listing rows)) head (header_ends rows))
+    (HasWritten-from (g.S.Sink.written c.args.out.now) (g.S.Sink.written c.write_header.new.out) c.in_ok-write_header.field-0 (header_text (listing rows)) head (header_ends rows))
     (Writes-then (g.S.Sink.written c.write_header.new.out) (g.S.Sink.written c.write_rows.new.out) (g.S.Sink.written c.put.new.self) c.put.result (rows_text rows) (ended (codes "end"))
-        (HasWritten-from (g.S.Sink.written c.write_header.new.out) (g.S.Sink.written c.write_rows.new.out) c.in_ok-write_rows.field-0 (rows_text rows) body (rows_end 0 rows))
-        (Writes-put (g.S.Sink.written c.write_rows.new.out) (g.S.Sink.written c.put.new.self) c.put.result (ended (codes "end")) c.put.ensures.appended)))
+    (HasWritten-from (g.S.Sink.written c.write_header.new.out) (g.S.Sink.written c.write_rows.new.out) c.in_ok-write_rows.field-0 (rows_text rows) body (rows_end 0 rows))
+    (Writes-put (g.S.Sink.written c.write_rows.new.out) (g.S.Sink.written c.put.new.self) c.put.result (ended (codes "end")) c.put.ensures.appended)))

@@ -1,4 +1,4 @@
-use Rattle.std.proofs.Common.{◌≡◌, ℕ, ◌+◌, ◌≤◌, take}
+use Rattle.std.proofs.Common.{◌+◌, ◌≤◌, take}
 use Rattle.std.specs.List.{flat_map}
 use Rattle.map_defs.specs.Text.{row_text}
 use Rattle.map_defs.specs.Listing.{live_rows_from}

@@ -1,8 +1,5 @@
-use Rattle.std.proofs.Common.{◌≡◌, ℕ, ◌+◌, ◌-◌, ◌*◌, ◌^◌, ◌<◌, ◌≤◌, length, take, get_or, sym, ap, ◌∙◌, arith, Fits, w64, refl}
+use Rattle.std.proofs.Common.{◌^◌, ◌≤◌, sym, arith}
 use Rattle.std.proofs.Math.Nat.{pow-le-pow_right}
-use Rattle.std.proofs.lemmas.List.{take_more}
-use Rattle.std.proofs.lemmas.List.Sums.{fold_more}
-use Rattle.map_defs.specs.Script.{value_of}
 use Rattle.map_run.proofs.Digits.{digit_at, numeral_digits}
 use Rattle.map_run.proofs.script.read_numeral.Goals as goal
 

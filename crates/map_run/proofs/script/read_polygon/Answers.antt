@@ -1,6 +1,6 @@
-use Rattle.std.proofs.Common.{◌≡◌, ℕ, ◌≤◌, List, [], ◌∷◌, length, map, Option, None, sym, arith}
+use Rattle.std.proofs.Common.{◌≡◌, ℕ, ◌≤◌, List, [], ◌∷◌, length, map, None, sym, arith}
 use Rattle.std.specs.Borrow.{Bor}
-use Rattle.map_defs.specs.Script.{Line, polygon_line, numerals}
+use Rattle.map_defs.specs.Script.{polygon_line, numerals}
 use Rattle.map_run.specs.Lines.{now_of}
 use Rattle.map_run.proofs.PolygonWords.{polygon_line-many}
 use Rattle.map_run.proofs.script.read_polygon.Goals as goal

@@ -1,4 +1,4 @@
-use Rattle.std.proofs.Common.{◌≡◌, ℕ, List, ◌∷◌, [], ◌++◌, codes, length, sym, ap, ◌∙◌}
+use Rattle.std.proofs.Common.{◌∷◌, [], codes, length}
 use Rattle.map_defs.specs.Rows.{made}
 use Rattle.map_defs.specs.Listing.{live_rows_from}
 use Rattle.map_defs.specs.Text.{spaced}

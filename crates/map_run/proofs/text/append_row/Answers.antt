@@ -1,11 +1,11 @@
-use Rattle.std.proofs.Common.{◌≡◌, ℕ, ◌+◌, ◌∷◌, ◌++◌, [], List, Option, Some, map, length, get_or, refl, sym, ap, ◌∙◌, append_assoc, arith}
+use Rattle.std.proofs.Common.{◌≡◌, ℕ, ◌+◌, ◌∷◌, ◌++◌, [], List, Option, map, get_or, refl, sym, ap, ◌∙◌, arith}
 use Rattle.std.specs.Fmt.{decimal}
 use Rattle.std.specs.List.{flat_map, range_with_len}
 use Rattle.std.proofs.lemmas.Grind.{flat_map-append}
 use Rattle.std.proofs.lemmas.List.{append-nil}
 use Rattle.std.proofs.lemmas.List.FromFn.{map-range_with_len_more}
-use Rattle.map_defs.specs.Rows.{links_of, row_at, entry_of}
-use Rattle.map_defs.specs.Text.{spaced, row_text}
+use Rattle.map_defs.specs.Rows.{links_of, entry_of}
+use Rattle.map_defs.specs.Text.{spaced}
 use Rattle.map_run.proofs.ListingRows.{three}
 use Rattle.map_run.proofs.Pieces.{labelled, longer}
 use Rattle.map_run.proofs.text.append_row.Goals as goal
@@ -27,7 +27,7 @@ pub returns : goal.returns
 returns c = λ row is wide.
     let at : (i : ℕ) → get_or row i 0 ≡ links_of c.args.links.now i c.args.dart = λ i. ap (λ (o : Option (List ℕ)). entry_of o i) (sym is) in
     let same : row ≡ map (λ (i : ℕ). links_of c.args.links.now i c.args.dart) (range_with_len 0 3) =
-        three row wide ∙ rw (at 0, at 1, at 2) refl in
+    three row wide ∙ rw (at 0, at 1, at 2) refl in
     let end : c.loop-link.link ≡ 3 = omega arith in
     let all = rw end at c.loop-link.invariant in
     rw (same, c.in_ok-push-2.ensures.items, all)
