@@ -1,5 +1,5 @@
 -- A set of darts beside the list of the same darts in the order in which they were found.
-use Rattle.std.proofs.Common.{◌≡◌, ◌≢◌, ℕ, ◌↔◌, ◌⊎◌, List, [], ◌∷◌, ◌++◌, Bool, true, false, not, cond, eqb, nat_eq, Contains, IsTrue, refl, sym, ap, ◌∙◌, subst, inl, inr, arith, IsPermutation, nat_cmp}
+use Rattle.std.proofs.Common.{◌≡◌, ◌≢◌, ℕ, ◌↔◌, ◌⊎◌, List, [], ◌∷◌, ◌++◌, Bool, true, false, not, cond, nat_eq, Contains, IsTrue, refl, sym, ◌∙◌, subst, inl, inr, arith, IsPermutation, nat_cmp}
 use Rattle.std.proofs.lemmas.Bool.{cases_eq, false≢true}
 use Rattle.std.proofs.lemmas.Bool.Decides.{nat_tests}
 use Rattle.std.proofs.lemmas.Cmp.{nat_cmp_total}

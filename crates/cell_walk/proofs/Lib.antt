@@ -1,2 +1,3 @@
+mod CellDarts
 mod FoundDarts
 mod Walks

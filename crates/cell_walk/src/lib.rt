@@ -2,6 +2,8 @@
 #![tactic(auto)]
 
 mod found;
+mod one_cell;
 mod orbits;
 
+pub use one_cell::{cell, least, same};
 pub use orbits::orbit;

@@ -14,7 +14,12 @@ use std::alloc::{AllocError, Global};
 /// the orbit. It costs the size of the orbit, for each word, times a logarithm.
 ///
 /// The words' links are links of the map. Where the words are closed under inverses, this is the textbook's orbit.
-pub fn orbit<K: Kind, const DIM: usize>(alloc: Global, links: &Links<K, DIM>, words: &[Word], dart: Dart) -> Result<Vec<Dart>, AllocError>
+pub fn orbit<K: Kind, const DIM: usize>(
+    alloc: Global,
+    links: &Links<K, DIM>,
+    words: &[Word],
+    dart: Dart,
+) -> Result<Vec<Dart>, AllocError>
     requires { All (IsWithin DIM) words.now }
     ensures members { IfOk result (λ orbit. (y : ℕ)
         → Contains orbit.items y ↔ InOrbit (Leads (links_of links.now) (Contains words.now)) dart y) }
@@ -31,7 +36,12 @@ pub fn orbit<K: Kind, const DIM: usize>(alloc: Global, links: &Links<K, DIM>, wo
 }
 
 /// Finds the darts to which the words lead from a dart.
-fn visit<K: Kind, const DIM: usize>(links: &Links<K, DIM>, words: &[Word], dart: Dart, found: &mut Found) -> Result<(), AllocError>
+fn visit<K: Kind, const DIM: usize>(
+    links: &Links<K, DIM>,
+    words: &[Word],
+    dart: Dart,
+    found: &mut Found,
+) -> Result<(), AllocError>
     requires { All (IsWithin DIM) words.now }
     ensures { OnOk result (IsVisited (links_of links.now) (Contains words.now) dart found.old found.new) }
 {
@@ -42,7 +52,12 @@ fn visit<K: Kind, const DIM: usize>(links: &Links<K, DIM>, words: &[Word], dart:
 }
 
 /// Finds the dart to which a word leads, if it leads to one.
-fn step<K: Kind, const DIM: usize>(links: &Links<K, DIM>, word: Word, dart: Dart, found: &mut Found) -> Result<(), AllocError>
+fn step<K: Kind, const DIM: usize>(
+    links: &Links<K, DIM>,
+    word: Word,
+    dart: Dart,
+    found: &mut Found,
+) -> Result<(), AllocError>
     requires { IsWithin DIM word }
     ensures { OnOk result (IsVisited (links_of links.now) (λ w. w ≡ word) dart found.old found.new) }
 {

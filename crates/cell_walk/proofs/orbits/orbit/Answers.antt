@@ -1,6 +1,5 @@
-use Rattle.std.proofs.Common.{◌≡◌, ℕ, [], length, Contains, sym, ap, ◌∙◌, subst, arith}
+use Rattle.std.proofs.Common.{Contains, arith}
 use Rattle.map_defs.specs.Rows.{links_of}
-use Rattle.cell_walk.specs.Visits.{IsAdded}
 use Rattle.cell_walk.proofs.Walks.{walked-none, walked-more, walked-all}
 use Rattle.cell_walk.proofs.orbits.orbit.Goals as goal
 

@@ -1,5 +1,4 @@
-use Rattle.std.proofs.Common.{ℕ, List, [], ◌∷◌, ◌++◌, Bool, true, false, not, ap, subst, sym, ◌∙◌, inl, inr}
-use Rattle.cell_walk.specs.Visits.{IsAdded, ListsOnce}
+use Rattle.std.proofs.Common.{ℕ, List, [], ◌∷◌, ◌++◌, ap, sym, ◌∙◌, inl, inr}
 use Rattle.cell_walk.proofs.FoundDarts.{listed-known, listed-unknown, listed-more, not-true, not-false}
 use Rattle.cell_walk.proofs.found.Found.add.Goals as goal
 
@@ -22,10 +21,14 @@ invariant_of-self-else-branch c =
 
 pub returns-then-branch : goal.returns-then-branch
 returns-then-branch c =
-    inr (listed-unknown c.self.inside.seen c.args.self.now c.args.dart (not-true _ (sym c.in_ok-insert.ensures.added ∙ c.if-branch.true)) (rw c.self.view_is at c.self.invariant),
-    c.push_reserved.ensures.items ∙ ap (λ (xs : List ℕ). xs ++ c.args.dart ∷ []) (c.reserve.ensures.items ∙ c.self.view_is))
+    inr (
+      listed-unknown c.self.inside.seen c.args.self.now c.args.dart (not-true _ (sym c.in_ok-insert.ensures.added ∙ c.if-branch.true)) (rw c.self.view_is at c.self.invariant),
+      c.push_reserved.ensures.items ∙ ap (λ (xs : List ℕ). xs ++ c.args.dart ∷ []) (c.reserve.ensures.items ∙ c.self.view_is),
+    )
 
 pub returns-else-branch : goal.returns-else-branch
 returns-else-branch c =
-    inl (listed-known c.self.inside.seen c.args.self.now c.args.dart (not-false _ (sym c.in_ok-insert.ensures.added ∙ c.if-branch.false)) (rw c.self.view_is at c.self.invariant),
-    c.reserve.ensures.items ∙ c.self.view_is)
+    inl (
+      listed-known c.self.inside.seen c.args.self.now c.args.dart (not-false _ (sym c.in_ok-insert.ensures.added ∙ c.if-branch.false)) (rw c.self.view_is at c.self.invariant),
+      c.reserve.ensures.items ∙ c.self.view_is,
+    )
