@@ -22,14 +22,14 @@ listed-none keys darts none empty = record {
   same = λ d. (λ has. absurd (omega (arith, (subst (λ xs. Contains xs d) none has).1)), λ has. absurd (omega (arith, (subst (λ xs. Contains xs d) empty has).1)));
 }
 
-has : (s : BTreeSet ℕ) (d : ℕ) → IsTrue (contains nat_cmp s d) ↔ Contains s.keys d
-has s d = btree_set_contains_iff nat_cmp_total exact_unsigned s d
+pub seen-has : (s : BTreeSet ℕ) (d : ℕ) → IsTrue (contains nat_cmp s d) ↔ Contains s.keys d
+seen-has s d = btree_set_contains_iff nat_cmp_total exact_unsigned s d
 
 pub listed-known : (s : BTreeSet ℕ) (darts : List ℕ) (d : ℕ) → contains nat_cmp s d ≡ true → ListsOnce s.keys darts → Contains darts d
-listed-known s darts d known lists = (lists.same d).0 ((has s d).0 known)
+listed-known s darts d known lists = (lists.same d).0 ((seen-has s d).0 known)
 
 pub listed-unknown : (s : BTreeSet ℕ) (darts : List ℕ) (d : ℕ) → contains nat_cmp s d ≡ false → ListsOnce s.keys darts → Contains darts d → ⊥
-listed-unknown s darts d unknown lists known = false≢true (sym unknown ∙ (has s d).1 ((lists.same d).1 known))
+listed-unknown s darts d unknown lists known = false≢true (sym unknown ∙ (seen-has s d).1 ((lists.same d).1 known))
 
 -- the dart is in neither, and is added to both
 pub listed-more : (s n : BTreeSet ℕ) (darts : List ℕ) (d : ℕ) → contains nat_cmp s d ≡ false → Updates nat_cmp s n d true → ListsOnce s.keys darts → ListsOnce n.keys (darts ++ d ∷ [])
@@ -44,19 +44,19 @@ listed-more s n darts d unknown updates lists = record {
 
     to : (e : ℕ) → Contains n.keys e → (d ≡ e) ⊎ (d ≢ e) → Contains (darts ++ d ∷ []) e
     to e key (inl here) = subst (Contains (darts ++ d ∷ [])) here (Contains-push darts d)
-    to e key (inr other) = Contains-append_left darts (d ∷ []) e ((lists.same e).0 ((has s e).0 (old (is_at (nat_cmp d) e) refl)))
+    to e key (inr other) = Contains-append_left darts (d ∷ []) e ((lists.same e).0 ((seen-has s e).0 (old (is_at (nat_cmp d) e) refl)))
       where
         old : (r : Bool) → is_at (nat_cmp d) e ≡ r → contains nat_cmp s e ≡ true
         old true is = absurd (other (tells_apart exact_unsigned d e is))
-        old false is = sym (updates.2 e is) ∙ (has n e).1 key
+        old false is = sym (updates.2 e is) ∙ (seen-has n e).1 key
 
     from : (e : ℕ) → Contains darts e ⊎ (d ≡ e) → Contains n.keys e
-    from e (inr here) = subst (Contains n.keys) here ((has n d).0 updates.1)
-    from e (inl listed) = (has n e).0 (updates.0 e ∙ new (is_at (nat_cmp d) e))
+    from e (inr here) = subst (Contains n.keys) here ((seen-has n d).0 updates.1)
+    from e (inl listed) = (seen-has n e).0 (updates.0 e ∙ new (is_at (nat_cmp d) e))
       where
         new : (r : Bool) → cond r true (contains nat_cmp s e) ≡ true
         new true = refl
-        new false = (has s e).1 ((lists.same e).1 listed)
+        new false = (seen-has s e).1 ((lists.same e).1 listed)
 
 -- the list, sorted
 pub listed-ascending : (keys darts sorted : List ℕ) → ListsOnce keys darts → IsPermutation darts sorted → IsSorted nat_cmp sorted → IsStrictlyIncreasing sorted

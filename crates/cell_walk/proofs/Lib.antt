@@ -1,3 +1,7 @@
 mod CellDarts
+mod ComponentDarts
+mod Counting
 mod FoundDarts
+mod RowSteps
+mod SurveyFacts
 mod Walks

@@ -19,3 +19,7 @@ pub record IsVisited (L : Links) (Words : Word → Type 0) (x : ℕ) (old new : 
 pub record ListsOnce (keys darts : List ℕ) : Type 0 where
   pub apart : IsDistinct nat_eq darts
   pub same : (d : ℕ) → Contains keys d ↔ Contains darts d
+
+-- each step from a dart of the list leads to a dart of the list
+abbrev pub IsClosed : (ℕ → ℕ → Type 0) → List ℕ → Type 0
+IsClosed Step darts = (x y : ℕ) → Contains darts x → Step x y → Contains darts y

@@ -1,4 +1,4 @@
-ghost use Rattle.std.specs.Prelude.{◌≡◌, ℕ, ◌<◌, ◌↔◌, [], length, slice_index, Contains, OnOk};
+ghost use Rattle.std.specs.Prelude.{◌≡◌, ℕ, ◌<◌, ◌↔◌, [], length, slice_index, Contains, IsTrue, OnOk};
 ghost use Rattle.std.specs.List.Sorted.{IsStrictlyIncreasing};
 ghost use Rattle.cell_walk.specs.Visits.{IsAdded};
 
@@ -50,6 +50,13 @@ impl Found {
         ensures { result ≡ slice_index self.now place }
     {
         self.darts[place]
+    }
+
+    /// Whether a dart was found.
+    pub(crate) fn contains(&self, dart: Dart) -> bool
+        ensures { IsTrue result ↔ Contains self.now dart }
+    {
+        self.seen.contains(&dart)
     }
 
     /// Adds a dart, unless it was found before.

@@ -4,6 +4,8 @@
 mod found;
 mod one_cell;
 mod orbits;
+mod whole_map;
 
 pub use one_cell::{cell, least, same};
 pub use orbits::orbit;
+pub use whole_map::{cells, components, counts};

@@ -1,9 +1,9 @@
-ghost use Rattle.std.specs.Prelude.{◌≡◌, ℕ, ◌+◌, ◌<◌, ◌↔◌, Contains, IfOk, OnOk, All, IsNone, IfSome};
+ghost use Rattle.std.specs.Prelude.{◌≡◌, ℕ, ◌+◌, ◌<◌, ◌↔◌, ◌⊎◌, Contains, IfOk, OnOk, All, IsNone, IfSome};
 ghost use Rattle.std.specs.List.Sorted.{IsStrictlyIncreasing};
 ghost use Rattle.map_defs.specs.Rows.{links_of};
 ghost use Rattle.map_defs.specs.Words.{Word as MapWord, through, IsWithin};
 ghost use Rattle.map_defs.specs.Cells.{InOrbit, Leads};
-ghost use Rattle.cell_walk.specs.Visits.{IsVisited};
+ghost use Rattle.cell_walk.specs.Visits.{IsVisited, IsClosed};
 
 use crate::found::Found;
 use link_rows::Links;
@@ -26,13 +26,29 @@ pub fn orbit<K: Kind, const DIM: usize>(
     ensures ascending { IfOk result (λ orbit. IsStrictlyIncreasing orbit.items) }
 {
     let mut found = Found::new(alloc);
+    walk(links, words, dart, &mut found)?;
+    Ok(found.into_ascending())
+}
+
+/// Finds the orbit of a dart, besides what was found before. Where a word leads from a dart found before, it led to one.
+pub(crate) fn walk<K: Kind, const DIM: usize>(
+    links: &Links<K, DIM>,
+    words: &[Word],
+    dart: Dart,
+    found: &mut Found,
+) -> Result<(), AllocError>
+    requires within { All (IsWithin DIM) words.now }
+    requires closed { IsClosed (Leads (links_of links.now) (Contains words.now)) found.old }
+    ensures { OnOk result ((y : ℕ)
+        → Contains found.new y ↔ (Contains found.old y ⊎ InOrbit (Leads (links_of links.now) (Contains words.now)) dart y)) }
+{
+    let mut next = found.len();
     found.add(dart)?;
-    let mut next = 0;
     while next < found.len() {
-        visit(links, words, found.at(next), &mut found)?;
+        visit(links, words, found.at(next), found)?;
         next += 1;
     }
-    Ok(found.into_ascending())
+    Ok(())
 }
 
 /// Finds the darts to which the words lead from a dart.
