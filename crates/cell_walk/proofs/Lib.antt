@@ -3,5 +3,6 @@ mod ComponentDarts
 mod Counting
 mod FoundDarts
 mod RowSteps
+mod SeenDarts
 mod SurveyFacts
 mod Walks

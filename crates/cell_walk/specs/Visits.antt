@@ -15,10 +15,10 @@ pub record IsVisited (L : Links) (Words : Word → Type 0) (x : ℕ) (old new : 
   pub only : (y : ℕ) → Contains new y → Contains old y ⊎ Leads L Words x y
   pub all : (y : ℕ) → Leads L Words x y → Contains new y
 
--- the list has each of the keys once, and nothing else
-pub record ListsOnce (keys darts : List ℕ) : Type 0 where
+-- the list has each dart once of which Has is true, and nothing else
+pub record ListsOnce (Has : ℕ → Type 0) (darts : List ℕ) : Type 0 where
   pub apart : IsDistinct nat_eq darts
-  pub same : (d : ℕ) → Contains keys d ↔ Contains darts d
+  pub same : (d : ℕ) → Has d ↔ Contains darts d
 
 -- each step from a dart of the list leads to a dart of the list
 abbrev pub IsClosed : (ℕ → ℕ → Type 0) → List ℕ → Type 0

@@ -1,40 +1,51 @@
-ghost use Rattle.std.specs.Prelude.{◌≡◌, ℕ, ◌<◌, ◌↔◌, [], length, slice_index, Contains, IsTrue, OnOk};
+ghost use Rattle.std.specs.Prelude.{◌≡◌, ℕ, ◌<◌, ◌↔◌, [], length, slice_index, Contains, IsTrue, IfOk, OnOk};
 ghost use Rattle.std.specs.List.Sorted.{IsStrictlyIncreasing};
 ghost use Rattle.cell_walk.specs.Visits.{IsAdded};
 
+use crate::seen::Seen;
 use map_kind::Dart;
 use std::alloc::{AllocError, Global};
 use std::collections::BTreeSet;
 use std::marker::Model;
 
-/// The darts that a walk has found, each once, in the order in which they were found. It costs what was found, whatever
-/// the size of the map.
+/// The darts that a walk has found, each once, in the order in which they were found.
 #[derive(Drop)]
 pub(crate) struct Found {
     darts: Vec<Dart>,
-    seen: BTreeSet<Dart>,
+    seen: Seen,
 }
 
 impl Model for Found {
     ghost use Rattle.std.specs.Prelude.{ℕ, List};
     ghost use Rattle.cell_walk.specs.Visits.{ListsOnce};
+    ghost use Rattle.cell_walk.specs.Marks.{HasSeen};
 
     ghost Value = { List ℕ };
 
     ghost view = { λ found. found.darts.items };
 
-    ghost invariant = { λ found. ListsOnce found.seen.keys found.darts.items };
+    ghost invariant = { λ found. ListsOnce (HasSeen found.seen) found.darts.items };
 }
 
 impl Found {
-    /// Nothing found yet.
+    /// Nothing found yet, for a walk that costs what it finds, whatever the size of the map.
     pub(crate) fn new(alloc: Global) -> Self
         ensures { result ≡ [] }
     {
         Found {
             darts: Vec::new(alloc),
-            seen: BTreeSet::new(alloc),
+            seen: Seen::Set(BTreeSet::new(alloc)),
         }
+    }
+
+    /// Nothing found yet, for walks over the whole map, whose darts are numbered up to `made`.
+    pub(crate) fn with_marks(alloc: Global, made: u32) -> Result<Self, AllocError>
+        ensures { IfOk result (λ found. found ≡ []) }
+    {
+        Ok(Found {
+            darts: Vec::new(alloc),
+            seen: Seen::Marks(Vec::with_capacity(alloc, made as usize + 1)?),
+        })
     }
 
     /// How many darts were found.
@@ -56,7 +67,7 @@ impl Found {
     pub(crate) fn contains(&self, dart: Dart) -> bool
         ensures { IsTrue result ↔ Contains self.now dart }
     {
-        self.seen.contains(&dart)
+        self.seen.contains(dart)
     }
 
     /// Adds a dart, unless it was found before.

@@ -4,6 +4,7 @@
 mod found;
 mod one_cell;
 mod orbits;
+mod seen;
 mod whole_map;
 
 pub use one_cell::{cell, least, same};

@@ -77,7 +77,7 @@ fn least_darts<K: Kind, const DIM: usize>(
         → Contains darts.items d ↔ (IsLive links.now d × IsLeast (Leads (links_of links.now) (Contains words.now)) d)) }
     ensures ascending { IfOk result (λ darts. IsStrictlyIncreasing darts.items) }
 {
-    let mut found = Found::new(alloc);
+    let mut found = Found::with_marks(alloc, links.made())?;
     let mut least = Vec::new(alloc);
     for number in 1..links.made() + 1 {
         take_least(
