@@ -5,6 +5,8 @@ mod found;
 mod one_cell;
 mod orbits;
 mod seen;
+#[cfg(test)]
+mod tests;
 mod whole_map;
 
 pub use one_cell::{cell, least, same};
