@@ -8,7 +8,8 @@ use Rattle.map_defs.specs.Cells.{here, Leads, InCell}
 use Rattle.map_defs.specs.Dual.{IsAlphaDual, IsBetaDual}
 use Rattle.link_laws.proofs.LawFacts.{dart_of_link}
 use Rattle.link_laws.proofs.Orbits.{orbit_map}
-use Rattle.link_laws.proofs.CellFacts.{by_link, by_two_links, beta_closed, edge_closed, word_back, inverse_word_twice, cell_back}
+use Rattle.link_laws.proofs.CellFacts.{by_link, by_two_links, beta_closed, edge_closed, word_back, cell_back}
+use Rattle.link_laws.proofs.CellTurns.{inverse_word_twice}
 use Rattle.dual_laws.proofs.DualAlpha.{low_or_high}
 use Rattle.dual_laws.proofs.DualBeta.{IsAllLinked, IsClosedMap, link_case, inverse_low, next_linked, top_twice, top_around, dual_free}
 

@@ -6,7 +6,8 @@ use Rattle.map_defs.specs.Laws.{Laws}
 use Rattle.map_defs.specs.Words.{Word, one_link, two_links, through, through_second, inverse_word, IsCellWord}
 use Rattle.link_laws.proofs.Basics.{same_or_not, inverse_twice}
 use Rattle.link_laws.proofs.LawFacts.{dart_of_link, back_to}
-use Rattle.link_laws.proofs.Orbits.{orbit_dart, orbit_back}
+use Rattle.link_laws.proofs.Orbits.{orbit_dart}
+use Rattle.link_laws.proofs.CellTurns.{word_turns, step_turns, cell_turns}
 use Rattle.map_defs.specs.Cells.{InOrbit, here, onward, Leads, InCell}
 
 -- an orbit of a dart does not hold 0
@@ -36,47 +37,14 @@ module _ (k : Kind) (L : Links) (w : Laws k L) (made : ℕ) (bound : IsMadeUpTo 
 
 -- the word that leads back leads back
 pub word_back : (k : Kind) (L : Links) → Laws k L → (v : Word) (x y : ℕ) → through L v x ≡ y → y ≢ 0 → through L (inverse_word k v) y ≡ x
-word_back k L w v x y e n = go v.first v.second e
-  where
-    go : (f : ℕ) (s : Option ℕ) → through L (record { first = f; second = s }) x ≡ y → through L (inverse_word k (record { first = f; second = s })) y ≡ x
-    go f None h = back_to k L w f x y n h
-    go f (Some j) h =
-        let a : L (inverse k j) y ≡ L f x = back_to k L w j (L f x) y n h in
-        let b : L f x ≢ 0 = dart_of_link k L w j (L f x) (λ z. n (sym h ∙ z)) in
-        ap (L (inverse k f)) a ∙ w.back f x b
-
-pub inverse_word_twice : (k : Kind) (v : Word) → inverse_word k (inverse_word k v) ≡ v
-inverse_word_twice k v = go v.first v.second
-  where
-    go : (f : ℕ) (s : Option ℕ) → inverse_word k (inverse_word k (record { first = f; second = s })) ≡ record { first = f; second = s }
-    go f None = ap one_link (inverse_twice k f)
-    go f (Some j) = ap₂ two_links (inverse_twice k f) (inverse_twice k j)
+word_back k L w v x y e n = word_turns k L w.nil w.back v x y e n
 
 -- each step along a cell can be taken back
 pub step_back : (k : Kind) (L : Links) → Laws k L → (i x y : ℕ) → x ≢ 0 → Leads L (IsCellWord k i) x y → Leads L (IsCellWord k i) y x
-step_back k L w i x y m s = go s.1
-  where
-    go : IsCellWord k i s.0 → Leads L (IsCellWord k i) y x
-    go (inl r) = (inverse_word k s.0, inr (s.0, r, refl), word_back k L w s.0 x y s.2 s.3, m)
-    go (inr r) = (r.0, inl r.1, subst (λ v. through L v y ≡ x) (ap (inverse_word k) r.2 ∙ inverse_word_twice k r.0) (word_back k L w s.0 x y s.2 s.3), m)
-
-word_nowhere : (k : Kind) (L : Links) → Laws k L → (v : Word) → through L v 0 ≡ 0
-word_nowhere k L w v = go v.first v.second
-  where
-    go : (f : ℕ) (s : Option ℕ) → through_second L s (L f 0) ≡ 0
-    go f None = w.nil f
-    go f (Some j) = ap (L j) (w.nil f) ∙ w.nil j
-
-cell_of_none : (k : Kind) (L : Links) → Laws k L → (i : ℕ) {d x : ℕ} → InOrbit (Leads L (IsCellWord k i)) d x → d ≡ 0 → x ≡ 0
-cell_of_none k L w i here e = e
-cell_of_none k L w i (onward {x = u} {y = y} o s) e = absurd (s.3 (sym s.2 ∙ (ap (through L s.0) (cell_of_none k L w i o e) ∙ word_nowhere k L w s.0)))
+step_back k L w i x y m s = step_turns k L w.nil w.back i x y m s
 
 pub cell_back : (k : Kind) (L : Links) → Laws k L → (i d x : ℕ) → InCell k L i d x → InCell k L i x d
-cell_back k L w i d x h = go (same_or_not d 0)
-  where
-    go : (d ≡ 0) ⊎ (d ≢ 0) → InCell k L i x d
-    go (inl e) = subst (λ z. InCell k L i z d) (e ∙ sym (cell_of_none k L w i h e)) here
-    go (inr m) = orbit_back (Leads L (IsCellWord k i)) (λ u v s. s.3) (λ u v n s. step_back k L w i u v n s) d x m h
+cell_back k L w i d x h = cell_turns k L w.nil w.back i d x h
 
 -- a cell is closed under its words
 pub by_link : (k : Kind) (L : Links) (i j d x : ℕ) → IsCellWord k i (one_link j) → InCell k L i d x → L j x ≢ 0 → InCell k L i d (L j x)

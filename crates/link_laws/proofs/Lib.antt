@@ -10,6 +10,7 @@ pub mod SameRows
 pub mod Orbits
 pub mod Turned
 pub mod Walking
+pub mod CellTurns
 pub mod CellFacts
 pub mod CellOf
 pub mod VertexWords

@@ -47,6 +47,16 @@ impl<K: Kind, const DIM: usize> Links<K, DIM> {
         }
     }
 
+    /// The dimension of the map.
+    pub fn dimension(&self) -> usize
+        ensures dimension { result ≡ DIM }
+        ensures high { DIM ≤ 8 }
+        ensures sound { IsSound K.kind DIM self.now.rows }
+    {
+        let _ = &self.rows;
+        DIM
+    }
+
     /// How many darts were made so far, dead ones among them: the greatest number of a dart, or 0.
     pub fn made(&self) -> u32
         ensures made { result ≡ made self.now.rows }
@@ -86,6 +96,7 @@ impl<K: Kind, const DIM: usize> Links<K, DIM> {
         requires { link ≤ DIM }
         ensures free { IsNone result ↔ (links_of self.now.rows link dart ≡ 0) }
         ensures linked { IfSome result (λ other. other ≡ links_of self.now.rows link dart) }
+        ensures sound { IsSound K.kind DIM self.now.rows }
     {
         let row = self.rows.get(dart)?;
         Dart::new(row.entry(link))

@@ -3,6 +3,7 @@ pub mod Links
 pub mod Laws
 pub mod Words
 pub mod Cells
+pub mod Counts
 pub mod Rows
 pub mod Edits
 pub mod Values

@@ -1,5 +1,5 @@
 -- Words: one link, or two links one after the other. Source: CGAL's orbits.
-use Rattle.std.specs.Prelude.{ℕ, zero, suc, ◌≡◌, ◌≢◌, ◌<◌, ◌≤◌, ◌⊎◌, Option, Some, None}
+use Rattle.std.specs.Prelude.{ℕ, zero, suc, ◌≡◌, ◌≢◌, ◌<◌, ◌≤◌, ◌⊎◌, Option, Some, None, IfSome}
 use Rattle.map_defs.specs.Kind.{Kind, alpha, beta, inverse}
 use Rattle.map_defs.specs.Links.{Links}
 
@@ -41,3 +41,7 @@ RunsAlong beta (suc (suc i)) w = (j : ℕ) × (1 ≤ j) × (j ≢ suc (suc i)) �
 -- the words of the i-cell: those, and their inverses
 abbrev pub IsCellWord : Kind → ℕ → Word → Type 0
 IsCellWord k i w = RunsAlong k i w ⊎ ((v : Word) × RunsAlong k i v × (w ≡ inverse_word k v))
+
+-- the links of the word are among the links 0 to n
+abbrev pub IsWithin : ℕ → Word → Type 0
+IsWithin n w = (w.first ≤ n) × IfSome w.second (λ second. second ≤ n)

@@ -1,8 +1,12 @@
-ghost use Rattle.std.specs.Prelude.{◌≡◌, ℕ, ◌≤◌, ◌<◌, ◌↔◌, IsTrue};
+ghost use Rattle.std.specs.Prelude.{◌≡◌, ℕ, ◌≤◌, ◌<◌, ◌↔◌, IsTrue, Contains, IfOk};
 ghost use Rattle.map_defs.specs.Kind.{Kind as MapKind, alpha, inverse, IsDistant};
 ghost use Rattle.map_defs.specs.Polygon.{per_side};
 ghost use Rattle.map_defs.specs.Text.{letter};
-ghost use Rattle.map_kind.specs.KindLaws.{inverse-inverse, IsDistant-symmetric};
+ghost use Rattle.map_defs.specs.Words.{Word as MapWord, IsCellWord, IsWithin, inverse_word};
+ghost use Rattle.map_kind.specs.KindLaws.{inverse-inverse, IsDistant-symmetric, IsCellWord-inverse};
+
+use crate::word::{Word, single_links};
+use std::alloc::{AllocError, Global};
 
 /// A kind of map: generalized, or combinatorial. What a kind means is its ghost member `kind`, so that all that is
 /// said of links is said once, for both kinds.
@@ -25,9 +29,18 @@ pub trait Kind {
     fn distant(one: usize, other: usize) -> bool
         ensures { IsTrue result ↔ IsDistant kind one other };
 
+    /// The words of the cells of dimension `cell` in a map of dimension `dim`: the words along which such a cell runs,
+    /// and their inverses, as far as their links are among the map's.
+    fn words(alloc: Global, dim: usize, cell: usize) -> Result<Vec<Word>, AllocError>
+        requires dim { dim ≤ 8 }
+        requires cell { cell ≤ dim }
+        ensures { IfOk result (λ words. (w : MapWord) → Contains words.items w ↔ (IsCellWord kind cell w × IsWithin dim w)) };
+
     ghost inverse_twice: { (i : ℕ) → inverse kind (inverse kind i) ≡ i };
 
     ghost distant_symmetric: { (i j : ℕ) → IsDistant kind i j → IsDistant kind j i };
+
+    ghost words_turn: { (i : ℕ) (w : MapWord) → IsCellWord kind i w → IsCellWord kind i (inverse_word kind w) };
 }
 
 /// The kind of generalized maps, whose links are the involutions alpha 0 to n.
@@ -40,6 +53,8 @@ impl Kind for Alpha {
     ghost inverse_twice = { inverse-inverse alpha };
 
     ghost distant_symmetric = { IsDistant-symmetric alpha };
+
+    ghost words_turn = { IsCellWord-inverse alpha };
 
     fn letter() -> u8 {
         b'g'
@@ -56,5 +71,9 @@ impl Kind for Alpha {
     #[tactic(auto, unfolding(map_defs::specs::Kind::IsDistant))]
     fn distant(one: usize, other: usize) -> bool {
         one.abs_diff(other) >= 2
+    }
+
+    fn words(alloc: Global, dim: usize, cell: usize) -> Result<Vec<Word>, AllocError> {
+        single_links(alloc, 0, dim, cell)
     }
 }

@@ -5,8 +5,10 @@ mod dart;
 mod kind;
 mod refusal;
 mod value;
+mod word;
 
 pub use dart::Dart;
 pub use kind::{Alpha, Kind};
 pub use refusal::Refusal;
 pub use value::{Place, Value};
+pub use word::Word;

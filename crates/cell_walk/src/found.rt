@@ -1,0 +1,94 @@
+ghost use Rattle.std.specs.Prelude.{◌≡◌, ℕ, ◌<◌, ◌↔◌, [], length, slice_index, Contains, IsTrue, IfOk, OnOk};
+ghost use Rattle.std.specs.List.Sorted.{IsStrictlyIncreasing};
+ghost use Rattle.cell_walk.specs.Visits.{IsAdded};
+
+use crate::seen::Seen;
+use map_kind::Dart;
+use std::alloc::{AllocError, Global};
+use std::collections::BTreeSet;
+use std::marker::Model;
+
+/// The darts that a walk has found, each once, in the order in which they were found.
+#[derive(Drop)]
+pub(crate) struct Found {
+    darts: Vec<Dart>,
+    seen: Seen,
+}
+
+impl Model for Found {
+    ghost use Rattle.std.specs.Prelude.{ℕ, List};
+    ghost use Rattle.cell_walk.specs.Visits.{ListsOnce};
+    ghost use Rattle.cell_walk.specs.Marks.{HasSeen};
+
+    ghost Value = { List ℕ };
+
+    ghost view = { λ found. found.darts.items };
+
+    ghost invariant = { λ found. ListsOnce (HasSeen found.seen) found.darts.items };
+}
+
+impl Found {
+    /// Nothing found yet, for a walk that costs what it finds, whatever the size of the map.
+    pub(crate) fn new(alloc: Global) -> Self
+        ensures { result ≡ [] }
+    {
+        Found {
+            darts: Vec::new(alloc),
+            seen: Seen::Set(BTreeSet::new(alloc)),
+        }
+    }
+
+    /// Nothing found yet, for walks over the whole map, whose darts are numbered up to `made`.
+    pub(crate) fn with_marks(alloc: Global, made: u32) -> Result<Self, AllocError>
+        ensures { IfOk result (λ found. found ≡ []) }
+    {
+        Ok(Found {
+            darts: Vec::new(alloc),
+            seen: Seen::Marks(Vec::with_capacity(alloc, made as usize + 1)?),
+        })
+    }
+
+    /// How many darts were found.
+    pub(crate) fn len(&self) -> usize
+        ensures { result ≡ length self.now }
+    {
+        self.darts.len()
+    }
+
+    /// The dart that was found after so many others.
+    pub(crate) fn at(&self, place: usize) -> Dart
+        requires { place < length self.now }
+        ensures { result ≡ slice_index self.now place }
+    {
+        self.darts[place]
+    }
+
+    /// Whether a dart was found.
+    pub(crate) fn contains(&self, dart: Dart) -> bool
+        ensures { IsTrue result ↔ Contains self.now dart }
+    {
+        self.seen.contains(dart)
+    }
+
+    /// Adds a dart, unless it was found before.
+    pub(crate) fn add(&mut self, dart: Dart) -> Result<(), AllocError>
+        ensures { OnOk result (IsAdded self.old self.new dart) }
+    {
+        self.darts.reserve(1)?;
+        if self.seen.insert(dart)? {
+            self.darts.push_reserved(dart);
+        }
+        Ok(())
+    }
+
+    /// The darts that were found, ascending.
+    pub(crate) fn into_ascending(self) -> Vec<Dart>
+        ensures members { (d : ℕ) → Contains result.items d ↔ Contains self d }
+        ensures ascending { IsStrictlyIncreasing result.items }
+    {
+        let Found { mut darts, seen } = self;
+        drop(seen);
+        darts.sort_unstable();
+        darts
+    }
+}

@@ -1,0 +1,54 @@
+ghost use Rattle.std.specs.Prelude.{◌≡◌, ℕ, ◌≤◌, ◌↔◌, Contains, IfOk, IsTrue};
+ghost use Rattle.std.specs.List.Sorted.{IsStrictlyIncreasing};
+ghost use Rattle.map_defs.specs.Rows.{links_of};
+ghost use Rattle.map_defs.specs.Cells.{InCell, NamesCell};
+
+use crate::orbits::orbit;
+use link_rows::Links;
+use map_kind::{Dart, Kind};
+use std::alloc::{AllocError, Global};
+
+/// The darts of a dart's cell of dimension `dim`, ascending. It costs the size of the cell times a logarithm.
+pub fn cell<K: Kind, const DIM: usize>(
+    alloc: Global,
+    links: &Links<K, DIM>,
+    dim: usize,
+    dart: Dart,
+) -> Result<Vec<Dart>, AllocError>
+    requires { dim ≤ DIM }
+    ensures members { IfOk result (λ cell. (y : ℕ) → Contains cell.items y ↔ InCell K.kind (links_of links.now.rows) dim dart y) }
+    ensures ascending { IfOk result (λ cell. IsStrictlyIncreasing cell.items) }
+{
+    let words = K::words(alloc, links.dimension(), dim)?;
+    orbit(alloc, links, &words, dart)
+}
+
+/// Whether two darts lie in the same cell of dimension `dim`. It costs the size of the first dart's cell times a
+/// logarithm.
+pub fn same<K: Kind, const DIM: usize>(
+    alloc: Global,
+    links: &Links<K, DIM>,
+    dim: usize,
+    one: Dart,
+    other: Dart,
+) -> Result<bool, AllocError>
+    requires { dim ≤ DIM }
+    ensures { IfOk result (λ same. IsTrue same ↔ InCell K.kind (links_of links.now.rows) dim one other) }
+{
+    Ok(cell(alloc, links, dim, one)?.contains(&other))
+}
+
+/// The least dart of a dart's cell of dimension `dim`, by which the cell is named. It costs the size of the cell times a
+/// logarithm.
+pub fn least<K: Kind, const DIM: usize>(
+    alloc: Global,
+    links: &Links<K, DIM>,
+    dim: usize,
+    dart: Dart,
+) -> Result<Dart, AllocError>
+    requires { dim ≤ DIM }
+    ensures member { IfOk result (λ least. InCell K.kind (links_of links.now.rows) dim dart least) }
+    ensures names { IfOk result (λ least. NamesCell K.kind (links_of links.now.rows) dim least) }
+{
+    Ok(cell(alloc, links, dim, dart)?[0])
+}

@@ -1,0 +1,97 @@
+ghost use Rattle.std.specs.Prelude.{◌≡◌, ℕ, ◌+◌, ◌<◌, ◌↔◌, ◌⊎◌, Contains, IfOk, OnOk, All, IsNone, IfSome};
+ghost use Rattle.std.specs.List.Sorted.{IsStrictlyIncreasing};
+ghost use Rattle.map_defs.specs.Rows.{links_of};
+ghost use Rattle.map_defs.specs.Words.{Word as MapWord, through, IsWithin};
+ghost use Rattle.map_defs.specs.Cells.{InOrbit, Leads};
+ghost use Rattle.cell_walk.specs.Visits.{IsVisited, IsClosed};
+
+use crate::found::Found;
+use link_rows::Links;
+use map_kind::{Dart, Kind, Word};
+use std::alloc::{AllocError, Global};
+
+/// The orbit of a dart under some words, ascending: the dart itself, and each dart to which a word leads from a dart of
+/// the orbit. It costs the size of the orbit, for each word, times a logarithm.
+///
+/// The words' links are links of the map. Where the words are closed under inverses, this is the textbook's orbit.
+pub fn orbit<K: Kind, const DIM: usize>(
+    alloc: Global,
+    links: &Links<K, DIM>,
+    words: &[Word],
+    dart: Dart,
+) -> Result<Vec<Dart>, AllocError>
+    requires { All (IsWithin DIM) words.now }
+    ensures members { IfOk result (λ orbit. (y : ℕ)
+        → Contains orbit.items y ↔ InOrbit (Leads (links_of links.now.rows) (Contains words.now)) dart y) }
+    ensures ascending { IfOk result (λ orbit. IsStrictlyIncreasing orbit.items) }
+{
+    let mut found = Found::new(alloc);
+    walk(links, words, dart, &mut found)?;
+    Ok(found.into_ascending())
+}
+
+/// Finds the orbit of a dart, besides what was found before. Where a word leads from a dart found before, it led to one.
+pub(crate) fn walk<K: Kind, const DIM: usize>(
+    links: &Links<K, DIM>,
+    words: &[Word],
+    dart: Dart,
+    found: &mut Found,
+) -> Result<(), AllocError>
+    requires within { All (IsWithin DIM) words.now }
+    requires closed { IsClosed (Leads (links_of links.now.rows) (Contains words.now)) found.old }
+    ensures { OnOk result ((y : ℕ)
+        → Contains found.new y ↔ (Contains found.old y ⊎ InOrbit (Leads (links_of links.now.rows) (Contains words.now)) dart y)) }
+{
+    let mut next = found.len();
+    found.add(dart)?;
+    while next < found.len() {
+        visit(links, words, found.at(next), found)?;
+        next += 1;
+    }
+    Ok(())
+}
+
+/// Finds the darts to which the words lead from a dart.
+fn visit<K: Kind, const DIM: usize>(
+    links: &Links<K, DIM>,
+    words: &[Word],
+    dart: Dart,
+    found: &mut Found,
+) -> Result<(), AllocError>
+    requires { All (IsWithin DIM) words.now }
+    ensures { OnOk result (IsVisited (links_of links.now.rows) (Contains words.now) dart found.old found.new) }
+{
+    for word in words {
+        step(links, *word, dart, found)?;
+    }
+    Ok(())
+}
+
+/// Finds the dart to which a word leads, if it leads to one.
+fn step<K: Kind, const DIM: usize>(
+    links: &Links<K, DIM>,
+    word: Word,
+    dart: Dart,
+    found: &mut Found,
+) -> Result<(), AllocError>
+    requires { IsWithin DIM word }
+    ensures { OnOk result (IsVisited (links_of links.now.rows) (λ w. w ≡ word) dart found.old found.new) }
+{
+    match follow(links, word, dart) {
+        Some(reached) => found.add(reached),
+        None => Ok(()),
+    }
+}
+
+/// The dart to which a word leads; none exactly where a link on its way is free.
+fn follow<K: Kind, const DIM: usize>(links: &Links<K, DIM>, word: Word, dart: Dart) -> Option<Dart>
+    requires { IsWithin DIM word }
+    ensures free { IsNone result ↔ (through (links_of links.now.rows) word dart ≡ 0) }
+    ensures leads { IfSome result (λ other. other ≡ through (links_of links.now.rows) word dart) }
+{
+    let reached = links.link(dart, word.first)?;
+    match word.second {
+        Some(second) => links.link(reached, second),
+        None => Some(reached),
+    }
+}

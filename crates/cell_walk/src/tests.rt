@@ -1,0 +1,90 @@
+use crate::{cell, cells, components, counts, least, orbit, same};
+use link_rows::Links;
+use map_kind::{Alpha, Dart, Word};
+use std::alloc::{AllocError, Global};
+use std::process::Abort;
+use std::test::Fail;
+
+/// A triangle of the darts 1 to 6 and a square of the darts 7 to 14.
+fn triangle_and_square(rt: &impl Abort, alloc: Global) -> Links<Alpha, 2> {
+    let mut links = Links::<Alpha, 2>::new(alloc);
+    assert!(rt; links.polygon(3).is_ok());
+    assert!(rt; links.polygon(4).is_ok());
+    links
+}
+
+fn dart(rt: &impl Abort, number: u32) -> Dart {
+    Dart::new(number).expect(rt, "0 is no dart")
+}
+
+fn numbers(alloc: Global, darts: &[Dart]) -> Result<Vec<u32>, AllocError> {
+    let mut numbers = Vec::new(alloc);
+    for dart in darts {
+        numbers.push(dart.number())?;
+    }
+    Ok(numbers)
+}
+
+#[test]
+fn walks_along_the_words_alone(rt: HostRuntime) -> Result<(), Fail> {
+    let alloc = rt.alloc();
+    let links = triangle_and_square(&rt, alloc);
+    let words = [Word::two(0, 1), Word::two(1, 0)];
+    let every_second = orbit(alloc, &links, &words, dart(&rt, 9))?;
+    assert_eq!(&rt;
+        numbers(alloc, &every_second)?.as_slice(),
+        [7, 9, 11, 13].as_slice()
+    );
+    let alone = orbit(alloc, &links, &[Word::one(2)], dart(&rt, 9))?;
+    assert_eq!(&rt; numbers(alloc, &alone)?.as_slice(), [9].as_slice());
+    Ok(())
+}
+
+#[test]
+fn finds_the_cells_of_a_dart(rt: HostRuntime) -> Result<(), Fail> {
+    let alloc = rt.alloc();
+    let links = triangle_and_square(&rt, alloc);
+    let vertex = cell(alloc, &links, 0, dart(&rt, 1))?;
+    assert_eq!(&rt; numbers(alloc, &vertex)?.as_slice(), [1, 6].as_slice());
+    let edge = cell(alloc, &links, 1, dart(&rt, 14))?;
+    assert_eq!(&rt; numbers(alloc, &edge)?.as_slice(), [13, 14].as_slice());
+    let face = cell(alloc, &links, 2, dart(&rt, 9))?;
+    assert_eq!(&rt;
+        numbers(alloc, &face)?.as_slice(),
+        [7, 8, 9, 10, 11, 12, 13, 14].as_slice()
+    );
+    assert!(&rt; same(alloc, &links, 0, dart(&rt, 2), dart(&rt, 3))?);
+    assert!(&rt; !same(alloc, &links, 1, dart(&rt, 2), dart(&rt, 3))?);
+    assert_eq!(&rt; least(alloc, &links, 2, dart(&rt, 9))?.number(), 7);
+    Ok(())
+}
+
+#[test]
+fn names_and_counts_the_cells_of_a_map(rt: HostRuntime) -> Result<(), Fail> {
+    let alloc = rt.alloc();
+    let links = triangle_and_square(&rt, alloc);
+    let vertices = cells(alloc, &links, 0)?;
+    assert_eq!(&rt;
+        numbers(alloc, &vertices)?.as_slice(),
+        [1, 2, 4, 7, 8, 10, 12].as_slice()
+    );
+    let faces = cells(alloc, &links, 2)?;
+    assert_eq!(&rt; numbers(alloc, &faces)?.as_slice(), [1, 7].as_slice());
+    let parts = components(alloc, &links)?;
+    assert_eq!(&rt; numbers(alloc, &parts)?.as_slice(), [1, 7].as_slice());
+    assert_eq!(&rt;
+        counts(alloc, &links)?.as_slice(),
+        [14, 7, 7, 2, 2].as_slice()
+    );
+    Ok(())
+}
+
+#[test]
+fn goes_up_to_dimension_8(rt: HostRuntime) -> Result<(), Fail> {
+    let alloc = rt.alloc();
+    let links = Links::<Alpha, 8>::new(alloc);
+    assert_eq!(&rt; cells(alloc, &links, 8)?.len(), 0);
+    assert_eq!(&rt; components(alloc, &links)?.len(), 0);
+    assert_eq!(&rt; counts(alloc, &links)?.as_slice(), [0; 11].as_slice());
+    Ok(())
+}

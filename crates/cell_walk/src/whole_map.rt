@@ -1,0 +1,115 @@
+ghost use Rattle.std.specs.Prelude.{◌≡◌, ℕ, ◌+◌, ◌≤◌, ◌↔◌, All, Contains, IfOk, OnOk, map};
+ghost use Rattle.std.specs.List.{range_with_len};
+ghost use Rattle.std.specs.List.Sorted.{IsStrictlyIncreasing};
+ghost use Rattle.map_defs.specs.Rows.{IsLive, links_of};
+ghost use Rattle.map_defs.specs.Words.{one_link, IsWithin};
+ghost use Rattle.map_defs.specs.Cells.{Leads, NamesCell, NamesComponent};
+ghost use Rattle.map_defs.specs.Counts.{AreCounts};
+ghost use Rattle.cell_walk.specs.Surveys.{TurnsBack, IsLeast, IsSurveyed};
+
+use crate::found::Found;
+use crate::orbits::walk;
+use link_rows::Links;
+use map_kind::{Dart, Kind, Word};
+use std::alloc::{AllocError, Global};
+
+/// The least darts of all cells of dimension `dim`, by which the cells are named, ascending.
+pub fn cells<K: Kind, const DIM: usize>(
+    alloc: Global,
+    links: &Links<K, DIM>,
+    dim: usize,
+) -> Result<Vec<Dart>, AllocError>
+    requires { dim ≤ DIM }
+    ensures members { IfOk result (λ cells. (d : ℕ)
+        → Contains cells.items d ↔ (IsLive links.now.rows d × NamesCell K.kind (links_of links.now.rows) dim d)) }
+    ensures ascending { IfOk result (λ cells. IsStrictlyIncreasing cells.items) }
+{
+    let words = K::words(alloc, links.dimension(), dim)?;
+    least_darts(alloc, links, &words)
+}
+
+/// The least darts of all components, by which the components are named, ascending.
+pub fn components<K: Kind, const DIM: usize>(
+    alloc: Global,
+    links: &Links<K, DIM>,
+) -> Result<Vec<Dart>, AllocError>
+    ensures members { IfOk result (λ components. (d : ℕ)
+        → Contains components.items d ↔ (IsLive links.now.rows d × NamesComponent (links_of links.now.rows) d)) }
+    ensures ascending { IfOk result (λ components. IsStrictlyIncreasing components.items) }
+{
+    let words = single_words(alloc, links.dimension())?;
+    least_darts(alloc, links, &words)
+}
+
+/// How many live darts, cells of dimensions 0 to `DIM`, and components there are, in this order.
+pub fn counts<K: Kind, const DIM: usize>(
+    alloc: Global,
+    links: &Links<K, DIM>,
+) -> Result<Vec<u64>, AllocError>
+    ensures { IfOk result (λ counts. AreCounts K.kind DIM links.now.rows counts.items) }
+{
+    let mut counts = Vec::new(alloc);
+    counts.push(u64::from(links.live_count()))?;
+    for dim in 0..links.dimension() + 1 {
+        counts.push(cells(alloc, links, dim)?.len() as u64)?;
+    }
+    counts.push(components(alloc, links)?.len() as u64)?;
+    Ok(counts)
+}
+
+/// The words of one link each, for the links 0 to `dim`.
+fn single_words(alloc: Global, dim: usize) -> Result<Vec<Word>, AllocError>
+    requires { dim ≤ 8 }
+    ensures { IfOk result (λ words. words.items ≡ map one_link (range_with_len 0 (dim + 1))) }
+{
+    (0..dim + 1).map(|link| Word::one(link)).collect(alloc)
+}
+
+/// The least darts of all orbits under words whose steps can be taken back, ascending.
+fn least_darts<K: Kind, const DIM: usize>(
+    alloc: Global,
+    links: &Links<K, DIM>,
+    words: &[Word],
+) -> Result<Vec<Dart>, AllocError>
+    requires within { All (IsWithin DIM) words.now }
+    requires turns { TurnsBack (Leads (links_of links.now.rows) (Contains words.now)) }
+    ensures members { IfOk result (λ darts. (d : ℕ)
+        → Contains darts.items d ↔ (IsLive links.now.rows d × IsLeast (Leads (links_of links.now.rows) (Contains words.now)) d)) }
+    ensures ascending { IfOk result (λ darts. IsStrictlyIncreasing darts.items) }
+{
+    let mut found = Found::with_marks(alloc, links.made())?;
+    let mut least = Vec::new(alloc);
+    for number in 1..links.made() + 1 {
+        take_least(
+            links,
+            words,
+            Dart::new(number).unwrap(),
+            &mut found,
+            &mut least,
+        )?;
+    }
+    Ok(least)
+}
+
+/// Lists a live dart as the least of its orbit and finds the orbit, unless the orbit of a lesser dart has it.
+fn take_least<K: Kind, const DIM: usize>(
+    links: &Links<K, DIM>,
+    words: &[Word],
+    dart: Dart,
+    found: &mut Found,
+    least: &mut Vec<Dart>,
+) -> Result<(), AllocError>
+    requires within { All (IsWithin DIM) words.now }
+    requires turns { TurnsBack (Leads (links_of links.now.rows) (Contains words.now)) }
+    requires before { IsSurveyed (Leads (links_of links.now.rows) (Contains words.now)) (IsLive links.now.rows) dart found.old least.old.items }
+    ensures { OnOk result (IsSurveyed (Leads (links_of links.now.rows) (Contains words.now)) (IsLive links.now.rows) (dart + 1) found.new least.new.items) }
+{
+    if !links.is_live(dart) {
+        return Ok(());
+    }
+    if found.contains(dart) {
+        return Ok(());
+    }
+    least.push(dart)?;
+    walk(links, words, dart, found)
+}

@@ -1,0 +1,21 @@
+-- The counts of a map: how many darts, cells of each dimension and components it has. Source: CGAL's count_cells.
+use Rattle.std.specs.Prelude.{ℕ, ◌≡◌, ◌≤◌, ◌+◌, ◌↔◌, List, length, slice_index, Contains}
+use Rattle.std.specs.List.Sorted.{IsStrictlyIncreasing}
+use Rattle.map_defs.specs.Kind.{Kind}
+use Rattle.map_defs.specs.Cells.{NamesCell, NamesComponent}
+use Rattle.map_defs.specs.Rows.{Rows, IsLive, links_of, live_count}
+
+-- so many numbers have the property: they make an ascending list of that length
+pub record HasCount (P : ℕ → Type 0) (count : ℕ) : Type 0 where
+  pub numbers : List ℕ
+  pub ascending : IsStrictlyIncreasing numbers
+  pub members : (d : ℕ) → Contains numbers d ↔ P d
+  pub counted : length numbers ≡ count
+
+-- The counts of a map of dimension n in their order: its live darts, its cells of dimensions 0 to n, and its components,
+-- each cell and component being counted by its least dart.
+pub record AreCounts (k : Kind) (n : ℕ) (rows : Rows) (counts : List ℕ) : Type 0 where
+  pub long : length counts ≡ n + 3
+  pub darts : slice_index counts 0 ≡ live_count rows
+  pub cells : (i : ℕ) → i ≤ n → HasCount (λ d. IsLive rows d × NamesCell k (links_of rows) i d) (slice_index counts (i + 1))
+  pub components : HasCount (λ d. IsLive rows d × NamesComponent (links_of rows) d) (slice_index counts (n + 2))

@@ -1,0 +1,2 @@
+mod CellWords
+mod SingleLinks
