@@ -7,4 +7,4 @@ mod tests;
 mod write;
 
 pub use listing::{ListRow, ListValue, Listing};
-pub use write::{append_header, append_row, append_value, write_listing};
+pub use write::{append_header, append_row, append_spaced, append_value, write_listing};

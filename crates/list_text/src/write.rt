@@ -97,8 +97,9 @@ fn append_values(text: &mut Vec<u8>, values: &[ListValue]) -> Result<(), AllocEr
     Ok(())
 }
 
-/// Appends a space and a number in decimal digits, behind a minus sign where it is below 0.
-fn append_spaced<I: Integer>(text: &mut Vec<u8>, number: I) -> Result<(), AllocError>
+/// Appends a space and a number in decimal digits, behind a minus sign where it is below 0. After want of memory a part of
+/// it may have been appended.
+pub fn append_spaced<I: Integer>(text: &mut Vec<u8>, number: I) -> Result<(), AllocError>
     ensures { OnOk result (text.new.items ≡ text.old.items ++ 32 ∷ I.text number) }
 {
     text.push(b' ')?;

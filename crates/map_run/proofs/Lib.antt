@@ -4,7 +4,6 @@ pub mod Digits
 pub mod ListingRows
 pub mod PolygonWords
 pub mod WritingFacts
-pub mod Pieces
 pub mod FirstLines
 pub mod RowTexts
 pub mod LineFacts

@@ -7,25 +7,10 @@ ghost use Rattle.map_defs.specs.Listing.{ListRow, listing_with};
 ghost use Rattle.map_kind.specs.Refusals.{meaning};
 ghost use Rattle.map_run.specs.Bare.{state_of};
 
-use itoa::Buffer;
 use link_rows::Links;
-use map_kind::{Alpha, Dart, Refusal};
+use list_text::append_spaced;
+use map_kind::{Alpha, Dart, Kind, Refusal};
 use std::alloc::AllocError;
-
-/// Appends a number in decimal digits.
-fn append_number(text: &mut Vec<u8>, number: u32) -> Result<(), AllocError>
-    ensures { OnOk result (text.new.items ≡ text.old.items ++ decimal number) }
-{
-    text.extend_from_slice(Buffer::new().format(number).as_bytes())
-}
-
-/// Appends a space and a number.
-fn append_spaced(text: &mut Vec<u8>, number: u32) -> Result<(), AllocError>
-    ensures { OnOk result (text.new.items ≡ text.old.items ++ spaced number) }
-{
-    text.push(b' ')?;
-    append_number(text, number)
-}
 
 /// Appends the reply to a changing line: its first new dart and how many were made.
 pub fn append_done(text: &mut Vec<u8>, first: u32, count: u32) -> Result<(), AllocError>
@@ -54,14 +39,16 @@ pub fn append_refusal(text: &mut Vec<u8>, refusal: Refusal) -> Result<(), AllocE
 
 /// Appends the first line of a listing.
 pub fn append_header(text: &mut Vec<u8>, links: &Links<Alpha, 2>) -> Result<(), AllocError>
-    ensures { OnOk result (text.new.items ≡ text.old.items ++ header_text (listing_with (state_of links.now.rows).present [])) }
+    ensures { OnOk result (text.new.items ≡ text.old.items
+        ++ header_text (listing_with (state_of links.now.rows).present [])) }
 {
-    text.extend_from_slice(b"cellmap 1 g")?;
-    append_spaced(text, 2)?;
-    append_spaced(text, links.made())?;
-    append_spaced(text, links.live_count())?;
-    text.push(b'\n')?;
-    Ok(())
+    list_text::append_header(
+        text,
+        Alpha::letter(),
+        2,
+        links.made(),
+        links.live_count() as usize,
+    )
 }
 
 /// Appends the row of a live dart.
@@ -69,13 +56,12 @@ pub fn append_row(text: &mut Vec<u8>, links: &Links<Alpha, 2>, dart: Dart) -> Re
     ensures { OnOk result ((row : List ℕ) → row_at links.now.rows dart ≡ Some row → length row ≡ 3 →
         text.new.items ≡ text.old.items ++ row_text (record { dart = dart; links = row })) }
 {
-    append_number(text, dart.number())?;
-    text.push(b':')?;
-    for link in 0..=2 {
-        append_spaced(text, entry(links, dart, link))?;
-    }
-    text.push(b'\n')?;
-    Ok(())
+    let row = [
+        entry(links, dart, 0),
+        entry(links, dart, 1),
+        entry(links, dart, 2),
+    ];
+    list_text::append_row(text, dart, &row)
 }
 
 /// The number of the dart at a link, or 0.

@@ -12,3 +12,4 @@ pub mod Adding
 pub mod Grouping
 pub mod Summing
 pub mod Totalling
+pub mod Listed
