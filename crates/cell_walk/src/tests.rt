@@ -1,5 +1,7 @@
+ghost use Rattle.std.specs.Prelude.{◌≡◌};
+
 use crate::{cell, cells, components, counts, least, orbit, same};
-use link_rows::Links;
+use link_rows::{Change, Edit, Links};
 use map_kind::{Alpha, Dart, Word};
 use std::alloc::{AllocError, Global};
 use std::process::Abort;
@@ -79,12 +81,33 @@ fn names_and_counts_the_cells_of_a_map(rt: HostRuntime) -> Result<(), Fail> {
     Ok(())
 }
 
+// Two darts that are joined by link 8 share their cells but for that of dimension 8.
 #[test]
 fn goes_up_to_dimension_8(rt: HostRuntime) -> Result<(), Fail> {
     let alloc = rt.alloc();
-    let links = Links::<Alpha, 8>::new(alloc);
-    assert_eq!(&rt; cells(alloc, &links, 8)?.len(), 0);
-    assert_eq!(&rt; components(alloc, &links)?.len(), 0);
-    assert_eq!(&rt; counts(alloc, &links)?.as_slice(), [0; 11].as_slice());
+    let mut links = Links::<Alpha, 8>::new(alloc);
+    assert!(&rt; links.reserve(2).is_ok());
+    links.apply(&Edit {
+        births: 2,
+        deaths: Vec::new(alloc),
+        changes: Vec::from_slice(alloc, &[change(dart(&rt, 1), 2), change(dart(&rt, 2), 1)])?,
+    });
+    let all = cell(alloc, &links, 7, dart(&rt, 2))?;
+    assert_eq!(&rt; numbers(alloc, &all)?.as_slice(), [1, 2].as_slice());
+    assert_eq!(&rt;
+        counts(alloc, &links)?.as_slice(),
+        [2, 1, 1, 1, 1, 1, 1, 1, 1, 2, 1].as_slice()
+    );
     Ok(())
+}
+
+fn change(dart: Dart, new: u32) -> Change
+    ensures { result ≡ record { dart = dart; link = 8; old = 0; new = new } }
+{
+    Change {
+        dart,
+        link: 8,
+        old: 0,
+        new,
+    }
 }

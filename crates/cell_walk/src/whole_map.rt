@@ -101,8 +101,10 @@ fn take_least<K: Kind, const DIM: usize>(
 ) -> Result<(), AllocError>
     requires within { All (IsWithin DIM) words.now }
     requires turns { TurnsBack (Leads (links_of links.now.rows) (Contains words.now)) }
-    requires before { IsSurveyed (Leads (links_of links.now.rows) (Contains words.now)) (IsLive links.now.rows) dart found.old least.old.items }
-    ensures { OnOk result (IsSurveyed (Leads (links_of links.now.rows) (Contains words.now)) (IsLive links.now.rows) (dart + 1) found.new least.new.items) }
+    requires before { IsSurveyed (Leads (links_of links.now.rows) (Contains words.now)) (IsLive links.now.rows)
+        dart found.old least.old.items }
+    ensures { OnOk result (IsSurveyed (Leads (links_of links.now.rows) (Contains words.now)) (IsLive links.now.rows)
+        (dart + 1) found.new least.new.items) }
 {
     if !links.is_live(dart) {
         return Ok(());

@@ -1,11 +1,9 @@
 -- What the laws' proofs use of cells: which links a cell is closed under, and that its darts are made ones.
-use Rattle.std.proofs.Common.{◌≡◌, ◌≢◌, ◌⊎◌, ◌+◌, ◌≤◌, ℕ, zero, suc, inl, inr, refl, sym, ap, ap₂, subst, ◌∙◌, Option, Some, None, arith}
+use Rattle.std.proofs.Common.{◌≡◌, ◌≢◌, ◌+◌, ◌≤◌, ℕ, zero, suc, inl, inr, refl, Option, Some, None, arith}
 use Rattle.map_defs.specs.Kind.{Kind, alpha, beta, inverse}
 use Rattle.map_defs.specs.Links.{Links, IsMadeUpTo}
 use Rattle.map_defs.specs.Laws.{Laws}
 use Rattle.map_defs.specs.Words.{Word, one_link, two_links, through, through_second, inverse_word, IsCellWord}
-use Rattle.link_laws.proofs.Basics.{same_or_not, inverse_twice}
-use Rattle.link_laws.proofs.LawFacts.{dart_of_link, back_to}
 use Rattle.link_laws.proofs.Orbits.{orbit_dart}
 use Rattle.link_laws.proofs.CellTurns.{word_turns, step_turns, cell_turns}
 use Rattle.map_defs.specs.Cells.{InOrbit, here, onward, Leads, InCell}

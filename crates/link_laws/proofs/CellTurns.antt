@@ -3,7 +3,7 @@
 use Rattle.std.proofs.Common.{◌≡◌, ◌≢◌, ◌⊎◌, ℕ, inl, inr, refl, sym, ap, ap₂, subst, ◌∙◌, Option, Some, None}
 use Rattle.map_defs.specs.Kind.{Kind, inverse}
 use Rattle.map_defs.specs.Links.{Links}
-use Rattle.map_defs.specs.Words.{Word, one_link, two_links, through, inverse_word, RunsAlong, IsCellWord}
+use Rattle.map_defs.specs.Words.{Word, one_link, two_links, through, inverse_word, IsCellWord}
 use Rattle.map_defs.specs.Cells.{InOrbit, here, onward, Leads, InCell}
 use Rattle.link_laws.proofs.Basics.{same_or_not, inverse_twice}
 use Rattle.link_laws.proofs.Orbits.{orbit_back}

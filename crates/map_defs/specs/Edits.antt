@@ -1,5 +1,5 @@
 -- Edits of a map's rows: new darts, changes of links, and darts that end. Source: this project's.
-use Rattle.std.specs.Prelude.{ℕ, ◌≡◌, ◌≢◌, ◌+◌, ◌-◌, ◌<◌, ◌≤◌, List, [], ◌∷◌, ◌++◌, length, take, replicate, Option, Some, None, option_map, slice_set, All}
+use Rattle.std.specs.Prelude.{ℕ, ◌≡◌, ◌≢◌, ◌+◌, ◌-◌, ◌<◌, ◌≤◌, List, [], ◌∷◌, ◌++◌, length, take, replicate, Some, None, option_map, slice_set, All}
 use Rattle.std.specs.List.{AllPairs}
 use Rattle.map_defs.specs.Kind.{Kind, inverse}
 use Rattle.map_defs.specs.Rows.{Rows, row_at, IsLive, links_of, made, made_max, IsSound}

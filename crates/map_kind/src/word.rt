@@ -53,7 +53,8 @@ pub(crate) fn single_links(
     cell: usize,
 ) -> Result<Vec<Word>, AllocError>
     requires { dim ≤ 8 }
-    ensures { IfOk result (λ words. (w : MapWord) → Contains words.items w ↔ ((j : ℕ) × (low ≤ j) × (j ≤ dim) × (j ≢ cell) × (w ≡ one_link j))) }
+    ensures { IfOk result (λ words. (w : MapWord)
+        → Contains words.items w ↔ ((j : ℕ) × (low ≤ j) × (j ≤ dim) × (j ≢ cell) × (w ≡ one_link j))) }
 {
     let mut words = Vec::new(alloc);
     for link in low..dim + 1 {
