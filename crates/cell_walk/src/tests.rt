@@ -85,14 +85,16 @@ fn names_and_counts_the_cells_of_a_map(rt: HostRuntime) -> Result<(), Fail> {
 #[test]
 fn goes_up_to_dimension_8(rt: HostRuntime) -> Result<(), Fail> {
     let alloc = rt.alloc();
+    let one = Dart::new(1).unwrap();
+    let two = Dart::new(2).unwrap();
     let mut links = Links::<Alpha, 8>::new(alloc);
     assert!(&rt; links.reserve(2).is_ok());
     links.apply(&Edit {
         births: 2,
         deaths: Vec::new(alloc),
-        changes: Vec::from_slice(alloc, &[change(dart(&rt, 1), 2), change(dart(&rt, 2), 1)])?,
+        changes: Vec::from_slice(alloc, &[change(one, 2), change(two, 1)])?,
     });
-    let all = cell(alloc, &links, 7, dart(&rt, 2))?;
+    let all = cell(alloc, &links, 7, two)?;
     assert_eq!(&rt; numbers(alloc, &all)?.as_slice(), [1, 2].as_slice());
     assert_eq!(&rt;
         counts(alloc, &links)?.as_slice(),
