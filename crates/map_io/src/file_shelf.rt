@@ -58,7 +58,7 @@ impl<R: Files> Shelf for FileShelf<R> {
     fn fetch(&mut self, alloc: Global, name: &str, limit: u64) -> Result<Vec<u8>, FetchFault>
         requires { limit < 2 ^ 64 - 1 }
         ensures bytes { IsFetched None name.now limit result }
-        // no more than one byte past the limit is read
+        // of a file that is too long, one byte more than the limit was seen
         ensures most { (seen : ℕ) → IsErrOf result (FetchFault.TooLong seen) → seen ≡ limit + 1 }
         ensures cause { HasCause (faults_of self.old) (faults_of self.new)
             (IsErrOf result FetchFault.Failed) }
