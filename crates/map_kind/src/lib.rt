@@ -9,6 +9,6 @@ mod word;
 
 pub use dart::Dart;
 pub use kind::{Alpha, Kind};
-pub use refusal::Refusal;
+pub use refusal::{Refusal, Refused};
 pub use value::{Place, Value};
 pub use word::Word;

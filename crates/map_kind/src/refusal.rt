@@ -1,6 +1,9 @@
 ghost use Rattle.std.specs.Prelude.{◌≡◌};
 ghost use Rattle.map_defs.specs.Refusal as machine;
 ghost use Rattle.map_kind.specs.Refusals.{meaning};
+ghost use Rattle.map_kind.specs.declared.refusal.Refused.TheVariants.{Line, NoMemory};
+
+use std::alloc::{AllocError, AllocFailed};
 
 /// Why a line of a script is refused. A line is refused with the least number whose condition holds.
 #[derive(Clone, Copy, Debug, PartialEq, Eq)]
@@ -106,5 +109,38 @@ impl Refusal {
             Refusal::ThinFace => "ThinFace",
             Refusal::Full => "Full",
         }
+    }
+}
+
+/// Why a call was refused: as a line of a script, or for want of memory, which has no number among the refusals.
+#[derive(Clone, Copy, Debug, PartialEq, Eq)]
+pub enum Refused {
+    /// The line is refused.
+    Line(Refusal),
+    /// There is no memory.
+    NoMemory,
+}
+
+impl From<Refusal> for Refused {
+    ghost from_gives = { λ refusal refused. refused ≡ Line refusal };
+
+    fn from(refusal: Refusal) -> Refused {
+        Refused::Line(refusal)
+    }
+}
+
+impl From<AllocError> for Refused {
+    ghost from_gives = { λ _ refused. refused ≡ NoMemory };
+
+    fn from(_error: AllocError) -> Refused {
+        Refused::NoMemory
+    }
+}
+
+impl<T: Drop> From<AllocFailed<T>> for Refused {
+    ghost from_gives = { λ _ refused. refused ≡ NoMemory };
+
+    fn from(_error: AllocFailed<T>) -> Refused {
+        Refused::NoMemory
     }
 }
