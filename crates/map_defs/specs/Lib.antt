@@ -13,6 +13,7 @@ pub mod Polygon
 pub mod Listing
 pub mod Text
 pub mod Script
+pub mod Relinking
 pub mod Machine
 pub mod Outside
 pub mod Pairs

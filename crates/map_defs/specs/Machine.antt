@@ -1,12 +1,22 @@
 -- The plain map machine: what each line answers and leaves. Source: this project's.
-use Rattle.std.specs.Prelude.{ℕ, ◌≡◌, ◌<◌, ◌+◌, ◌*◌, ◌⊎◌, List, [], ◌∷◌, ◌++◌, Some, None}
-use Rattle.map_defs.specs.Rows.{made, made_max}
+use Rattle.std.specs.Prelude.{ℕ, ◌≡◌, ◌<◌, ◌+◌, ◌*◌, ◌⊎◌, ◌↔◌, Bool, IsTrue, List, [], ◌∷◌, ◌++◌, Some, None, Contains}
+use Rattle.std.specs.List.Sorted.{IsStrictlyIncreasing}
+use Rattle.map_defs.specs.Kind.{beta, inverse, IsDistant}
+use Rattle.map_defs.specs.Links.{Links}
+use Rattle.map_defs.specs.Rows.{made, made_max, IsLive, links_of}
+use Rattle.map_defs.specs.Cells.{InCell}
+use Rattle.map_defs.specs.Counts.{AreCounts}
+use Rattle.map_defs.specs.Pairs.{IsGood}
+use Rattle.map_defs.specs.Sewing.{SewnPairs, IsSewable, IsSewn, IsUnsewn}
+use Rattle.map_defs.specs.Edits.{free_row}
 use Rattle.map_defs.specs.Polygon.{per_side, polygon_rows}
-use Rattle.map_defs.specs.State.{State, Content, with_born, steps_to}
-use Rattle.map_defs.specs.Refusal.{Refusal, Syntax, BadCount, Full}
+use Rattle.map_defs.specs.State.{State, Content, with_born, without_dart, steps_to}
+use Rattle.map_defs.specs.Relinking.{IsRelinked, NoDart}
+use Rattle.map_defs.specs.Refusal as why
+use Rattle.map_defs.specs.Refusal.{Refusal}
 use Rattle.map_defs.specs.Listing.{ListValue, ListsValues, listing_with}
-use Rattle.map_defs.specs.Text.{Reply, Done, Shown, Refused}
-use Rattle.map_defs.specs.Script.{Line, Polygon, Show, words_of, line_of}
+use Rattle.map_defs.specs.Text.{Reply, Done, Truth, Darts, Counts, Shown, Refused}
+use Rattle.map_defs.specs.Script.{Line, Polygon, Dart, Del, Sew, Unsew, Cell, Same, Free, Sewable, Count, Show, words_of, line_of}
 
 -- a refusal with the condition under which a line fails by it, and that under which it passes
 pub record Check : Type 1 where
@@ -17,29 +27,95 @@ pub record Check : Type 1 where
 abbrev pub refuse_if : Type 0 → Refusal → Check
 refuse_if P r = record { refusal = r; fails = P; passes = P → ⊥ }
 
-abbrev pub full_if : Content → ℕ → Check
-full_if c births = refuse_if (made_max < made c.rows + births) Full
+abbrev pub refuse_unless : Type 0 → Refusal → Check
+refuse_unless P r = record { refusal = r; fails = P → ⊥; passes = P }
 
--- The table of refusals: what each line is checked for, in ascending number.
+abbrev pub full_if : Content → ℕ → Check
+full_if c births = refuse_if (made_max < made c.rows + births) why.Full
+
+-- the number is a dimension of the map
+abbrev pub dimension_check : Content → ℕ → Check
+dimension_check c i = refuse_if (c.dim < i) why.BadDim
+
+-- the number is a link that can be sewn: one of the map's, but not link 0 of a combinatorial map, which follows link 1
+abbrev pub link_check : Content → ℕ → Check
+link_check c i = refuse_if ((c.dim < i) ⊎ ((c.kind ≡ beta) × (i ≡ 0))) why.BadDim
+
+abbrev pub live_check : Content → ℕ → Check
+live_check c d = refuse_unless (IsLive c.rows d) why.NoDart
+
+abbrev pub links_in : Content → Links
+links_in c = links_of c.rows
+
+-- all links of the dart are free
+abbrev pub IsAlone : Content → ℕ → Type 0
+IsAlone c d = (i : ℕ) → links_in c i d ≡ 0
+
+-- both ends of a link to be sewn are free
+abbrev pub AreFree : Content → ℕ → ℕ → ℕ → Type 0
+AreFree c i d e = (links_in c i d ≡ 0) × (links_in c (inverse c.kind i) e ≡ 0)
+
+-- the orbits of the two darts can be joined
+abbrev pub ArePaired : Content → ℕ → ℕ → ℕ → Type 0
+ArePaired c i d e = IsGood c.kind (links_in c) (IsDistant c.kind i) (SewnPairs c.kind (links_in c) i d e)
+
+-- The table of refusals: what each line is checked for, in ascending number. A line that the machine does not offer yet is
+-- refused as one outside the grammar.
+abbrev pub checks_on : Content → Line → List Check
+checks_on c (Polygon sides) = refuse_if ((sides < 3) ⊎ (65536 < sides)) why.BadCount ∷ full_if c (per_side c.kind * sides) ∷ []
+checks_on c Dart = full_if c 1 ∷ []
+checks_on c (Del d) = live_check c d ∷ refuse_unless (IsAlone c d) why.Linked ∷ []
+checks_on c (Sew i d e) = link_check c i ∷ live_check c d ∷ live_check c e ∷ refuse_unless (AreFree c i d e) why.NotFree ∷ refuse_unless (ArePaired c i d e) why.Unsewable ∷ []
+checks_on c (Unsew i d) = link_check c i ∷ live_check c d ∷ refuse_if (links_in c i d ≡ 0) why.AlreadyFree ∷ []
+checks_on c (Cell i d) = dimension_check c i ∷ live_check c d ∷ []
+checks_on c (Same i d e) = dimension_check c i ∷ live_check c d ∷ live_check c e ∷ []
+checks_on c (Free i d) = dimension_check c i ∷ live_check c d ∷ []
+checks_on c (Sewable i d e) = link_check c i ∷ live_check c d ∷ live_check c e ∷ []
+checks_on c Count = []
+checks_on c Show = []
+checks_on c line = refuse_unless ⊥ why.Syntax ∷ []
+
 abbrev pub checks : State → Line → List Check
-checks s (Polygon sides) =
-    refuse_if ((sides < 3) ⊎ (65536 < sides)) BadCount ∷ full_if s.present (per_side s.present.kind * sides) ∷ []
-checks s Show = []
+checks s line = checks_on s.present line
 
 -- the polygon's darts come after all that were made
 abbrev pub with_polygon : Content → ℕ → Content
 with_polygon c sides = with_born c (polygon_rows c.kind c.dim (made c.rows + 1) sides)
 
+-- one more dart, which has no links
+abbrev pub with_dart : Content → Content
+with_dart c = with_born c (free_row c.dim ∷ [])
+
 -- this reply and this state, and no other
 abbrev pub Gives : Reply → State → Reply → State → Type 0
 Gives answer next reply new = (reply ≡ answer) × (new ≡ next)
+
+-- the answer to a question, which changes nothing
+abbrev pub Tells : State → Type 0 → Reply → State → Type 0
+Tells s P reply new = (answer : Bool) × (IsTrue answer ↔ P) × (reply ≡ Truth answer) × (new ≡ s)
+
+-- A change of links by which no dart is born and none ends.
+abbrev pub Relinks : State → (Links → Type 0) → Reply → State → Type 0
+Relinks s Becomes reply new = (next : Content) × IsRelinked s.present 0 NoDart Becomes next × (reply ≡ Done 0 0) × (new ≡ steps_to s next)
 
 -- what a line that passes its checks answers and leaves
 abbrev pub Effect : State → Line → Reply → State → Type 0
 Effect s (Polygon sides) =
     Gives (Done (made s.present.rows + 1) (per_side s.present.kind * sides)) (steps_to s (with_polygon s.present sides))
+Effect s Dart = Gives (Done (made s.present.rows + 1) 1) (steps_to s (with_dart s.present))
+Effect s (Del d) = Gives (Done 0 0) (steps_to s (without_dart s.present d))
+Effect s (Sew i d e) = Relinks s (IsSewn s.present.kind i d e (links_in s.present))
+Effect s (Unsew i d) = Relinks s (IsUnsewn s.present.kind i d (links_in s.present))
+Effect s (Cell i d) = λ reply new. (darts : List ℕ) × IsStrictlyIncreasing darts
+    × ((e : ℕ) → Contains darts e ↔ InCell s.present.kind (links_in s.present) i d e) × (reply ≡ Darts darts) × (new ≡ s)
+Effect s (Same i d e) = Tells s (InCell s.present.kind (links_in s.present) i d e)
+Effect s (Free i d) = Tells s (links_in s.present i d ≡ 0)
+Effect s (Sewable i d e) = Tells s (IsSewable s.present.kind (links_in s.present) i d e)
+Effect s Count = λ reply new. (counts : List ℕ) × AreCounts s.present.kind s.present.dim s.present.rows counts
+    × (reply ≡ Counts counts) × (new ≡ s)
 Effect s Show = λ reply new. (values : List ListValue) × ListsValues s.present values
     × (reply ≡ Shown (listing_with s.present values)) × (new ≡ s)
+Effect s line = λ reply new. ⊥
 
 -- The first check that fails refuses the line and leaves the state as it was; a check is looked at only after those
 -- before it passed.
@@ -62,7 +138,7 @@ Step s line reply new = Judged s (checks s line) (Effect s line) reply new
 pub data Obeys (s : State) (words : List (List ℕ)) (replies : List Reply) (new : State) : Type 0 where
   blank : words ≡ [] → replies ≡ [] → new ≡ s → Obeys s words replies new
   unread : (first : List ℕ) (more : List (List ℕ)) → words ≡ first ∷ more → line_of words ≡ None
-      → replies ≡ Refused Syntax ∷ [] → new ≡ s → Obeys s words replies new
+      → replies ≡ Refused why.Syntax ∷ [] → new ≡ s → Obeys s words replies new
   obeyed : (line : Line) (reply : Reply) → line_of words ≡ Some line → Step s line reply new → replies ≡ reply ∷ []
       → Obeys s words replies new
 

@@ -12,9 +12,9 @@ use Rattle.map_defs.specs.Outside.{Files, held, IsFront}
 pub data Command : Type 0 where
   RunScript : Kind → ℕ → List ℕ → Command
 
--- the commands that the program offers: generalized maps of dimension 2
+-- the commands that the program offers: generalized maps of dimension 2, 3 or 4
 abbrev pub IsOffered : Command → Type 0
-IsOffered (RunScript kind dim script) = (kind ≡ alpha) × (dim ≡ 2)
+IsOffered (RunScript kind dim script) = (kind ≡ alpha) × (2 ≤ dim) × (dim ≤ 4)
 
 -- the words of a command; `-` stands for the empty map
 abbrev pub words_for : Command → List (List ℕ)

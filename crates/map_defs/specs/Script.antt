@@ -3,6 +3,7 @@ use Rattle.std.specs.Prelude.{ℕ, ◌+◌, ◌-◌, ◌*◌, ◌==◌, nat_le, 
 use Rattle.std.specs.List.{list_all, slice_split}
 use Rattle.std.specs.Char.{is_ascii_digit}
 use Rattle.std.specs.Str.{bytes_eq}
+use Rattle.map_defs.specs.Values as values
 
 -- the lines of a script: the pieces between line feeds; an empty line has no reply, so neither has an empty last piece
 abbrev pub lines_of : List ℕ → List (List ℕ)
@@ -38,9 +39,34 @@ abbrev pub numerals : List (List ℕ) → Option (List ℕ)
 numerals [] = Some []
 numerals (word ∷ words) = if is_numeral word then put_first (numerals words) (value_of word) else None
 
--- a line that the machine can obey
+-- a line that the machine can obey: one constructor for each first word, with the words after it
 pub data Line : Type 0 where
   Polygon : ℕ → Line
+  Dart : Line
+  Del : ℕ → Line
+  Sew : ℕ → ℕ → ℕ → Line
+  Unsew : ℕ → ℕ → Line
+  Vertex : ℕ → Line
+  Edge : ℕ → ℕ → Line
+  Face : List ℕ → Line
+  Remove : ℕ → ℕ → Line
+  Contract : ℕ → ℕ → Line
+  Dual : Line
+  Rule : ℕ → List ℕ → List ℕ → Line
+  Set : ℕ → ℕ → values.Value → Line
+  Clear : ℕ → ℕ → Line
+  Mark : List ℕ → Line
+  Undo : List ℕ → Line
+  Log : List ℕ → Line
+  Cell : ℕ → ℕ → Line
+  Same : ℕ → ℕ → ℕ → Line
+  Free : ℕ → ℕ → Line
+  Value : ℕ → ℕ → Line
+  Removable : ℕ → ℕ → Line
+  Contractible : ℕ → ℕ → Line
+  Sewable : ℕ → ℕ → ℕ → Line
+  Off : Line
+  Count : Line
   Show : Line
 
 abbrev pub polygon_line : Option (List ℕ) → Option Line

@@ -1,5 +1,5 @@
 -- The state of the plain map machine, with whole contents. Source: this project's.
-use Rattle.std.specs.Prelude.{ℕ, ◌+◌, List, [], ◌∷◌, ◌++◌, Option, Some, None, map, replicate, slice_index_or}
+use Rattle.std.specs.Prelude.{ℕ, ◌+◌, List, [], ◌∷◌, ◌++◌, Option, Some, None, map, replicate, slice_index_or, slice_set}
 use Rattle.map_defs.specs.Kind.{Kind}
 use Rattle.map_defs.specs.Rows.{Rows}
 use Rattle.map_defs.specs.Values.{Value, Rule}
@@ -52,6 +52,10 @@ empty_state k n = record { present = empty_content k n; past = []; marks = []; u
 -- the content with further darts, which have no values yet
 abbrev pub with_born : Content → List (List ℕ) → Content
 with_born c born = record c { rows = c.rows ++ map Some born; values = c.values ++ map (λ (row : List ℕ). no_values c.dim) born }
+
+-- the content without a dart, whose number is not given again
+abbrev pub without_dart : Content → ℕ → Content
+without_dart c d = record c { rows = slice_set c.rows d None; values = slice_set c.values d (no_values c.dim) }
 
 -- the past after a step from this content: while no mark stands, nothing is kept
 abbrev pub kept_past : List Mark → List Content → Content → List Content

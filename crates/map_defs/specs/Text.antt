@@ -6,14 +6,21 @@ use Rattle.map_defs.specs.Kind.{Kind, alpha, beta}
 use Rattle.map_defs.specs.Refusal.{Refusal, number, name}
 use Rattle.map_defs.specs.Listing.{ListRow, ListValue, Listing}
 
--- One reply: a changing line's first new dart and how many were made, both 0 if none was; a listing; or a refusal.
+-- One reply: a changing line's first new dart and how many were made, both 0 if none was; an answer to a question of yes
+-- or no; the darts of a cell, ascending; the counts of the map; a listing; or a refusal.
 pub data Reply : Type 0 where
   Done : ℕ → ℕ → Reply
+  Truth : Bool → Reply
+  Darts : List ℕ → Reply
+  Counts : List ℕ → Reply
   Shown : Listing → Reply
   Refused : Refusal → Reply
 
 abbrev pub is_refused : Reply → Bool
 is_refused (Done first count) = false
+is_refused (Truth answer) = false
+is_refused (Darts darts) = false
+is_refused (Counts counts) = false
 is_refused (Shown listing) = false
 is_refused (Refused r) = true
 
@@ -55,11 +62,22 @@ listing_text l = header_text l ++ flat_map row_text l.rows ++ flat_map value_tex
 abbrev pub done_text : ℕ → ℕ → List ℕ
 done_text first count = if count == 0 then ended (codes "ok") else ended (codes "ok" ++ spaced first ++ spaced count)
 
+abbrev pub truth_text : Bool → List ℕ
+truth_text true = ended (codes "true")
+truth_text false = ended (codes "false")
+
+-- a word, and numbers behind it
+abbrev pub numbers_text : List ℕ → List ℕ → List ℕ
+numbers_text word numbers = ended (word ++ flat_map spaced numbers)
+
 abbrev pub refusal_text : Refusal → List ℕ
 refusal_text r = ended (codes "no" ++ spaced (number r) ++ 32 ∷ name r)
 
 abbrev pub reply_text : Reply → List ℕ
 reply_text (Done first count) = done_text first count
+reply_text (Truth answer) = truth_text answer
+reply_text (Darts darts) = numbers_text (codes "cell") darts
+reply_text (Counts counts) = numbers_text (codes "count") counts
 reply_text (Shown listing) = listing_text listing
 reply_text (Refused r) = refusal_text r
 
