@@ -1,17 +1,18 @@
 -- Lists of checks: the first that fails has the least number.
-use Rattle.std.proofs.Common.{◌≡◌, ℕ, ◌<◌, ◌≤◌, List, [], ◌∷◌, sym, ap, ◌∙◌, inl, inr, arith, lit<}
+use Rattle.std.proofs.Common.{◌≡◌, ℕ, ◌<◌, ◌≤◌, List, [], ◌∷◌, sym, ap, ◌∙◌, inl, inr, arith, lit≤}
 use Rattle.map_defs.specs.Refusal.{Refusal, number}
 use Rattle.map_defs.specs.State.{State}
-use Rattle.map_defs.specs.Script.{Line, Polygon, Show}
+use Rattle.map_defs.specs.Script as says
+use Rattle.map_defs.specs.Script.{Line}
 use Rattle.map_defs.specs.Text.{Reply, Refused}
 use Rattle.map_defs.specs.Machine.{Check, checks, Judged, FailsFor}
 
--- each check of the list has a higher number than n
+-- each check of the list has at least the number n
 abbrev AllAbove : ℕ → List Check → Type 0
 AllAbove n [] = Unit {0}
-AllAbove n (check ∷ more) = (n < number check.refusal) × AllAbove n more
+AllAbove n (check ∷ more) = (n ≤ number check.refusal) × AllAbove n more
 
--- no check passes and fails, and the numbers ascend
+-- no check passes and fails, and the numbers do not fall
 abbrev pub AreOrdered : List Check → Type 0
 AreOrdered [] = Unit {0}
 AreOrdered (check ∷ more) = (check.passes → check.fails → ⊥) × AllAbove (number check.refusal) more × AreOrdered more
@@ -21,9 +22,42 @@ above n [] q all f = absurd f
 above n (check ∷ more) q all (inl f) = let h = all.0 in let e = ap number f.0 in omega arith
 above n (check ∷ more) q all (inr f) = above n more q all.1 f
 
+-- a check that fails where P holds, and one that fails where it does not
+if-apart : (P : Type 0) → (P → ⊥) → P → ⊥
+if-apart P free h = free h
+
+unless-apart : (P : Type 0) → P → (P → ⊥) → ⊥
+unless-apart P h free = free h
+
 pub ordered : (s : State) (line : Line) → AreOrdered (checks s line)
-ordered s (Polygon sides) = (λ no h. no h, (lit< tt, tt), (λ no h. no h, tt, tt))
-ordered s Show = tt
+ordered s (says.Polygon sides) = (if-apart _, (lit≤ tt, tt), (if-apart _, tt, tt))
+ordered s says.Dart = (if-apart _, tt, tt)
+ordered s (says.Del d) = (unless-apart _, (lit≤ tt, tt), (unless-apart _, tt, tt))
+ordered s (says.Sew i d e) = (if-apart _, (lit≤ tt, (lit≤ tt, (lit≤ tt, (lit≤ tt, tt)))), (unless-apart _, (lit≤ tt, (lit≤ tt, (lit≤ tt, tt))),
+    (unless-apart _, (lit≤ tt, (lit≤ tt, tt)), (unless-apart _, (lit≤ tt, tt), (unless-apart _, tt, tt)))))
+ordered s (says.Unsew i d) = (if-apart _, (lit≤ tt, (lit≤ tt, tt)), (unless-apart _, (lit≤ tt, tt), (if-apart _, tt, tt)))
+ordered s (says.Cell i d) = (if-apart _, (lit≤ tt, tt), (unless-apart _, tt, tt))
+ordered s (says.Same i d e) = (if-apart _, (lit≤ tt, (lit≤ tt, tt)), (unless-apart _, (lit≤ tt, tt), (unless-apart _, tt, tt)))
+ordered s (says.Free i d) = (if-apart _, (lit≤ tt, tt), (unless-apart _, tt, tt))
+ordered s (says.Sewable i d e) = (if-apart _, (lit≤ tt, (lit≤ tt, tt)), (unless-apart _, (lit≤ tt, tt), (unless-apart _, tt, tt)))
+ordered s says.Count = tt
+ordered s says.Show = tt
+ordered s (says.Vertex d) = (unless-apart _, tt, tt)
+ordered s (says.Edge d e) = (unless-apart _, tt, tt)
+ordered s (says.Face darts) = (unless-apart _, tt, tt)
+ordered s (says.Remove i d) = (unless-apart _, tt, tt)
+ordered s (says.Contract i d) = (unless-apart _, tt, tt)
+ordered s says.Dual = (unless-apart _, tt, tt)
+ordered s (says.Rule i merge split) = (unless-apart _, tt, tt)
+ordered s (says.Set i d value) = (unless-apart _, tt, tt)
+ordered s (says.Clear i d) = (unless-apart _, tt, tt)
+ordered s (says.Mark name) = (unless-apart _, tt, tt)
+ordered s (says.Undo name) = (unless-apart _, tt, tt)
+ordered s (says.Log name) = (unless-apart _, tt, tt)
+ordered s (says.Value i d) = (unless-apart _, tt, tt)
+ordered s (says.Removable i d) = (unless-apart _, tt, tt)
+ordered s (says.Contractible i d) = (unless-apart _, tt, tt)
+ordered s says.Off = (unless-apart _, tt, tt)
 
 refused-is : (r q : Refusal) → Refused r ≡ Refused q → r ≡ q
 refused-is r q e = cc

@@ -1,5 +1,6 @@
 -- One program has one text and one status.
 use Rattle.std.proofs.Common.{◌≡◌, ℕ, ◌≤◌, List, ◌++◌, length, Option, Some, None, sym, ap, ◌∙◌, subst, append_assoc, inl, inr, arith}
+use Rattle.std.proofs.lemmas.Fmt.{decimal_injective}
 use Rattle.std.proofs.lemmas.Grind.{flat_map-append}
 use Rattle.map_defs.specs.State.{State, empty_state}
 use Rattle.map_defs.specs.Script.{lines_of}
@@ -13,8 +14,8 @@ use Rattle.machine_laws.proofs.Runs.{run-one, run-front}
 told-one : (words : List (List ℕ)) (c c' : Command) → Tells words c → Tells words c' → c ≡ c'
 told-one words (RunScript k n script) (RunScript k' n' script') t t' =
     let kinds = t.0.0 ∙ sym t'.0.0 in
-    let dims = t.0.1 ∙ sym t'.0.1 in
     let same = sym t.1 ∙ t'.1 in
+    let dims : n ≡ n' = decimal_injective n n' (omega (arith, t.0.2)) (omega (arith, t'.0.2)) (cc (same)) in
     let scripts : script ≡ script' = cc in
     cc
 
