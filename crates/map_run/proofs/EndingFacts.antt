@@ -4,7 +4,7 @@ use Rattle.std.proofs.lemmas.List.{append-nil}
 use Rattle.std.proofs.lemmas.Bool.{cases_lt, lt-ltb}
 use Rattle.map_io.specs.declared.sink.PutFault.{PutFault}
 use Rattle.map_io.specs.declared.sink.PutFault.TheVariants.{Failed, NoMemory}
-use Rattle.map_defs.specs.Kind.{alpha}
+use Rattle.map_defs.specs.Kind.{Kind}
 use Rattle.map_defs.specs.Outside.{Files, held, Appended}
 use Rattle.map_defs.specs.State.{empty_state}
 use Rattle.map_defs.specs.Script.{lines_of}
@@ -30,36 +30,36 @@ module _ (words : List (List ℕ)) (files : Files) (shelf_rose sink_rose : Type 
   unread-outcome result piece shelf (inr (inr (seven, none))) = no_memory seven (inl none) (inr (shelf, rw none (IsFront-nothing cannot_read)))
 
   -- the program's text begins with nothing
-  starts-nothing : (script : List ℕ) → Tells words (RunScript alpha 2 script) → Starts words files []
-  starts-nothing script tells = by_file (held files script) refl
+  starts-nothing : (k : Kind) (n : ℕ) (script : List ℕ) → Tells words (RunScript k n script) → Starts words files []
+  starts-nothing k n script tells = by_file (held files script) refl
     where
       by_length : (bytes : List ℕ) → held files script ≡ Some bytes → Starts words files []
       by_length bytes is =
           elim (cases_lt file_limit (length bytes)) [
-            | inl long ↦ whole too_long 4 (told (RunScript alpha 2 script) tells (rw is (inl (long, refl, refl)))) (IsFront-nothing too_long)
-            | inr within ↦ lines (RunScript alpha 2 script) tells (
+            | inl long ↦ whole too_long 4 (told (RunScript k n script) tells (rw is (inl (long, refl, refl)))) (IsFront-nothing too_long)
+            | inr within ↦ lines (RunScript k n script) tells (
               bytes,
               is,
               within,
-              record { done = []; left = lines_of bytes; all = refl; replies = []; new = empty_state alpha 2; run = (refl, refl); begins = IsFront-nothing [] },
+              record { done = []; left = lines_of bytes; all = refl; replies = []; new = empty_state k n; run = (refl, refl); begins = IsFront-nothing [] },
             )
           ]
 
       by_file : (o : Option (List ℕ)) → held files script ≡ o → Starts words files []
-      by_file None is = whole cannot_read 5 (told (RunScript alpha 2 script) tells (rw is (refl, refl))) (IsFront-nothing cannot_read)
+      by_file None is = whole cannot_read 5 (told (RunScript k n script) tells (rw is (refl, refl))) (IsFront-nothing cannot_read)
       by_file (Some bytes) is = by_length bytes is
 
   -- a script that was fetched and obeyed
-  script-outcome : (script bytes : List ℕ) (obeyed : Result Bool PutFault) (piece : List ℕ) → Tells words (RunScript alpha 2 script) → held files script ≡ Some bytes → length bytes ≤ file_limit
-      → (obeyed ≡ Err Failed → sink_rose) → IsObeyed (empty_state alpha 2) bytes obeyed piece → Outcome words files shelf_rose sink_rose (status_of obeyed) piece
-  script-outcome script bytes (Ok false) piece tells is within rose p =
-      answered (lit≤ tt) (told (RunScript alpha 2 script) tells (rw is (inr (within, p))))
-  script-outcome script bytes (Ok true) piece tells is within rose p =
-      answered (lit≤ tt) (told (RunScript alpha 2 script) tells (rw is (inr (within, p))))
-  script-outcome script bytes (Err Failed) piece tells is within rose p =
-      unwritten refl (rose refl) (inl (lines (RunScript alpha 2 script) tells (bytes, is, within, p)))
-  script-outcome script bytes (Err NoMemory) piece tells is within rose p =
-      no_memory refl p.0 (inl (lines (RunScript alpha 2 script) tells (bytes, is, within, p.1)))
+  script-outcome : (k : Kind) (n : ℕ) (script bytes : List ℕ) (obeyed : Result Bool PutFault) (piece : List ℕ) → Tells words (RunScript k n script) → held files script ≡ Some bytes → length bytes ≤ file_limit
+      → (obeyed ≡ Err Failed → sink_rose) → IsObeyed (empty_state k n) bytes obeyed piece → Outcome words files shelf_rose sink_rose (status_of obeyed) piece
+  script-outcome k n script bytes (Ok false) piece tells is within rose p =
+      answered (lit≤ tt) (told (RunScript k n script) tells (rw is (inr (within, p))))
+  script-outcome k n script bytes (Ok true) piece tells is within rose p =
+      answered (lit≤ tt) (told (RunScript k n script) tells (rw is (inr (within, p))))
+  script-outcome k n script bytes (Err Failed) piece tells is within rose p =
+      unwritten refl (rose refl) (inl (lines (RunScript k n script) tells (bytes, is, within, p)))
+  script-outcome k n script bytes (Err NoMemory) piece tells is within rose p =
+      no_memory refl p.0 (inl (lines (RunScript k n script) tells (bytes, is, within, p.1)))
 
   -- what was kept back is handed on
   flushed-outcome : (sink_rose' : Type 0) (status : ℕ) (piece : List ℕ) → (sink_rose → sink_rose') → Outcome words files shelf_rose sink_rose status piece
@@ -104,21 +104,21 @@ Ends-unread before after words files shelf_rose sink_rose result shelf w = recor
   outcome = unread-outcome words files shelf_rose sink_rose result w.piece shelf w.is;
 }
 
-pub Ends-nothing : (o : Option (List ℕ)) (words : List (List ℕ)) (files : Files) (shelf_rose sink_rose : Type 0) (script : List ℕ)
-    → Tells words (RunScript alpha 2 script) → Ends o o words files shelf_rose sink_rose 7
-Ends-nothing o words files shelf_rose sink_rose script tells = record {
+pub Ends-nothing : (k : Kind) (n : ℕ) (o : Option (List ℕ)) (words : List (List ℕ)) (files : Files) (shelf_rose sink_rose : Type 0) (script : List ℕ)
+    → Tells words (RunScript k n script) → Ends o o words files shelf_rose sink_rose 7
+Ends-nothing k n o words files shelf_rose sink_rose script tells = record {
   text = [];
   appended = Appended-nothing o;
-  outcome = no_memory refl (inl refl) (inl (starts-nothing words files shelf_rose sink_rose script tells));
+  outcome = no_memory refl (inl refl) (inl (starts-nothing words files shelf_rose sink_rose k n script tells));
 }
 
-pub Ends-script : (before after : Option (List ℕ)) (words : List (List ℕ)) (files : Files) (shelf_rose sink_rose : Type 0) (script bytes : List ℕ) (obeyed : Result Bool PutFault)
-    → Tells words (RunScript alpha 2 script) → held files script ≡ Some bytes → length bytes ≤ file_limit → (obeyed ≡ Err Failed → sink_rose)
-    → ObeysScript before after (empty_state alpha 2) bytes obeyed → Ends before after words files shelf_rose sink_rose (status_of obeyed)
-Ends-script before after words files shelf_rose sink_rose script bytes obeyed tells is within rose o = record {
+pub Ends-script : (k : Kind) (n : ℕ) (before after : Option (List ℕ)) (words : List (List ℕ)) (files : Files) (shelf_rose sink_rose : Type 0) (script bytes : List ℕ) (obeyed : Result Bool PutFault)
+    → Tells words (RunScript k n script) → held files script ≡ Some bytes → length bytes ≤ file_limit → (obeyed ≡ Err Failed → sink_rose)
+    → ObeysScript before after (empty_state k n) bytes obeyed → Ends before after words files shelf_rose sink_rose (status_of obeyed)
+Ends-script k n before after words files shelf_rose sink_rose script bytes obeyed tells is within rose o = record {
   text = o.piece;
   appended = o.appended;
-  outcome = script-outcome words files shelf_rose sink_rose script bytes obeyed o.piece tells is within rose o.is;
+  outcome = script-outcome words files shelf_rose sink_rose k n script bytes obeyed o.piece tells is within rose o.is;
 }
 
 pub Ends-flushed : (before middle after : Option (List ℕ)) (words : List (List ℕ)) (files : Files) (shelf_rose sink_rose sink_rose' : Type 0) (status : ℕ)

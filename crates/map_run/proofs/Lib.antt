@@ -1,8 +1,4 @@
 pub mod Commands
-pub mod BareStates
-pub mod Digits
-pub mod ListingRows
-pub mod PolygonWords
 pub mod WritingFacts
 pub mod FirstLines
 pub mod RowTexts

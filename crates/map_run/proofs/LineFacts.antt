@@ -1,5 +1,5 @@
 -- What a line answers, from what its reply is.
-use Rattle.std.proofs.Common.{◌≡◌, ℕ, List, [], ◌∷◌, Option, Some, None, Result, Ok, Err, Bool, true, false, ◌||◌, refl, sym, ◌∙◌, subst, inl, inr, OnOk, IfErr}
+use Rattle.std.proofs.Common.{◌≡◌, ◌≢◌, ℕ, List, [], ◌∷◌, Option, Some, None, Result, Ok, Err, Bool, true, false, ◌||◌, refl, sym, ◌∙◌, subst, inl, inr, OnOk, IfErr}
 use Rattle.std.proofs.lemmas.List.{append-nil}
 use Rattle.map_io.specs.declared.sink.PutFault.{PutFault}
 use Rattle.map_io.specs.declared.sink.PutFault.TheVariants.{Failed, NoMemory}
@@ -8,27 +8,25 @@ use Rattle.map_defs.specs.State.{State}
 use Rattle.map_defs.specs.Script.{Line, line_of}
 use Rattle.map_defs.specs.Text.{Reply, Refused, reply_text, replies_text, is_refused, any_refused}
 use Rattle.map_defs.specs.Refusal.{Syntax}
-use Rattle.map_defs.specs.Machine.{Step, obeyed, unread}
-use Rattle.map_run.specs.Writing.{Writes, IsWritten, IsAnsweredStep, AnswersStep, IsAnswered, AnswersLine}
+use Rattle.map_defs.specs.Machine.{Step, Obeys, blank, obeyed, unread}
+use Rattle.map_run.specs.Writing.{Writes, IsWritten, IsSaid, Says, IsAnswered, AnswersLine}
+use Rattle.map_run.proofs.WritingFacts.{Appended-nothing}
 
--- the reply is written, or cut short
-step-is : (s new : State) (line : Line) (reply : Reply) (written : Result (Unit {0}) PutFault) (result : Result Bool PutFault) (refused : Bool) (piece : List ℕ)
-    → Step s line reply new → refused ≡ is_refused reply → OnOk written (result ≡ Ok refused) → IfErr written (λ (fault : PutFault). result ≡ Err fault)
-    → IsWritten (reply_text reply) written piece → IsAnsweredStep s new line result piece
-step-is s new line reply (Ok done) result refused piece step same ok err p =
-    rw ok (reply, step, p, same)
-step-is s new line reply (Err Failed) result refused piece step same ok err p =
-    rw err (reply, new, step, p)
-step-is s new line reply (Err NoMemory) result refused piece step same ok err p =
-    rw err (p.0, inr (reply, new, step, p.1))
+-- a reply that was written, or cut short, and is told to be a refusal or not
+said-is : (reply : Reply) (written : Result (Unit {0}) PutFault) (result : Result Bool PutFault) (refused : Bool) (piece : List ℕ)
+    → refused ≡ is_refused reply → OnOk written (result ≡ Ok refused) → IfErr written (λ (fault : PutFault). result ≡ Err fault)
+    → IsWritten (reply_text reply) written piece → IsSaid reply result piece
+said-is reply (Ok done) result refused piece same ok err p = rw ok (p, same)
+said-is reply (Err Failed) result refused piece same ok err p = rw err p
+said-is reply (Err NoMemory) result refused piece same ok err p = rw err p
 
-pub AnswersStep-from : (before after : Option (List ℕ)) (s new : State) (line : Line) (reply : Reply) (written : Result (Unit {0}) PutFault) (result : Result Bool PutFault) (refused : Bool)
-    → Step s line reply new → refused ≡ is_refused reply → OnOk written (result ≡ Ok refused) → IfErr written (λ (fault : PutFault). result ≡ Err fault)
-    → Writes before after written (reply_text reply) → AnswersStep before after s new line result
-AnswersStep-from before after s new line reply written result refused step same ok err w = record {
+pub Says-from : (before after : Option (List ℕ)) (reply : Reply) (written : Result (Unit {0}) PutFault) (result : Result Bool PutFault) (refused : Bool)
+    → refused ≡ is_refused reply → OnOk written (result ≡ Ok refused) → IfErr written (λ (fault : PutFault). result ≡ Err fault)
+    → Writes before after written (reply_text reply) → Says before after reply result
+Says-from before after reply written result refused same ok err w = record {
   piece = w.piece;
   appended = w.appended;
-  is = step-is s new line reply written result refused w.piece step same ok err w.is;
+  is = said-is reply written result refused w.piece same ok err w.is;
 }
 
 one-reply : (reply : Reply) → reply_text reply ≡ replies_text (reply ∷ [])
@@ -41,41 +39,41 @@ one-refused reply = or_false (is_refused reply)
     or_false true = refl
     or_false false = refl
 
-line-is : (s new : State) (words : List (List ℕ)) (line : Line) (result : Result Bool PutFault) (piece : List ℕ)
-    → line_of words ≡ Some line → IsAnsweredStep s new line result piece → IsAnswered s new words result piece
-line-is s new words line (Ok refused) piece told p =
-    (p.0 ∷ [], obeyed line p.0 told p.1 refl, p.2 ∙ one-reply p.0, p.3 ∙ one-refused p.0)
-line-is s new words line (Err Failed) piece told p =
-    (p.0 ∷ [], p.1, obeyed line p.0 told p.2 refl, subst (IsFront piece) (one-reply p.0) p.3)
-line-is s new words line (Err NoMemory) piece told (ends, inl none) = (ends, inl none)
-line-is s new words line (Err NoMemory) piece told (ends, inr p) =
-    (ends, inr (p.0 ∷ [], p.1, obeyed line p.0 told p.2 refl, subst (IsFront piece) (one-reply p.0) p.3))
+-- what a line answers, where it has one reply
+answer-is : (s new : State) (words : List (List ℕ)) (reply : Reply) (result : Result Bool PutFault) (piece : List ℕ)
+    → Obeys s words (reply ∷ []) new → IsSaid reply result piece → IsAnswered s new words result piece
+answer-is s new words reply (Ok refused) piece obeys p =
+    (reply ∷ [], obeys, p.0 ∙ one-reply reply, p.1 ∙ one-refused reply)
+answer-is s new words reply (Err Failed) piece obeys p =
+    (reply ∷ [], new, obeys, subst (IsFront piece) (one-reply reply) p)
+answer-is s new words reply (Err NoMemory) piece obeys p =
+    (p.0, inr (reply ∷ [], new, obeys, subst (IsFront piece) (one-reply reply) p.1))
 
--- a line that was read
-pub AnswersLine-from : (before after : Option (List ℕ)) (s new : State) (words : List (List ℕ)) (line : Line) (result : Result Bool PutFault)
-    → line_of words ≡ Some line → AnswersStep before after s new line result → AnswersLine before after s new words result
-AnswersLine-from before after s new words line result told p = record {
+said-line : (before after : Option (List ℕ)) (s new : State) (words : List (List ℕ)) (reply : Reply) (result : Result Bool PutFault)
+    → Obeys s words (reply ∷ []) new → Says before after reply result → AnswersLine before after s new words result
+said-line before after s new words reply result obeys p = record {
   piece = p.piece;
   appended = p.appended;
-  is = line-is s new words line result p.piece told p.is;
+  is = answer-is s new words reply result p.piece obeys p.is;
 }
+
+-- a line that was read and obeyed
+pub AnswersLine-told : (before after : Option (List ℕ)) (s new : State) (words : List (List ℕ)) (line : Line) (reply : Reply) (result : Result Bool PutFault)
+    → line_of words ≡ Some line → Step s line reply new → Says before after reply result → AnswersLine before after s new words result
+AnswersLine-told before after s new words line reply result told step said =
+    said-line before after s new words reply result (obeyed line reply told step refl) said
 
 -- a line outside the grammar
-unread-is : (s : State) (words : List (List ℕ)) (written : Result (Unit {0}) PutFault) (result : Result Bool PutFault) (piece first : List ℕ) (more : List (List ℕ))
-    → words ≡ first ∷ more → line_of words ≡ None → OnOk written (result ≡ Ok true) → IfErr written (λ (fault : PutFault). result ≡ Err fault)
-    → IsWritten (reply_text (Refused Syntax)) written piece → IsAnswered s s words result piece
-unread-is s words (Ok done) result piece first more are none ok err p =
-    rw ok (Refused Syntax ∷ [], unread first more are none refl refl, p ∙ one-reply (Refused Syntax), refl)
-unread-is s words (Err Failed) result piece first more are none ok err p =
-    rw err (Refused Syntax ∷ [], s, unread first more are none refl refl, subst (IsFront piece) (one-reply (Refused Syntax)) p)
-unread-is s words (Err NoMemory) result piece first more are none ok err p =
-    rw err (p.0, inr (Refused Syntax ∷ [], s, unread first more are none refl refl, subst (IsFront piece) (one-reply (Refused Syntax)) p.1))
+pub AnswersLine-unread : (before after : Option (List ℕ)) (s : State) (words : List (List ℕ)) (result : Result Bool PutFault)
+    → words ≢ [] → line_of words ≡ None → Says before after (Refused Syntax) result → AnswersLine before after s s words result
+AnswersLine-unread before after s [] result some none said = absurd (some refl)
+AnswersLine-unread before after s (first ∷ more) result some none said =
+    said-line before after s s (first ∷ more) (Refused Syntax) result (unread first more refl none refl refl) said
 
-pub AnswersLine-unread : (before after : Option (List ℕ)) (s : State) (words : List (List ℕ)) (written : Result (Unit {0}) PutFault) (result : Result Bool PutFault) (first : List ℕ) (more : List (List ℕ))
-    → words ≡ first ∷ more → line_of words ≡ None → OnOk written (result ≡ Ok true) → IfErr written (λ (fault : PutFault). result ≡ Err fault)
-    → Writes before after written (reply_text (Refused Syntax)) → AnswersLine before after s s words result
-AnswersLine-unread before after s words written result first more are none ok err w = record {
-  piece = w.piece;
-  appended = w.appended;
-  is = unread-is s words written result w.piece first more are none ok err w.is;
-}
+-- nothing is written, for want of memory
+pub AnswersLine-nothing : (o : Option (List ℕ)) (s new : State) (words : List (List ℕ)) → AnswersLine o o s new words (Err NoMemory)
+AnswersLine-nothing o s new words = record { piece = []; appended = Appended-nothing o; is = (inl refl, inl refl) }
+
+-- a line without a word has no reply
+pub AnswersLine-blank : (o : Option (List ℕ)) (s : State) (words : List (List ℕ)) → words ≡ [] → AnswersLine o o s s words (Ok false)
+AnswersLine-blank o s words none = record { piece = []; appended = Appended-nothing o; is = ([], blank none refl refl, refl, refl) }

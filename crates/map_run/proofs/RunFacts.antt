@@ -8,7 +8,7 @@ use Rattle.map_io.specs.declared.sink.PutFault.TheVariants.{Failed, NoMemory}
 use Rattle.map_defs.specs.Outside.{Appended, IsFront}
 use Rattle.map_defs.specs.State.{State}
 use Rattle.map_defs.specs.Script.{words_of, lines_of}
-use Rattle.map_defs.specs.Text.{Reply, Done, Shown, Refused, reply_text, replies_text, is_refused, any_refused, ended, spaced, header_text, row_text, value_text}
+use Rattle.map_defs.specs.Text.{Reply, Done, Truth, Darts, Counts, Shown, Refused, reply_text, replies_text, is_refused, any_refused, ended, spaced, header_text, row_text, value_text}
 use Rattle.map_defs.specs.Refusal.{number, name}
 use Rattle.map_defs.specs.Machine.{Obeys, Run}
 use Rattle.map_defs.specs.Program.{EndsLine, Begins, run_status}
@@ -23,6 +23,10 @@ done_ends false text = inr (text, refl)
 
 reply_ends : (reply : Reply) → EndsLine (reply_text reply)
 reply_ends (Done first count) = done_ends (count == 0) (codes "ok" ++ spaced first ++ spaced count)
+reply_ends (Truth true) = inr (codes "true", refl)
+reply_ends (Truth false) = inr (codes "false", refl)
+reply_ends (Darts darts) = inr (_, refl)
+reply_ends (Counts counts) = inr (_, refl)
 reply_ends (Shown l) =
     let front : List ℕ = header_text l ++ flat_map row_text l.rows ++ flat_map value_text l.values in
     inr (front ++ codes "end", sym (append_assoc front (codes "end") (10 ∷ [])))

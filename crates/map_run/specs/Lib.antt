@@ -1,4 +1,4 @@
-pub mod Bare
+pub mod Commands
 pub mod Lines
 pub mod Writing
 pub mod Going

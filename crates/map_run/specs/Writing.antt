@@ -31,25 +31,21 @@ IsAnswered s new words (Ok refused) piece =
 IsAnswered s new words (Err Failed) piece = IsFrontOfLine s words piece
 IsAnswered s new words (Err NoMemory) piece = EndsLine piece × ((piece ≡ []) ⊎ IsFrontOfLine s words piece)
 
--- a front of the reply to a line that was read
-abbrev pub IsFrontOfStep : State → Line → List ℕ → Type 0
-IsFrontOfStep s line piece = (reply : Reply) × (new : State) × Step s line reply new × IsFront piece (reply_text reply)
-
-abbrev pub IsAnsweredStep : State → State → Line → Result Bool PutFault → List ℕ → Type 0
-IsAnsweredStep s new line (Ok refused) piece = (reply : Reply) × Step s line reply new × (piece ≡ reply_text reply) × (refused ≡ is_refused reply)
-IsAnsweredStep s new line (Err Failed) piece = IsFrontOfStep s line piece
-IsAnsweredStep s new line (Err NoMemory) piece = EndsLine piece × ((piece ≡ []) ⊎ IsFrontOfStep s line piece)
-
 pub record AnswersLine (before after : Option (List ℕ)) (s new : State) (words : List (List ℕ)) (result : Result Bool PutFault) : Type 0 where
   pub piece : List ℕ
   pub appended : Appended before after piece
   pub is : IsAnswered s new words result piece
 
--- the same of a line that was read
-pub record AnswersStep (before after : Option (List ℕ)) (s new : State) (line : Line) (result : Result Bool PutFault) : Type 0 where
+-- The reply was written whole, and it is told whether it is a refusal; or a front of it was written.
+abbrev pub IsSaid : Reply → Result Bool PutFault → List ℕ → Type 0
+IsSaid reply (Ok refused) piece = (piece ≡ reply_text reply) × (refused ≡ is_refused reply)
+IsSaid reply (Err Failed) piece = IsFront piece (reply_text reply)
+IsSaid reply (Err NoMemory) piece = EndsLine piece × IsFront piece (reply_text reply)
+
+pub record Says (before after : Option (List ℕ)) (reply : Reply) (result : Result Bool PutFault) : Type 0 where
   pub piece : List ℕ
   pub appended : Appended before after piece
-  pub is : IsAnsweredStep s new line result piece
+  pub is : IsSaid reply result piece
 
 -- the whole text was appended, and it ends with a line
 pub record HasWritten (before after : Option (List ℕ)) (text : List ℕ) : Type 0 where

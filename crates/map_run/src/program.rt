@@ -3,30 +3,40 @@ ghost use Rattle.std.specs.Prelude.{◌≡◌, ◌≢◌, ℕ, ◌⊎◌, ◌≤
 ghost use Rattle.map_defs.specs.Kind.{alpha};
 ghost use Rattle.map_defs.specs.State.{empty_state};
 ghost use Rattle.map_defs.specs.Outside.{Files, Rose};
-ghost use Rattle.map_defs.specs.Program.{RunScript, Tells, Needs, Known, IsNoCommand};
+ghost use Rattle.map_defs.specs.Program.{Tells, Needs, Known, IsNoCommand};
 ghost use Rattle.map_io.specs.Cause.{HasCause};
 ghost use Rattle.map_run.specs.Going.{ObeysScript};
+ghost use Rattle.map_run.specs.Commands.{number, command_of};
 ghost use Rattle.map_run.specs.Ending.{WritesLast, Ends, EndsWhole, status_of};
 
-use crate::{command, machine, script};
-use link_rows::Links;
+use crate::command::{Dimension, RunScript, read_command};
+use crate::{machine, script};
+use map_core::Map;
 use map_io::{FetchFault, PutFault, Shelf, Sink};
+use map_kind::{Alpha, Kind};
 use std::alloc::Global;
 
 /// No fetched file is longer, in bytes.
 const FILE_LIMIT: u64 = 16_777_216;
 
-/// Obeys a script from the empty map, writes the replies, and answers whether some line was refused.
-fn obey_script<S: Sink>(alloc: Global, script: &[u8], out: &mut S) -> Result<bool, PutFault>
-    ensures obeyed { ObeysScript (S.written out.old) (S.written out.new) (empty_state alpha 2) script.now result }
+/// Obeys a script from the empty map of a kind and a dimension, writes the replies, and answers whether some line was
+/// refused.
+fn obey_script<K: Kind, const DIM: usize, S: Sink>(
+    alloc: Global,
+    script: &[u8],
+    out: &mut S,
+) -> Result<bool, PutFault>
+    requires low { 2 ≤ DIM }
+    requires high { DIM ≤ 8 }
+    ensures obeyed { ObeysScript (S.written out.old) (S.written out.new) (empty_state K.kind DIM) script.now result }
     ensures cause { HasCause (S.faults out.old) (S.faults out.new) (IsErrOf result PutFault.Failed) }
 {
-    let mut links = Links::new(alloc);
+    let mut map = Map::<K, DIM>::new(alloc);
     let mut refused = false;
     let mut rest = Some(script);
     while let Some(text) = rest {
         let (line, after) = script::next_line(text);
-        refused = either(machine::obey_line(alloc, line, &mut links, out)?, refused);
+        refused = either(machine::obey_line(alloc, line, &mut map, out)?, refused);
         rest = after;
     }
     Ok(refused)
@@ -36,6 +46,23 @@ fn either(one: bool, other: bool) -> bool
     ensures { result ≡ (other || one) }
 {
     other || one
+}
+
+/// Obeys a script from the empty generalized map of a dimension.
+fn obey_in_dimension<S: Sink>(
+    alloc: Global,
+    dimension: Dimension,
+    script: &[u8],
+    out: &mut S,
+) -> Result<bool, PutFault>
+    ensures obeyed { ObeysScript (S.written out.old) (S.written out.new) (empty_state alpha (number dimension)) script.now result }
+    ensures cause { HasCause (S.faults out.old) (S.faults out.new) (IsErrOf result PutFault.Failed) }
+{
+    match dimension {
+        Dimension::Two => obey_script::<Alpha, 2, S>(alloc, script, out),
+        Dimension::Three => obey_script::<Alpha, 3, S>(alloc, script, out),
+        Dimension::Four => obey_script::<Alpha, 4, S>(alloc, script, out),
+    }
 }
 
 /// Writes the one line that ends the program, and answers the status.
@@ -64,11 +91,16 @@ fn script_status(obeyed: Result<bool, PutFault>) -> u8
     }
 }
 
-/// Fetches the script of this name, obeys it from the empty map and writes the replies; or writes the line that says why
-/// it was not fetched.
-fn run_script<F: Shelf, S: Sink>(alloc: Global, script: &str, shelf: &mut F, out: &mut S) -> u8
-    requires { F.may_ask shelf.old script.now }
-    ensures outcome { (words : List (List ℕ)) (files : Files) → Tells words (RunScript alpha 2 script.now)
+/// Fetches the script of the command, obeys it from the empty map and writes the replies; or writes the line that says
+/// why it was not fetched.
+fn run_script<F: Shelf, S: Sink>(
+    alloc: Global,
+    command: RunScript<'_>,
+    shelf: &mut F,
+    out: &mut S,
+) -> u8
+    requires { F.may_ask shelf.old command.entry.script.now }
+    ensures outcome { (words : List (List ℕ)) (files : Files) → Tells words (command_of command.entry)
         → F.holds shelf.old ≡ Some files →
         Ends (S.written out.old) (S.written out.new) words files
         (Rose (F.faults shelf.old) (F.faults shelf.new)) (Rose (S.faults out.old) (S.faults out.new)) result }
@@ -78,8 +110,13 @@ fn run_script<F: Shelf, S: Sink>(alloc: Global, script: &str, shelf: &mut F, out
     ensures unwritten { result ≡ 6 → Rose (S.faults out.old) (S.faults out.new) }
     ensures later { S.faults out.old ≤ S.faults out.new }
 {
-    match shelf.fetch(alloc, script, FILE_LIMIT) {
-        Ok(bytes) => script_status(obey_script(alloc, bytes.as_slice(), out)),
+    match shelf.fetch(alloc, command.script, FILE_LIMIT) {
+        Ok(bytes) => script_status(obey_in_dimension(
+            alloc,
+            command.dimension,
+            bytes.as_slice(),
+            out,
+        )),
         Err(FetchFault::Failed) => write_last(out, b"cannot read\n", 5),
         Err(FetchFault::TooLong { .. }) => write_last(out, b"too long\n", 4),
         Err(FetchFault::NoMemory) => 7,
@@ -105,8 +142,8 @@ fn answer<F: Shelf, S: Sink>(alloc: Global, words: &[String], shelf: &mut F, out
     ensures unwritten { result ≡ 6 → Rose (S.faults out.old) (S.faults out.new) }
     ensures later { S.faults out.old ≤ S.faults out.new }
 {
-    match command::script_name(words) {
-        Some(script) => run_script(alloc, script, shelf, out),
+    match read_command(words) {
+        Some(command) => run_script(alloc, command, shelf, out),
         None => write_last(out, b"usage\n", 2),
     }
 }
@@ -132,8 +169,8 @@ fn serve<F: Shelf, S: Sink>(alloc: Global, words: &[String], shelf: &mut F, out:
 /// Runs the program on its words, the program's name left out: it fetches the files that the words need from the shelf,
 /// puts the text that answers them to the sink, line by line, and answers its status.
 ///
-/// The words are `run g 2 - SCRIPT`: the script of that name is obeyed from the empty generalized map of dimension 2.
-/// Other words are answered by `usage`.
+/// The words are `run g DIM - SCRIPT`, where DIM is 2, 3 or 4: the script of that name is obeyed from the empty
+/// generalized map of that dimension. Other words are answered by `usage`.
 ///
 /// | status | when | text |
 /// |---|---|---|

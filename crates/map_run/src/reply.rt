@@ -1,72 +1,74 @@
 //! Replies, written line by line.
-ghost use Rattle.std.specs.Prelude.{◌≡◌, ℕ, ◌+◌, ◌++◌, ◌∷◌, [], IfOk, IsErrOf};
+ghost use Rattle.std.specs.Prelude.{◌≡◌, IsErrOf};
 ghost use Rattle.std.specs.List.{flat_map};
-ghost use Rattle.map_defs.specs.Rows.{row_at};
-ghost use Rattle.map_defs.specs.Text.{reply_text, listing_text, header_text, row_text};
-ghost use Rattle.map_defs.specs.Listing.{listing_with, live_rows_from};
+ghost use Rattle.map_defs.specs.Text.{reply_text, listing_text, header_text, row_text, value_text};
+ghost use Rattle.script_text.specs.Meanings.{reply_meaning};
 ghost use Rattle.map_io.specs.Cause.{HasCause};
-ghost use Rattle.map_run.specs.Bare.{state_of};
-ghost use Rattle.map_run.specs.Lines.{reply_meaning};
+ghost use Rattle.map_run.specs.Lines.{answer_meaning};
 ghost use Rattle.map_run.specs.Writing.{Writes};
 
-use crate::machine::Reply;
-use crate::text;
-use link_rows::Links;
+use crate::answer::Answer;
+use list_text::{ListRow, ListValue, Listing, append_header, append_row, append_value};
 use map_io::{PutFault, Sink};
-use map_kind::{Alpha, Dart};
-use std::alloc::{AllocError, Global};
+use script_text::{Reply, reply_text};
+use std::alloc::Global;
 
-/// The text of a reply of one line.
-fn reply_line(alloc: Global, reply: Reply) -> Result<Vec<u8>, AllocError>
-    ensures { IfOk result (λ text. text.items ≡ reply_text (reply_meaning reply)) }
+/// Writes an answer.
+pub fn write_answer<S: Sink>(alloc: Global, out: &mut S, answer: &Answer) -> Result<(), PutFault>
+    ensures written { Writes (S.written out.old) (S.written out.new) result
+        (reply_text (answer_meaning answer.now)) }
+    ensures cause { HasCause (S.faults out.old) (S.faults out.new) (IsErrOf result PutFault.Failed) }
 {
-    let mut line = Vec::new(alloc);
-    match reply {
-        Reply::Done { first, count } => text::append_done(&mut line, first, count)?,
-        Reply::Refused(refusal) => text::append_refusal(&mut line, refusal)?,
+    match answer {
+        Answer::Line(reply) => write_reply(alloc, out, reply),
+        Answer::Listing(listing) => write_listing(alloc, out, listing),
     }
-    Ok(line)
 }
 
 /// Writes a reply of one line.
-pub fn write_reply<S: Sink>(alloc: Global, out: &mut S, reply: Reply) -> Result<(), PutFault>
+fn write_reply<S: Sink>(alloc: Global, out: &mut S, reply: &Reply) -> Result<(), PutFault>
     ensures written { Writes (S.written out.old) (S.written out.new) result
-        (reply_text (reply_meaning reply)) }
+        (reply_text (reply_meaning reply.now)) }
     ensures cause { HasCause (S.faults out.old) (S.faults out.new) (IsErrOf result PutFault.Failed) }
 {
-    match reply_line(alloc, reply) {
+    match reply_text(alloc, reply) {
         Ok(line) => out.put(line.as_slice()),
         Err(_) => Err(PutFault::NoMemory),
     }
 }
 
-/// Writes the listing of a map without values.
-pub fn write_listing<S: Sink>(
+/// Writes a listing, each line in one piece.
+fn write_listing<S: Sink>(
     alloc: Global,
     out: &mut S,
-    links: &Links<Alpha, 2>,
+    listing: &Listing,
 ) -> Result<(), PutFault>
-    ensures written { Writes (S.written out.old) (S.written out.new) result
-        (listing_text (listing_with (state_of links.now.rows).present [])) }
+    ensures written { Writes (S.written out.old) (S.written out.new) result (listing_text listing.now) }
     ensures cause { HasCause (S.faults out.old) (S.faults out.new) (IsErrOf result PutFault.Failed) }
 {
     let mut line = Vec::new(alloc);
-    write_header(&mut line, out, links)?;
-    write_rows(&mut line, out, links)?;
+    write_header(&mut line, out, listing)?;
+    write_rows(&mut line, out, listing.rows.as_slice())?;
+    write_values(&mut line, out, listing.values.as_slice())?;
     out.put(b"end\n")
 }
 
 fn write_header<S: Sink>(
     line: &mut Vec<u8>,
     out: &mut S,
-    links: &Links<Alpha, 2>,
+    listing: &Listing,
 ) -> Result<(), PutFault>
-    ensures written { Writes (S.written out.old) (S.written out.new) result
-        (header_text (listing_with (state_of links.now.rows).present [])) }
+    ensures written { Writes (S.written out.old) (S.written out.new) result (header_text listing.now) }
     ensures cause { HasCause (S.faults out.old) (S.faults out.new) (IsErrOf result PutFault.Failed) }
 {
     line.clear();
-    match text::append_header(line, links) {
+    match append_header(
+        line,
+        listing.letter,
+        listing.dim,
+        listing.made,
+        listing.rows.len(),
+    ) {
         Ok(()) => out.put(line.as_slice()),
         Err(_) => Err(PutFault::NoMemory),
     }
@@ -75,34 +77,48 @@ fn write_header<S: Sink>(
 fn write_rows<S: Sink>(
     line: &mut Vec<u8>,
     out: &mut S,
-    links: &Links<Alpha, 2>,
+    rows: &[ListRow],
 ) -> Result<(), PutFault>
-    ensures written { Writes (S.written out.old) (S.written out.new) result
-        (flat_map row_text (live_rows_from 0 links.now.rows)) }
+    ensures written { Writes (S.written out.old) (S.written out.new) result (flat_map row_text rows.now) }
     ensures cause { HasCause (S.faults out.old) (S.faults out.new) (IsErrOf result PutFault.Failed) }
 {
-    for number in 0..links.made() {
-        write_row(line, out, links, Dart::new(number + 1).unwrap())?;
+    for row in rows {
+        write_row(line, out, row)?;
     }
     Ok(())
 }
 
-/// Writes the row of a dart, if it is live.
-fn write_row<S: Sink>(
-    line: &mut Vec<u8>,
-    out: &mut S,
-    links: &Links<Alpha, 2>,
-    dart: Dart,
-) -> Result<(), PutFault>
-    ensures written { Writes (S.written out.old) (S.written out.new) result
-        (flat_map row_text (live_rows_from dart (row_at links.now.rows dart ∷ []))) }
+fn write_row<S: Sink>(line: &mut Vec<u8>, out: &mut S, row: &ListRow) -> Result<(), PutFault>
+    ensures written { Writes (S.written out.old) (S.written out.new) result (row_text row.now) }
     ensures cause { HasCause (S.faults out.old) (S.faults out.new) (IsErrOf result PutFault.Failed) }
 {
-    if !links.is_live(dart) {
-        return Ok(());
-    }
     line.clear();
-    match text::append_row(line, links, dart) {
+    match append_row(line, row.dart, row.links.as_slice()) {
+        Ok(()) => out.put(line.as_slice()),
+        Err(_) => Err(PutFault::NoMemory),
+    }
+}
+
+fn write_values<S: Sink>(
+    line: &mut Vec<u8>,
+    out: &mut S,
+    values: &[ListValue],
+) -> Result<(), PutFault>
+    ensures written { Writes (S.written out.old) (S.written out.new) result (flat_map value_text values.now) }
+    ensures cause { HasCause (S.faults out.old) (S.faults out.new) (IsErrOf result PutFault.Failed) }
+{
+    for value in values {
+        write_value(line, out, value)?;
+    }
+    Ok(())
+}
+
+fn write_value<S: Sink>(line: &mut Vec<u8>, out: &mut S, value: &ListValue) -> Result<(), PutFault>
+    ensures written { Writes (S.written out.old) (S.written out.new) result (value_text value.now) }
+    ensures cause { HasCause (S.faults out.old) (S.faults out.new) (IsErrOf result PutFault.Failed) }
+{
+    line.clear();
+    match append_value(line, value.dim, value.place) {
         Ok(()) => out.put(line.as_slice()),
         Err(_) => Err(PutFault::NoMemory),
     }
