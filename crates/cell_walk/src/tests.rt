@@ -1,18 +1,19 @@
 ghost use Rattle.std.specs.Prelude.{◌≡◌};
 
 use crate::{cell, cells, components, counts, least, orbit, same};
-use link_rows::{Change, Edit, Links};
+use link_rows::{Change, Edit, Links, polygon_edit};
 use map_kind::{Alpha, Dart, Word};
 use std::alloc::{AllocError, Global};
 use std::process::Abort;
 use std::test::Fail;
 
 /// A triangle of the darts 1 to 6 and a square of the darts 7 to 14.
-fn triangle_and_square(rt: &impl Abort, alloc: Global) -> Links<Alpha, 2> {
+fn triangle_and_square(alloc: Global) -> Result<Links<Alpha, 2>, ReserveFault> {
     let mut links = Links::<Alpha, 2>::new(alloc);
-    assert!(rt; links.polygon(3).is_ok());
-    assert!(rt; links.polygon(4).is_ok());
-    links
+    links.reserve(14)?;
+    links.apply(&polygon_edit(alloc, &links, 3)?);
+    links.apply(&polygon_edit(alloc, &links, 4)?);
+    Ok(links)
 }
 
 fn dart(rt: &impl Abort, number: u32) -> Dart {

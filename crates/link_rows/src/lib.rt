@@ -12,4 +12,4 @@ mod tests;
 pub use dart_arena::{MADE_MAX, ReserveFault};
 pub use edit::{Change, Edit};
 pub use links::Links;
-pub use polygon::PolygonFault;
+pub use polygon::polygon_edit;

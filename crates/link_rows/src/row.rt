@@ -1,5 +1,4 @@
 ghost use Rattle.std.specs.Prelude.{◌≡◌, ℕ, ◌+◌, ◌≤◌, List, length, take, slice_index, slice_set};
-ghost use Rattle.map_defs.specs.Polygon.{row_of};
 ghost use Rattle.map_defs.specs.Edits.{free_row};
 
 use std::marker::Model;
@@ -29,17 +28,6 @@ impl<const DIM: usize> Row<DIM> {
         ensures { result ≡ free_row DIM }
     {
         Row { entries: [0; 9] }
-    }
-
-    /// The row of a dart that is linked by links 0 and 1 alone.
-    pub fn flat(zeroth: u32, first: u32) -> Self
-        requires low { 1 ≤ DIM }
-        requires high { DIM ≤ DIM_MAX }
-        ensures { result ≡ row_of DIM zeroth first }
-    {
-        Row {
-            entries: [zeroth, first, 0, 0, 0, 0, 0, 0, 0],
-        }
     }
 
     /// The entry of a link.

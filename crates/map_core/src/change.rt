@@ -1,0 +1,81 @@
+//! The changing lines.
+ghost use Rattle.std.specs.Prelude.{◌≡◌, ℕ, ◌↔◌, IsTrue};
+ghost use Rattle.map_defs.specs.Rows.{IsLive, links_of};
+ghost use Rattle.map_defs.specs.Script.{Polygon, Dart as MakeDart, Del};
+ghost use Rattle.map_core.specs.Calls.{Does};
+
+use crate::map::{Done, Map};
+use link_rows::{Edit, polygon_edit};
+use map_kind::{Dart, Kind, Refusal, Refused};
+use std::alloc::Global;
+
+impl<K: Kind, const DIM: usize> Map<K, DIM> {
+    /// Makes a polygon: a face of so many sides in a circle, with two darts a side in a generalized and one in a
+    /// combinatorial map.
+    ///
+    /// Refused as `BadCount` exactly where the number of sides is not from 3 to 65,536, and then as `Full` exactly where
+    /// more than 4,194,304 darts would have been made.
+    pub fn polygon(&mut self, alloc: Global, sides: u64) -> Result<Done, Refused>
+        ensures { Does self.old (Polygon sides) result self.new }
+    {
+        if sides < 3 || sides > 65536 {
+            return Err(Refused::Line(Refusal::BadCount));
+        }
+        let count = K::per_side() * sides as u32;
+        if !self.has_numbers(count) {
+            return Err(Refused::Line(Refusal::Full));
+        }
+        let first = self.links.made() + 1;
+        let edit = polygon_edit(alloc, &self.links, sides as u32)?;
+        self.make(&edit)?;
+        Ok(Done { first, count })
+    }
+
+    /// Makes one dart, which has no links.
+    ///
+    /// Refused as `Full` exactly where 4,194,304 darts were made.
+    pub fn dart(&mut self, alloc: Global) -> Result<Done, Refused>
+        ensures { Does self.old MakeDart result self.new }
+    {
+        if !self.has_numbers(1) {
+            return Err(Refused::Line(Refusal::Full));
+        }
+        let first = self.links.made() + 1;
+        let edit = Edit {
+            births: 1,
+            deaths: Vec::new(alloc),
+            changes: Vec::new(alloc),
+        };
+        self.make(&edit)?;
+        Ok(Done { first, count: 1 })
+    }
+
+    /// Ends a dart whose links are all free. Its number is not given again.
+    ///
+    /// Refused as `NoDart` exactly where no live dart has the number, and then as `Linked` exactly where some link of
+    /// the dart is not free.
+    pub fn del(&mut self, alloc: Global, dart: u64) -> Result<Done, Refused>
+        ensures { Does self.old (Del dart) result self.new }
+    {
+        let Some(dart) = self.live_dart(dart) else {
+            return Err(Refused::Line(Refusal::NoDart));
+        };
+        if !self.is_alone(dart) {
+            return Err(Refused::Line(Refusal::Linked));
+        }
+        let edit = Edit {
+            births: 0,
+            deaths: vec![in alloc; dart]?,
+            changes: Vec::new(alloc),
+        };
+        self.make(&edit)?;
+        Ok(Done::NONE)
+    }
+
+    /// Whether all links of a dart are free.
+    fn is_alone(&self, dart: Dart) -> bool
+        ensures { IsTrue result ↔ ((i : ℕ) → links_of self.now.present.rows i dart ≡ 0) }
+    {
+        (0..self.links.dimension() + 1).all(|link| self.links.is_free(dart, link))
+    }
+}

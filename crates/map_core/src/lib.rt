@@ -1,0 +1,16 @@
+//! The map that obeys the lines of a script, one call a line.
+//!
+//! Each call does what the plain map machine does for its line: it gives the same answer, it is refused exactly where
+//! the machine refuses the line and with the same refusal, and it leaves the same state. Only want of memory is the
+//! call's own, and it leaves the state as it was. The numbers that calls take are those of a script: any u64, where 0
+//! and whatever names no live dart is refused.
+#![tactic(auto)]
+
+mod change;
+mod list;
+mod map;
+mod question;
+#[cfg(test)]
+mod tests;
+
+pub use map::{Done, Map};

@@ -1,0 +1,76 @@
+//! The listing of a map.
+ghost use Rattle.std.specs.Prelude.{◌≡◌, ℕ, ◌≤◌, IfOk, OnOk, ◌++◌, ◌∷◌, [], map};
+ghost use Rattle.std.specs.List.{range_with_len};
+ghost use Rattle.map_defs.specs.Rows.{row_at, links_of};
+ghost use Rattle.map_defs.specs.Listing.{live_rows_from};
+ghost use Rattle.map_defs.specs.Script.{Show};
+ghost use Rattle.map_defs.specs.Machine.{Step};
+ghost use Rattle.map_defs.specs.Text.{Shown};
+
+use crate::map::Map;
+use link_rows::Links;
+use list_text::{ListRow, Listing};
+use map_kind::{Dart, Kind};
+use std::alloc::{AllocError, Global};
+
+impl<K: Kind, const DIM: usize> Map<K, DIM> {
+    /// The listing of the map: its live darts, ascending, with their links.
+    pub fn listing(&self, alloc: Global) -> Result<Listing, AllocError>
+        ensures { IfOk result (λ listing. Step self.now Show (Shown listing) self.now) }
+    {
+        Ok(Listing {
+            letter: K::letter(),
+            dim: self.links.dimension() as u32,
+            made: self.links.made(),
+            rows: list_rows(alloc, &self.links)?,
+            values: Vec::new(alloc),
+        })
+    }
+}
+
+/// The rows of the live darts, ascending.
+fn list_rows<K: Kind, const DIM: usize>(
+    alloc: Global,
+    links: &Links<K, DIM>,
+) -> Result<Vec<ListRow>, AllocError>
+    ensures { IfOk result (λ rows. rows.items ≡ live_rows_from 0 links.now.rows) }
+{
+    let mut rows = Vec::new(alloc);
+    for number in 0..links.made() {
+        list_row(alloc, links, Dart::new(number + 1).unwrap(), &mut rows)?;
+    }
+    Ok(rows)
+}
+
+/// Lists the row of a dart, if it is live.
+fn list_row<K: Kind, const DIM: usize>(
+    alloc: Global,
+    links: &Links<K, DIM>,
+    dart: Dart,
+    rows: &mut Vec<ListRow>,
+) -> Result<(), AllocError>
+    ensures { OnOk result (rows.new.items ≡ rows.old.items ++ live_rows_from dart (row_at links.now.rows dart ∷ [])) }
+{
+    if !links.is_live(dart) {
+        return Ok(());
+    }
+    let links = entries(alloc, links, dart)?;
+    rows.push(ListRow { dart, links })?;
+    Ok(())
+}
+
+/// The entries of a dart: the dart at each link from 0 on, 0 where the link is free.
+fn entries<K: Kind, const DIM: usize>(
+    alloc: Global,
+    links: &Links<K, DIM>,
+    dart: Dart,
+) -> Result<Vec<u32>, AllocError>
+    ensures { IfOk result (λ entries. entries.items
+        ≡ map (λ (i : ℕ). links_of links.now.rows i dart) (range_with_len 0 (DIM + 1))) }
+{
+    let mut entries = Vec::new(alloc);
+    for link in 0..links.dimension() + 1 {
+        entries.push(links.link(dart, link).map_or(0, Dart::number))?;
+    }
+    Ok(entries)
+}

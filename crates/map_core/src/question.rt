@@ -1,0 +1,71 @@
+//! The questions, which change nothing.
+ghost use Rattle.std.specs.Prelude.{IfOk};
+ghost use Rattle.map_defs.specs.Script.{Cell, Same, Free, Count};
+ghost use Rattle.map_defs.specs.Machine.{Step};
+ghost use Rattle.map_defs.specs.Text.{Darts, Truth, Counts};
+ghost use Rattle.map_core.specs.Calls.{Answers, Tells};
+
+use crate::map::Map;
+use map_kind::{Dart, Kind, Refusal, Refused};
+use std::alloc::{AllocError, Global};
+
+impl<K: Kind, const DIM: usize> Map<K, DIM> {
+    /// The darts of a dart's cell of a dimension, ascending. It costs the size of the cell times a logarithm.
+    ///
+    /// Refused as `BadDim` exactly where the dimension is above the map's, and then as `NoDart` exactly where no live
+    /// dart has the number.
+    pub fn cell(&self, alloc: Global, dim: u64, dart: u64) -> Result<Vec<Dart>, Refused>
+        ensures { Answers self.now (Cell dim dart) (λ darts. Darts darts.items) result }
+    {
+        let Some(dim) = self.dimension(dim) else {
+            return Err(Refused::Line(Refusal::BadDim));
+        };
+        let Some(dart) = self.live_dart(dart) else {
+            return Err(Refused::Line(Refusal::NoDart));
+        };
+        Ok(cell_walk::cell(alloc, &self.links, dim, dart)?)
+    }
+
+    /// Whether two darts lie in the same cell of a dimension. It costs the size of the first dart's cell times a
+    /// logarithm.
+    ///
+    /// Refused as `BadDim` exactly where the dimension is above the map's, and then as `NoDart` exactly where no live
+    /// dart has one of the numbers.
+    pub fn same(&self, alloc: Global, dim: u64, dart: u64, other: u64) -> Result<bool, Refused>
+        ensures { Answers self.now (Same dim dart other) Truth result }
+    {
+        let Some(dim) = self.dimension(dim) else {
+            return Err(Refused::Line(Refusal::BadDim));
+        };
+        let Some(dart) = self.live_dart(dart) else {
+            return Err(Refused::Line(Refusal::NoDart));
+        };
+        let Some(other) = self.live_dart(other) else {
+            return Err(Refused::Line(Refusal::NoDart));
+        };
+        Ok(cell_walk::same(alloc, &self.links, dim, dart, other)?)
+    }
+
+    /// Whether a link of a dart is free. It takes no memory.
+    ///
+    /// Refused as `BadDim` exactly where the link is above the map's dimension, and then as `NoDart` exactly where no
+    /// live dart has the number.
+    pub fn free(&self, link: u64, dart: u64) -> Result<bool, Refusal>
+        ensures { Tells self.now (Free link dart) Truth result }
+    {
+        let Some(link) = self.dimension(link) else {
+            return Err(Refusal::BadDim);
+        };
+        let Some(dart) = self.live_dart(dart) else {
+            return Err(Refusal::NoDart);
+        };
+        Ok(self.links.is_free(dart, link))
+    }
+
+    /// How many live darts, cells of dimensions 0 to `DIM`, and components there are, in this order.
+    pub fn count(&self, alloc: Global) -> Result<Vec<u64>, AllocError>
+        ensures { IfOk result (λ counts. Step self.now Count (Counts counts.items) self.now) }
+    {
+        cell_walk::counts(alloc, &self.links)
+    }
+}

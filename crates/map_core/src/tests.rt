@@ -1,0 +1,1 @@
+//! What no clause says: that calls are obeyed where memory is there.
