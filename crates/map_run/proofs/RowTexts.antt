@@ -1,8 +1,11 @@
 -- The texts of a list of lines, one after another.
-use Rattle.std.proofs.Common.{◌≡◌, ℕ, ◌+◌, ◌<◌, List, [], ◌∷◌, ◌++◌, length, take, drop, slice_index_or, refl, sym, ap, ◌∙◌, inl, inr}
+use Rattle.std.proofs.Common.{◌≡◌, ℕ, ◌+◌, ◌<◌, List, [], ◌∷◌, ◌++◌, length, take, drop, slice_index_or, refl, sym, ap, ◌∙◌, inl, inr, codes}
 use Rattle.std.specs.List.{flat_map}
 use Rattle.std.proofs.lemmas.Grind.{flat_map-append}
 use Rattle.std.proofs.lemmas.List.{append-nil, take_more, take-append-drop}
+use Rattle.map_defs.specs.Listing.{ListRow, ListValue}
+use Rattle.map_defs.specs.Text.{row_text, value_text, spaced, spaced_signed}
+use Rattle.std.specs.Fmt.{decimal}
 use Rattle.map_defs.specs.Program.{EndsLine}
 use Rattle.map_run.proofs.WritingFacts.{EndsLine-then}
 
@@ -20,3 +23,9 @@ module _ {X : Type 0} (text : X → List ℕ) where
   pub texts-end : ((x : X) → EndsLine (text x)) → (xs : List X) → EndsLine (flat_map text xs)
   texts-end ends [] = inl refl
   texts-end ends (x ∷ xs) = EndsLine-then (text x) (flat_map text xs) (ends x) (texts-end ends xs)
+
+pub row-ends : (row : ListRow) → EndsLine (row_text row)
+row-ends row = inr (decimal row.dart ++ 58 ∷ [] ++ flat_map spaced row.links, refl)
+
+pub value-ends : (value : ListValue) → EndsLine (value_text value)
+value-ends value = inr (codes "val" ++ spaced value.dim ++ spaced value.dart ++ spaced_signed value.value.a ++ spaced_signed value.value.b ++ spaced_signed value.value.c, refl)

@@ -25,8 +25,8 @@ reply_ends : (reply : Reply) → EndsLine (reply_text reply)
 reply_ends (Done first count) = done_ends (count == 0) (codes "ok" ++ spaced first ++ spaced count)
 reply_ends (Truth true) = inr (codes "true", refl)
 reply_ends (Truth false) = inr (codes "false", refl)
-reply_ends (Darts darts) = inr (_, refl)
-reply_ends (Counts counts) = inr (_, refl)
+reply_ends (Darts darts) = inr (codes "cell" ++ flat_map spaced darts, refl)
+reply_ends (Counts counts) = inr (codes "count" ++ flat_map spaced counts, refl)
 reply_ends (Shown l) =
     let front : List ℕ = header_text l ++ flat_map row_text l.rows ++ flat_map value_text l.values in
     inr (front ++ codes "end", sym (append_assoc front (codes "end") (10 ∷ [])))

@@ -13,6 +13,7 @@ pub enum Dimension {
 }
 
 /// The command `run g DIM - SCRIPT`: run a script over the empty generalized map of a dimension.
+#[derive(Clone, Copy, Debug, PartialEq, Eq)]
 pub struct RunScript<'a> {
     pub dimension: Dimension,
     /// The name of the script.

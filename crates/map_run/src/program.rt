@@ -99,7 +99,7 @@ fn run_script<F: Shelf, S: Sink>(
     shelf: &mut F,
     out: &mut S,
 ) -> u8
-    requires { F.may_ask shelf.old command.entry.script.now }
+    requires { F.may_ask shelf.old command.script.now }
     ensures outcome { (words : List (List ℕ)) (files : Files) → Tells words (command_of command.entry)
         → F.holds shelf.old ≡ Some files →
         Ends (S.written out.old) (S.written out.new) words files

@@ -1,17 +1,17 @@
 use Rattle.std.proofs.Common.{map, string_bytes, refl, inl, inr, lit≤}
-use Rattle.map_defs.specs.Kind.{alpha}
 use Rattle.map_defs.specs.Outside.{Rose}
-use Rattle.map_defs.specs.Program.{RunScript, untold, usage}
+use Rattle.map_defs.specs.Program.{untold, usage}
+use Rattle.map_run.specs.Commands.{command_of}
 use Rattle.map_run.proofs.EndingFacts.{Ends-last}
 use Rattle.map_run.proofs.program.answer.Goals as goal
 
 pub run_script-requires : goal.run_script-requires
-run_script-requires g c = c.requires c.in-Some.script.now (RunScript alpha 2 c.in-Some.script.now, c.in-Some.ensures.told, refl)
+run_script-requires g c = c.requires c.in-Some.command.script.now (command_of c.in-Some.command, c.in-Some.ensures.told, refl)
 
 pub returns-in-Some-clause-outcome : goal.returns-in-Some-clause-outcome
 returns-in-Some-clause-outcome g c = λ files known. elim known [
   | inl holds ↦ c.run_script.ensures.outcome (map string_bytes c.args.words.now) files c.in-Some.ensures.told holds
-  | inr needless ↦ absurd (needless c.in-Some.script.now (RunScript alpha 2 c.in-Some.script.now, c.in-Some.ensures.told, refl))
+  | inr needless ↦ absurd (needless c.in-Some.command.script.now (command_of c.in-Some.command, c.in-Some.ensures.told, refl))
 ]
 
 pub returns-in-None-clause-outcome : goal.returns-in-None-clause-outcome

@@ -1,8 +1,6 @@
 use Rattle.std.proofs.Common.{◌≡◌, ℕ, ◌≤◌, List, ◌++◌}
-use Rattle.map_defs.specs.Kind.{alpha}
 use Rattle.map_defs.specs.State.{empty_state}
 use Rattle.map_defs.specs.Script.{lines_of}
-use Rattle.map_run.specs.Bare.{state_of}
 use Rattle.map_run.specs.Lines.{lines_after}
 use Rattle.map_run.specs.Going.{IsGoing}
 use Rattle.map_run.proofs.Rest.{rest_size}
@@ -11,7 +9,7 @@ use Rattle.map_run.proofs.program.obey_script.Given as goal
 abbrev pub invariant-loop-rest : goal.invariant-loop-rest
 invariant-loop-rest g l =
     ((done : List (List ℕ)) × (lines_of l.fn.script ≡ done ++ lines_after l.rest)
-    × IsGoing (empty_state alpha 2) (state_of l.links.rows) done l.refused (g.S.Sink.written l.fn.out) (g.S.Sink.written l.out))
+    × IsGoing (empty_state g.K.Kind.kind g.row.DIM) l.map done l.refused (g.S.Sink.written l.fn.out) (g.S.Sink.written l.out))
     × (g.S.Sink.faults l.fn.out ≤ g.S.Sink.faults l.out)
 
 abbrev pub decreases-loop-rest : goal.decreases-loop-rest
