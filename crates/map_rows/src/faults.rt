@@ -67,15 +67,16 @@ impl Sink for Narrow {
     }
 }
 
-/// Words that are no command: none, an unknown one, one too few, one too many, the other kind, another dimension, a
-/// dimension with a leading zero, and a mesh file.
-const NO_COMMANDS: [&[&str]; 8] = [
+/// Words that are no command: none, an unknown one, one too few, one too many, the other kind, dimensions below and above
+/// those offered, a dimension with a leading zero, and a mesh file.
+const NO_COMMANDS: [&[&str]; 9] = [
     &[],
     &["fly"],
     &["run", "g", "2", "-"],
     &["run", "g", "2", "-", "s", "s"],
     &["run", "c", "2", "-", "s"],
-    &["run", "g", "3", "-", "s"],
+    &["run", "g", "1", "-", "s"],
+    &["run", "g", "5", "-", "s"],
     &["run", "g", "02", "-", "s"],
     &["run", "g", "2", "s", "s"],
 ];

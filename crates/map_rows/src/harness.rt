@@ -40,12 +40,12 @@ fn text(alloc: Global, word: &str) -> Result<String, AllocError>
     String::from_str(alloc, word)
 }
 
-/// Runs `run g 2 - s`, where the file `s` has these bytes.
-pub fn obey(alloc: Global, script: Vec<u8>) -> Result<Answer, AllocError> {
+/// Runs `run g DIM - s`, where the file `s` has these bytes.
+pub fn obey(alloc: Global, dim: &str, script: Vec<u8>) -> Result<Answer, AllocError> {
     let mut words = Vec::new(alloc);
     words.push(text(alloc, "run")?)?;
     words.push(text(alloc, "g")?)?;
-    words.push(text(alloc, "2")?)?;
+    words.push(text(alloc, dim)?)?;
     words.push(text(alloc, "-")?)?;
     words.push(text(alloc, "s")?)?;
     let mut files = Vec::new(alloc);
@@ -56,11 +56,16 @@ pub fn obey(alloc: Global, script: Vec<u8>) -> Result<Answer, AllocError> {
     run_over(alloc, words.as_slice(), files)
 }
 
-/// Runs each row's script and compares the text and the status.
-pub fn check_rows(rt: &impl Abort, alloc: Global, rows: &[Row]) -> Result<(), AllocError> {
+/// Runs each row's script in a dimension, and compares the text and the status.
+pub fn check_rows(
+    rt: &impl Abort,
+    alloc: Global,
+    dim: &str,
+    rows: &[Row],
+) -> Result<(), AllocError> {
     for row in rows {
         let script = Vec::from_slice(alloc, row.script.as_bytes())?;
-        let answer = obey(alloc, script)?;
+        let answer = obey(alloc, dim, script)?;
         assert_eq!(rt;
             answer.text.as_slice(),
             row.text.as_bytes(),

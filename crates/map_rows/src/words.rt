@@ -49,9 +49,9 @@ const ROWS: [Row; 14] = [
         status: 1,
     },
     Row {
-        script: "polygon 3 # a triangle\n# a comment\n",
-        text: "no 1 Syntax\nno 1 Syntax\n",
-        status: 1,
+        script: "polygon 3 # a triangle\n# a comment\n#\nshow# \u{7f} show\n",
+        text: "ok 1 6\ncellmap 1 g 2 6 6\n1: 2 6 0\n2: 1 3 0\n3: 4 2 0\n4: 3 5 0\n5: 6 4 0\n6: 5 1 0\nend\n",
+        status: 0,
     },
     Row {
         script: "polygon\u{b}3\npolygon \u{0}3\nshow\u{7f}\nsh\u{f6}w\n",
@@ -77,18 +77,18 @@ const ROWS: [Row; 14] = [
 
 #[test]
 fn words_of_lines(rt: HostRuntime) -> Result<(), AllocError> {
-    check_rows(&rt, rt.alloc(), &ROWS)
+    check_rows(&rt, rt.alloc(), "2", &ROWS)
 }
 
 /// A script may have 16,777,216 bytes and no more.
 #[test]
 fn limit_of_a_file(rt: HostRuntime) -> Result<(), AllocError> {
     let mut script = vec![in rt.alloc(); b' '; 16_777_216]?;
-    let answer = obey(rt.alloc(), script.clone()?)?;
+    let answer = obey(rt.alloc(), "2", script.clone()?)?;
     assert_eq!(rt; answer.text.len(), 0);
     assert_eq!(rt; answer.status, 0);
     script.push(b' ')?;
-    let answer = obey(rt.alloc(), script)?;
+    let answer = obey(rt.alloc(), "2", script)?;
     assert_eq!(rt; answer.text.as_slice(), b"too long\n".as_slice());
     assert_eq!(rt; answer.status, 4);
     Ok(())
