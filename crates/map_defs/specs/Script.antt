@@ -154,15 +154,22 @@ rule_line (i ∷ merge ∷ split ∷ []) = do
   Some (Rule dim merge_name split_name)
 rule_line _ = None
 
--- `set`, two numerals and three integers
-abbrev pub set_line : List (List ℕ) → Option Line
-set_line (i ∷ d ∷ x ∷ y ∷ z ∷ []) = do
-  dim ← numeral i
-  dart ← numeral d
+-- a value of three integers
+abbrev pub value : List (List ℕ) → Option values.Value
+value (x ∷ y ∷ z ∷ []) = do
   a ← integer x
   b ← integer y
   c ← integer z
-  Some (Set dim dart (record { a = a; b = b; c = c }))
+  Some (record { a = a; b = b; c = c })
+value _ = None
+
+-- `set`, two numerals and a value
+abbrev pub set_line : List (List ℕ) → Option Line
+set_line (i ∷ d ∷ words) = do
+  dim ← numeral i
+  dart ← numeral d
+  given ← value words
+  Some (Set dim dart given)
 set_line _ = None
 
 -- the name of these words, if they are one name

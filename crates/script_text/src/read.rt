@@ -1,15 +1,14 @@
 //! What a line tells.
-ghost use Rattle.std.specs.Prelude.{◌≡◌, ℕ, List, [], ◌∷◌, map, filter, IfOk, IfErr, IfNone, IfSome};
+ghost use Rattle.std.specs.Prelude.{◌≡◌, ℕ, List, [], ◌∷◌, map, filter, position, length, ◌≤◌, IfOk, IfErr, IfNone, IfSome};
 ghost use Rattle.std.specs.String.{string_bytes};
 ghost use Rattle.std.specs.Option.{option_map};
-ghost use Rattle.std.specs.List.{list_all, slice_split};
-ghost use Rattle.map_defs.specs.Script.{words_of, line_of, is_blank, is_word, is_text, uncommented, numerals, name, line_with, numbers_line, face_line, rule_line, set_line, only_name, found, alone, with_one, with_two, with_three};
-ghost use Rattle.map_defs.specs.Script as machine;
+ghost use Rattle.std.specs.List.{list_all, position_or_len, slice_split};
+ghost use Rattle.map_defs.specs.Script.{words_of, line_of, is_blank, is_word, is_text, is_comment_sign, uncommented, numerals, name, line_with, numbers_line, face_line, rule_line, set_line, value, only_name, found, alone, with_one, with_two, with_three};
 ghost use Rattle.script_text.specs.Meanings.{line_meaning, Tell, IsSyntax};
 ghost use Rattle.script_text.specs.Reading.{Reads, now_of, items_of};
 
 use crate::Line;
-use crate::word::{is_text, read_integer, read_name, read_numeral};
+use crate::word::{is_text, read_integer, read_name, read_numeral, read_text};
 use map_kind::{Refusal, Refused, Value};
 use std::alloc::{AllocError, Global};
 
@@ -35,10 +34,21 @@ pub fn read_line(alloc: Global, bytes: &[u8]) -> Result<Option<Line>, Refused>
 fn without_comment(line: &[u8]) -> &[u8]
     ensures { result.now ≡ uncommented line.now }
 {
-    match line.iter().position(|byte| *byte == b'#') {
-        Some(end) => &line[..end],
-        None => line,
-    }
+    &line[..comment_start(line)]
+}
+
+/// Where the first number sign stands, or else the end of the line.
+fn comment_start(line: &[u8]) -> usize
+    ensures place { result ≡ position_or_len is_comment_sign line.now }
+    ensures within { result ≤ length line.now }
+{
+    comment_sign(line).unwrap_or(line.len())
+}
+
+fn comment_sign(line: &[u8]) -> Option<usize>
+    ensures { result ≡ position is_comment_sign line.now }
+{
+    line.iter().position(|byte| *byte == b'#')
 }
 
 /// The pieces between spaces, tabs and carriage returns that are not empty.
@@ -60,22 +70,30 @@ fn is_blank(byte: u8) -> bool
 fn read_words(alloc: Global, first: &[u8], words: &[&[u8]]) -> Result<Line, Refused>
     ensures { Reads line_meaning (line_of (first.now ∷ map now_of words.now)) result }
 {
-    if !is_text(first) || !words.iter().all(|word| is_text(word)) {
+    let first = read_text(first).ok_or(Refusal::Syntax)?;
+    if !are_text(words) {
         return Err(Refused::Line(Refusal::Syntax));
     }
     read_text_words(alloc, first, words)
 }
 
-fn read_text_words(alloc: Global, first: &[u8], words: &[&[u8]]) -> Result<Line, Refused>
+fn are_text(words: &[&[u8]]) -> bool
+    ensures { result ≡ list_all (λ word. is_text word.now) words.now }
+{
+    words.iter().all(|word| is_text(word))
+}
+
+/// The line that words of text tell.
+fn read_text_words(alloc: Global, first: &str, words: &[&[u8]]) -> Result<Line, Refused>
     ensures { Reads line_meaning (line_with first.now (map now_of words.now)) result }
 {
     match first {
-        b"face" => read_face(alloc, words),
-        b"rule" => read_rule(alloc, words),
-        b"set" => read_set(words),
-        b"mark" => Ok(Line::Mark(read_only_name(alloc, words)?)),
-        b"undo" => Ok(Line::Undo(read_only_name(alloc, words)?)),
-        b"log" => Ok(Line::Log(read_only_name(alloc, words)?)),
+        "face" => read_face(alloc, words),
+        "rule" => read_rule(alloc, words),
+        "set" => read_set(words),
+        "mark" => Ok(Line::Mark(read_only_name(alloc, words)?)),
+        "undo" => Ok(Line::Undo(read_only_name(alloc, words)?)),
+        "log" => Ok(Line::Log(read_only_name(alloc, words)?)),
         _ => {
             let numbers = read_numerals(alloc, words)?;
             Ok(numbers_line(first, numbers.as_slice()).ok_or(Refusal::Syntax)?)
@@ -108,15 +126,30 @@ fn read_rule(alloc: Global, words: &[&[u8]]) -> Result<Line, Refused>
 fn read_set(words: &[&[u8]]) -> Result<Line, Refused>
     ensures { Reads line_meaning (set_line (map now_of words.now)) result }
 {
-    let [dim, dart, a, b, c] = words else {
-        return Err(Refused::Line(Refusal::Syntax));
-    };
-    let dim = read_numeral(dim).ok_or(Refusal::Syntax)?;
-    let dart = read_numeral(dart).ok_or(Refusal::Syntax)?;
-    let a = read_integer(a).ok_or(Refusal::Syntax)?;
-    let b = read_integer(b).ok_or(Refusal::Syntax)?;
-    let c = read_integer(c).ok_or(Refusal::Syntax)?;
-    Ok(Line::Set(dim, dart, Value { a, b, c }))
+    match words {
+        [dim, dart, integers @ ..] => {
+            let dim = read_numeral(dim).ok_or(Refusal::Syntax)?;
+            let dart = read_numeral(dart).ok_or(Refusal::Syntax)?;
+            let value = read_value(integers).ok_or(Refusal::Syntax)?;
+            Ok(Line::Set(dim, dart, value))
+        }
+        _ => Err(Refused::Line(Refusal::Syntax)),
+    }
+}
+
+/// The value that three words write.
+fn read_value(words: &[&[u8]]) -> Option<Value>
+    ensures { result ≡ value (map now_of words.now) }
+{
+    match words {
+        [a, b, c] => {
+            let a = read_integer(a)?;
+            let b = read_integer(b)?;
+            let c = read_integer(c)?;
+            Some(Value { a, b, c })
+        }
+        _ => None,
+    }
 }
 
 /// The name that a word writes.
@@ -149,7 +182,7 @@ fn read_numerals(alloc: Global, words: &[&[u8]]) -> Result<Vec<u64>, Refused>
 }
 
 /// The line of a first word and the numbers behind it.
-fn numbers_line(first: &[u8], numbers: &[u64]) -> Option<Line>
+fn numbers_line(first: &str, numbers: &[u64]) -> Option<Line>
     ensures { option_map line_meaning result ≡ numbers_line first.now numbers.now }
 {
     match numbers {
@@ -161,55 +194,55 @@ fn numbers_line(first: &[u8], numbers: &[u64]) -> Option<Line>
     }
 }
 
-fn line_alone(first: &[u8]) -> Option<Line>
+fn line_alone(first: &str) -> Option<Line>
     ensures { option_map line_meaning result ≡ found first.now alone }
 {
     match first {
-        b"dart" => Some(Line::Dart),
-        b"dual" => Some(Line::Dual),
-        b"count" => Some(Line::Count),
-        b"show" => Some(Line::Show),
-        b"off" => Some(Line::Off),
+        "dart" => Some(Line::Dart),
+        "dual" => Some(Line::Dual),
+        "count" => Some(Line::Count),
+        "show" => Some(Line::Show),
+        "off" => Some(Line::Off),
         _ => None,
     }
 }
 
-fn line_with_one(first: &[u8], a: u64) -> Option<Line>
+fn line_with_one(first: &str, a: u64) -> Option<Line>
     ensures { option_map line_meaning result ≡ option_map (λ line. line a) (found first.now with_one) }
 {
     match first {
-        b"polygon" => Some(Line::Polygon(a)),
-        b"del" => Some(Line::Del(a)),
-        b"vertex" => Some(Line::Vertex(a)),
+        "polygon" => Some(Line::Polygon(a)),
+        "del" => Some(Line::Del(a)),
+        "vertex" => Some(Line::Vertex(a)),
         _ => None,
     }
 }
 
-fn line_with_two(first: &[u8], a: u64, b: u64) -> Option<Line>
+fn line_with_two(first: &str, a: u64, b: u64) -> Option<Line>
     ensures { option_map line_meaning result ≡ option_map (λ line. line a b) (found first.now with_two) }
 {
     match first {
-        b"unsew" => Some(Line::Unsew(a, b)),
-        b"remove" => Some(Line::Remove(a, b)),
-        b"contract" => Some(Line::Contract(a, b)),
-        b"clear" => Some(Line::Clear(a, b)),
-        b"cell" => Some(Line::Cell(a, b)),
-        b"free" => Some(Line::Free(a, b)),
-        b"value" => Some(Line::Value(a, b)),
-        b"removable" => Some(Line::Removable(a, b)),
-        b"contractible" => Some(Line::Contractible(a, b)),
-        b"edge" => Some(Line::Edge(a, b)),
+        "unsew" => Some(Line::Unsew(a, b)),
+        "remove" => Some(Line::Remove(a, b)),
+        "contract" => Some(Line::Contract(a, b)),
+        "clear" => Some(Line::Clear(a, b)),
+        "cell" => Some(Line::Cell(a, b)),
+        "free" => Some(Line::Free(a, b)),
+        "value" => Some(Line::Value(a, b)),
+        "removable" => Some(Line::Removable(a, b)),
+        "contractible" => Some(Line::Contractible(a, b)),
+        "edge" => Some(Line::Edge(a, b)),
         _ => None,
     }
 }
 
-fn line_with_three(first: &[u8], a: u64, b: u64, c: u64) -> Option<Line>
+fn line_with_three(first: &str, a: u64, b: u64, c: u64) -> Option<Line>
     ensures { option_map line_meaning result ≡ option_map (λ line. line a b c) (found first.now with_three) }
 {
     match first {
-        b"sew" => Some(Line::Sew(a, b, c)),
-        b"sewable" => Some(Line::Sewable(a, b, c)),
-        b"same" => Some(Line::Same(a, b, c)),
+        "sew" => Some(Line::Sew(a, b, c)),
+        "sewable" => Some(Line::Sewable(a, b, c)),
+        "same" => Some(Line::Same(a, b, c)),
         _ => None,
     }
 }

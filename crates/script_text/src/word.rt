@@ -12,6 +12,16 @@ pub fn is_text(word: &[u8]) -> bool
     word.iter().all(|byte| byte.is_ascii_graphic())
 }
 
+/// The word as text; none exactly where it is none.
+pub fn read_text(word: &[u8]) -> Option<&str>
+    ensures { option_copied result ≡ (if is_text word.now then Some word.now else None) }
+{
+    if !is_text(word) {
+        return None;
+    }
+    str::from_utf8(word).ok()
+}
+
 /// The number that a word writes; none exactly where it is no numeral: `0`, or at most 19 digits of which the first is
 /// not 0.
 pub fn read_numeral(word: &[u8]) -> Option<u64>
@@ -92,7 +102,13 @@ pub fn read_name(word: &[u8]) -> Option<&str>
 fn is_name(word: &[u8]) -> bool
     ensures { result ≡ is_name word.now }
 {
-    1 <= word.len() && word.len() <= 32 && word.iter().all(|byte| is_name_byte(*byte))
+    1 <= word.len() && word.len() <= 32 && are_name_bytes(word)
+}
+
+fn are_name_bytes(word: &[u8]) -> bool
+    ensures { result ≡ list_all is_name_byte word.now }
+{
+    word.iter().all(|byte| is_name_byte(*byte))
 }
 
 fn is_name_byte(byte: u8) -> bool
