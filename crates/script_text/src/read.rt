@@ -1,0 +1,248 @@
+//! What a line tells.
+ghost use Rattle.std.specs.Prelude.{◌≡◌, ℕ, List, [], ◌∷◌, map, filter, position, length, ◌≤◌, IfOk, IfErr, IfNone, IfSome};
+ghost use Rattle.std.specs.String.{string_bytes};
+ghost use Rattle.std.specs.Option.{option_map};
+ghost use Rattle.std.specs.List.{list_all, position_or_len, slice_split};
+ghost use Rattle.map_defs.specs.Script.{words_of, line_of, is_blank, is_word, is_text, is_comment_sign, uncommented, numerals, name, line_with, numbers_line, face_line, rule_line, set_line, value, only_name, found, alone, with_one, with_two, with_three};
+ghost use Rattle.script_text.specs.Meanings.{line_meaning, Tell, IsSyntax};
+ghost use Rattle.script_text.specs.Reading.{Reads, now_of, items_of};
+
+use crate::Line;
+use crate::word::{is_text, read_integer, read_name, read_numeral, read_text};
+use map_kind::{Refusal, Refused, Value};
+use std::alloc::{AllocError, Global};
+
+/// The line that these bytes tell; none exactly where they have no word. The bytes are one line without its line feed: a
+/// number sign begins a comment, and the rest is cut into words at spaces, tabs and carriage returns. It is refused as
+/// `Syntax` exactly where it has words that are outside the grammar of lines, and has no other refusal.
+pub fn read_line(alloc: Global, bytes: &[u8]) -> Result<Option<Line>, Refused>
+    // there is no line exactly where there is no word
+    ensures blank { IfOk result (λ line. IfNone line (words_of bytes.now ≡ [])) }
+    // a line is the one that the words tell
+    ensures told { IfOk result (λ line. IfSome line (Tell (words_of bytes.now))) }
+    // a refusal is Syntax, where the words tell no line
+    ensures refused { IfErr result (IsSyntax (words_of bytes.now)) }
+{
+    let words = split_words(alloc, without_comment(bytes))?;
+    match words.as_slice() {
+        [] => Ok(None),
+        [first, others @ ..] => Ok(Some(read_words(alloc, first, others)?)),
+    }
+}
+
+/// What stands before the first number sign.
+fn without_comment(line: &[u8]) -> &[u8]
+    ensures { result.now ≡ uncommented line.now }
+{
+    &line[..comment_start(line)]
+}
+
+/// Where the first number sign stands, or else the end of the line.
+fn comment_start(line: &[u8]) -> usize
+    ensures place { result ≡ position_or_len is_comment_sign line.now }
+    ensures within { result ≤ length line.now }
+{
+    comment_sign(line).unwrap_or(line.len())
+}
+
+fn comment_sign(line: &[u8]) -> Option<usize>
+    ensures { result ≡ position is_comment_sign line.now }
+{
+    line.iter().position(|byte| *byte == b'#')
+}
+
+/// The pieces between spaces, tabs and carriage returns that are not empty.
+fn split_words(alloc: Global, line: &[u8]) -> Result<Vec<&[u8]>, AllocError>
+    ensures { IfOk result (λ words. map now_of words.items ≡ filter is_word (slice_split is_blank line.now)) }
+{
+    line.split(|byte| is_blank(*byte))
+        .filter(|piece| !piece.is_empty())
+        .collect(alloc)
+}
+
+fn is_blank(byte: u8) -> bool
+    ensures { result ≡ is_blank byte }
+{
+    byte == b' ' || byte == b'\t' || byte == b'\r'
+}
+
+/// The line that a first word and the words behind it tell.
+fn read_words(alloc: Global, first: &[u8], words: &[&[u8]]) -> Result<Line, Refused>
+    ensures { Reads line_meaning (line_of (first.now ∷ map now_of words.now)) result }
+{
+    let first = read_text(first).ok_or(Refusal::Syntax)?;
+    if !are_text(words) {
+        return Err(Refused::Line(Refusal::Syntax));
+    }
+    read_text_words(alloc, first, words)
+}
+
+fn are_text(words: &[&[u8]]) -> bool
+    ensures { result ≡ list_all (λ word. is_text word.now) words.now }
+{
+    words.iter().all(|word| is_text(word))
+}
+
+/// The line that words of text tell.
+fn read_text_words(alloc: Global, first: &str, words: &[&[u8]]) -> Result<Line, Refused>
+    ensures { Reads line_meaning (line_with first.now (map now_of words.now)) result }
+{
+    match first {
+        "face" => read_face(alloc, words),
+        "rule" => read_rule(alloc, words),
+        "set" => read_set(words),
+        "mark" => Ok(Line::Mark(read_only_name(alloc, words)?)),
+        "undo" => Ok(Line::Undo(read_only_name(alloc, words)?)),
+        "log" => Ok(Line::Log(read_only_name(alloc, words)?)),
+        _ => {
+            let numbers = read_numerals(alloc, words)?;
+            Ok(numbers_line(first, numbers.as_slice()).ok_or(Refusal::Syntax)?)
+        }
+    }
+}
+
+/// The line of a face, along 1 to 4096 darts.
+fn read_face(alloc: Global, words: &[&[u8]]) -> Result<Line, Refused>
+    ensures { Reads line_meaning (face_line (map now_of words.now)) result }
+{
+    if words.is_empty() || words.len() > 4096 {
+        return Err(Refused::Line(Refusal::Syntax));
+    }
+    Ok(Line::Face(read_numerals(alloc, words)?))
+}
+
+fn read_rule(alloc: Global, words: &[&[u8]]) -> Result<Line, Refused>
+    ensures { Reads line_meaning (rule_line (map now_of words.now)) result }
+{
+    let [dim, merge, split] = words else {
+        return Err(Refused::Line(Refusal::Syntax));
+    };
+    let dim = read_numeral(dim).ok_or(Refusal::Syntax)?;
+    let merge = own_name(alloc, merge)?;
+    let split = own_name(alloc, split)?;
+    Ok(Line::Rule(dim, merge, split))
+}
+
+fn read_set(words: &[&[u8]]) -> Result<Line, Refused>
+    ensures { Reads line_meaning (set_line (map now_of words.now)) result }
+{
+    match words {
+        [dim, dart, integers @ ..] => {
+            let dim = read_numeral(dim).ok_or(Refusal::Syntax)?;
+            let dart = read_numeral(dart).ok_or(Refusal::Syntax)?;
+            let value = read_value(integers).ok_or(Refusal::Syntax)?;
+            Ok(Line::Set(dim, dart, value))
+        }
+        _ => Err(Refused::Line(Refusal::Syntax)),
+    }
+}
+
+/// The value that three words write.
+fn read_value(words: &[&[u8]]) -> Option<Value>
+    ensures { result ≡ value (map now_of words.now) }
+{
+    match words {
+        [a, b, c] => {
+            let a = read_integer(a)?;
+            let b = read_integer(b)?;
+            let c = read_integer(c)?;
+            Some(Value { a, b, c })
+        }
+        _ => None,
+    }
+}
+
+/// The name that a word writes.
+fn own_name(alloc: Global, word: &[u8]) -> Result<String, Refused>
+    ensures { Reads string_bytes (name word.now) result }
+{
+    let name = read_name(word).ok_or(Refusal::Syntax)?;
+    Ok(String::from_str(alloc, name)?)
+}
+
+/// The name that these words write, if they are one word.
+fn read_only_name(alloc: Global, words: &[&[u8]]) -> Result<String, Refused>
+    ensures { Reads string_bytes (only_name (map now_of words.now)) result }
+{
+    match words {
+        [word] => own_name(alloc, word),
+        _ => Err(Refused::Line(Refusal::Syntax)),
+    }
+}
+
+/// The numbers that these words write, one each.
+fn read_numerals(alloc: Global, words: &[&[u8]]) -> Result<Vec<u64>, Refused>
+    ensures { Reads items_of (numerals (map now_of words.now)) result }
+{
+    let mut numbers = Vec::new(alloc);
+    for word in words {
+        numbers.push(read_numeral(word).ok_or(Refusal::Syntax)?)?;
+    }
+    Ok(numbers)
+}
+
+/// The line of a first word and the numbers behind it.
+fn numbers_line(first: &str, numbers: &[u64]) -> Option<Line>
+    ensures { option_map line_meaning result ≡ numbers_line first.now numbers.now }
+{
+    match numbers {
+        [] => line_alone(first),
+        [a] => line_with_one(first, *a),
+        [a, b] => line_with_two(first, *a, *b),
+        [a, b, c] => line_with_three(first, *a, *b, *c),
+        _ => None,
+    }
+}
+
+fn line_alone(first: &str) -> Option<Line>
+    ensures { option_map line_meaning result ≡ found first.now alone }
+{
+    match first {
+        "dart" => Some(Line::Dart),
+        "dual" => Some(Line::Dual),
+        "count" => Some(Line::Count),
+        "show" => Some(Line::Show),
+        "off" => Some(Line::Off),
+        _ => None,
+    }
+}
+
+fn line_with_one(first: &str, a: u64) -> Option<Line>
+    ensures { option_map line_meaning result ≡ option_map (λ line. line a) (found first.now with_one) }
+{
+    match first {
+        "polygon" => Some(Line::Polygon(a)),
+        "del" => Some(Line::Del(a)),
+        "vertex" => Some(Line::Vertex(a)),
+        _ => None,
+    }
+}
+
+fn line_with_two(first: &str, a: u64, b: u64) -> Option<Line>
+    ensures { option_map line_meaning result ≡ option_map (λ line. line a b) (found first.now with_two) }
+{
+    match first {
+        "unsew" => Some(Line::Unsew(a, b)),
+        "remove" => Some(Line::Remove(a, b)),
+        "contract" => Some(Line::Contract(a, b)),
+        "clear" => Some(Line::Clear(a, b)),
+        "cell" => Some(Line::Cell(a, b)),
+        "free" => Some(Line::Free(a, b)),
+        "value" => Some(Line::Value(a, b)),
+        "removable" => Some(Line::Removable(a, b)),
+        "contractible" => Some(Line::Contractible(a, b)),
+        "edge" => Some(Line::Edge(a, b)),
+        _ => None,
+    }
+}
+
+fn line_with_three(first: &str, a: u64, b: u64, c: u64) -> Option<Line>
+    ensures { option_map line_meaning result ≡ option_map (λ line. line a b c) (found first.now with_three) }
+{
+    match first {
+        "sew" => Some(Line::Sew(a, b, c)),
+        "sewable" => Some(Line::Sewable(a, b, c)),
+        "same" => Some(Line::Same(a, b, c)),
+        _ => None,
+    }
+}

@@ -1,0 +1,116 @@
+//! The reply to a line, and its text.
+ghost use Rattle.std.specs.Prelude.{◌≡◌, ◌++◌, IfOk, OnOk, codes};
+ghost use Rattle.map_defs.specs.Text.{is_refused, reply_text, done_text, truth_text, numbers_text, refusal_text};
+ghost use Rattle.map_kind.specs.Refusals.{meaning};
+ghost use Rattle.script_text.specs.Meanings.{reply_meaning};
+
+use list_text::append_spaced;
+use map_kind::{Dart, Refusal};
+use std::alloc::{AllocError, Global};
+
+/// The darts that a changing line made: they are numbered on from the first.
+#[derive(Clone, Copy, Debug, PartialEq, Eq)]
+pub struct Births {
+    /// The number of the first dart. Where no dart was made it has no meaning, and is not written.
+    pub first: u32,
+    /// How many darts were made.
+    pub count: u32,
+}
+
+/// The reply to a line, of one line of text.
+#[derive(Debug, PartialEq, Eq, Drop)]
+pub enum Reply {
+    /// A changing line was obeyed.
+    Done(Births),
+    /// The answer to a question of yes or no.
+    Truth(bool),
+    /// The darts of a cell, as they are written; a map tells them in ascending order.
+    Cell(Vec<Dart>),
+    /// The counts of a map, as they are written; a map tells its live darts, its cells of dimension 0 and up, and its
+    /// components.
+    Count(Vec<u64>),
+    /// The line was refused, and changed nothing.
+    No(Refusal),
+}
+
+impl Reply {
+    /// Whether the line was refused.
+    pub fn is_refused(&self) -> bool
+        ensures { result ≡ is_refused (reply_meaning self.now) }
+    {
+        matches!(self, Reply::No(_))
+    }
+}
+
+/// The text of a reply, with the line feed at its end: `ok`, behind it the first new dart and their number where darts were
+/// made; `true` or `false`; `cell` or `count`, and its numbers; or `no`, the refusal's number and its name.
+pub fn reply_text(alloc: Global, reply: &Reply) -> Result<Vec<u8>, AllocError>
+    ensures { IfOk result (λ written. written.items ≡ reply_text (reply_meaning reply.now)) }
+{
+    let mut text = Vec::new(alloc);
+    match reply {
+        Reply::Done(births) => append_done(&mut text, *births)?,
+        Reply::Truth(answer) => append_truth(&mut text, *answer)?,
+        Reply::Cell(darts) => append_cell(&mut text, darts.as_slice())?,
+        Reply::Count(counts) => append_count(&mut text, counts.as_slice())?,
+        Reply::No(refusal) => append_refusal(&mut text, *refusal)?,
+    }
+    Ok(text)
+}
+
+/// The reply to a changing line: `ok`, and where darts were made the first and how many.
+fn append_done(text: &mut Vec<u8>, births: Births) -> Result<(), AllocError>
+    ensures { OnOk result (text.new.items ≡ text.old.items ++ done_text births.first births.count) }
+{
+    text.extend_from_slice(b"ok")?;
+    if births.count != 0 {
+        append_spaced(text, births.first)?;
+        append_spaced(text, births.count)?;
+    }
+    text.push(b'\n')?;
+    Ok(())
+}
+
+fn append_truth(text: &mut Vec<u8>, answer: bool) -> Result<(), AllocError>
+    ensures { OnOk result (text.new.items ≡ text.old.items ++ truth_text answer) }
+{
+    if answer {
+        text.extend_from_slice(b"true\n")
+    } else {
+        text.extend_from_slice(b"false\n")
+    }
+}
+
+fn append_cell(text: &mut Vec<u8>, darts: &[Dart]) -> Result<(), AllocError>
+    ensures { OnOk result (text.new.items ≡ text.old.items ++ numbers_text (codes "cell") darts.now) }
+{
+    text.extend_from_slice(b"cell")?;
+    for dart in darts {
+        append_spaced(text, dart.number())?;
+    }
+    text.push(b'\n')?;
+    Ok(())
+}
+
+fn append_count(text: &mut Vec<u8>, counts: &[u64]) -> Result<(), AllocError>
+    ensures { OnOk result (text.new.items ≡ text.old.items ++ numbers_text (codes "count") counts.now) }
+{
+    text.extend_from_slice(b"count")?;
+    for count in counts {
+        append_spaced(text, *count)?;
+    }
+    text.push(b'\n')?;
+    Ok(())
+}
+
+/// The reply to a refused line: `no`, and the refusal's number and its name.
+fn append_refusal(text: &mut Vec<u8>, refusal: Refusal) -> Result<(), AllocError>
+    ensures { OnOk result (text.new.items ≡ text.old.items ++ refusal_text (meaning refusal)) }
+{
+    text.extend_from_slice(b"no")?;
+    append_spaced(text, refusal.number())?;
+    text.push(b' ')?;
+    text.extend_from_slice(refusal.name().as_bytes())?;
+    text.push(b'\n')?;
+    Ok(())
+}
