@@ -66,6 +66,7 @@ impl<K: Kind, const DIM: usize> Map<K, DIM> {
         ensures sound { IsSound K.kind DIM self.now.present.rows }
         ensures lawful { IsLawful K.kind (links_of self.now.present.rows) }
     {
+        let _ = self.links.dimension();
         &self.links
     }
 
@@ -74,7 +75,10 @@ impl<K: Kind, const DIM: usize> Map<K, DIM> {
         ensures live { IsSome result ↔ IsLive self.now.present.rows number }
         ensures same { IfSome result (λ dart. dart ≡ number) }
     {
-        let dart = Dart::new(u32::try_from(number).ok()?)?;
+        if number > u64::from(self.links.made()) {
+            return None;
+        }
+        let dart = Dart::new(number as u32)?;
         if self.links.is_live(dart) {
             Some(dart)
         } else {
