@@ -16,4 +16,4 @@ invariant_of-self c =
     let few : made rows + 2 * c.args.sides ≤ made_max = grind (arith, common_steps) in
     let is : c.push_sides.new.rows.rows ≡ rows ++ map (λ (row : List ℕ). Some row) (polygon_rows alpha 2 (length rows) c.args.sides) =
     rw (c.push_sides.ensures, c.reserve.ensures.rows, first) in
-    rw is (lit≤ tt, omega (arith, length-append rows (map (λ (row : List ℕ). Some row) (polygon_rows alpha 2 (length rows) c.args.sides))), polygon-sound 2 rows c.args.sides (lit≤ tt) c.self.invariant.2 begun few)
+    rw is (lit≤ tt, omega (arith, length-append rows (map (λ (row : List ℕ). Some row) (polygon_rows alpha 2 (length rows) c.args.sides))), polygon-sound 2 rows c.args.sides (lit≤ tt) c.self.invariant.2 begun few, lit≤ tt)
