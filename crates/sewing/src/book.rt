@@ -1,4 +1,6 @@
-ghost use Rattle.std.specs.Prelude.{◌≡◌, ℕ, ◌<◌, ◌↔◌, [], length, slice_get, Some, IfOk, OnOk, IsErrOf};
+ghost use Rattle.std.specs.Prelude.{◌≡◌, ℕ, ◌<◌, ◌↔◌, [], length, slice_get, Some, map, IfOk, OnOk, IsErrOf};
+ghost use Rattle.std.specs.Ordering.{nat_cmp, ordering_then};
+ghost use Rattle.std.specs.BTreeMap as tree;
 ghost use Rattle.sewing.specs.Triples.{Lists, IsAscending};
 ghost use Rattle.sewing.specs.Steps.{IsAdded, HasOther};
 
@@ -65,21 +67,16 @@ impl Book {
         ensures added { OnOk result (IsAdded self.old self.new triple) }
         ensures unpaired { IsErrOf result PairFault.Unpaired → HasOther self.old triple.x triple.y triple.t }
     {
-        match self.partners.get(&(triple.x, triple.t)).copied() {
-            Some(partner) => {
-                if partner == triple.y {
-                    Ok(())
-                } else {
-                    Err(PairFault::Unpaired)
-                }
+        if let Some(partner) = self.partners.get(&(triple.x, triple.t)).copied() {
+            if partner == triple.y {
+                return Ok(());
             }
-            None => {
-                self.triples.reserve(1)?;
-                self.partners.insert((triple.x, triple.t), triple.y)?;
-                self.triples.push_reserved(triple);
-                Ok(())
-            }
+            return Err(PairFault::Unpaired);
         }
+        self.triples.reserve(1)?;
+        self.partners.insert((triple.x, triple.t), triple.y)?;
+        self.triples.push_reserved(triple);
+        Ok(())
     }
 
     /// The triples that were found, ascending by `x`, then by `t`.
@@ -88,14 +85,25 @@ impl Book {
         ensures ascending { IfOk result (λ triples. IsAscending triples.items) }
         ensures one { (x y z t : ℕ) → Lists self x y t → Lists self x z t → y ≡ z }
     {
-        let mut triples = Vec::with_capacity(alloc, self.triples.len())?;
-        for ((x, t), y) in &self.partners {
-            triples.push(Triple {
-                x: *x,
-                y: *y,
-                t: *t,
-            })?;
-        }
-        Ok(triples)
+        ascending(alloc, &self.partners)
     }
+}
+
+/// The triples that a book's partners tell, in the order of the map.
+fn ascending(
+    alloc: Global,
+    partners: &BTreeMap<(Dart, usize), Dart>,
+) -> Result<Vec<Triple>, AllocError>
+    ensures triples { IfOk result (λ triples. triples.items
+        ≡ map (λ entry. record { x = entry.0.0; y = entry.1; t = entry.0.1 }) partners.now.entries) }
+    ensures ordered { tree.IsOrdered (λ p q. ordering_then (nat_cmp p.0 q.0) (nat_cmp p.1 q.1)) partners.now }
+{
+    partners
+        .iter()
+        .map(|((x, t), y)| Triple {
+            x: *x,
+            y: *y,
+            t: *t,
+        })
+        .collect(alloc)
 }

@@ -95,7 +95,7 @@ fn visit<K: Kind, const DIM: usize>(
     ensures unpaired { IsErrOf result PairFault.Unpaired → IsGood K.kind (links_of links.now.rows) (Contains set.now)
         (InPairs K.kind (links_of links.now.rows) (Contains set.now) (Lists book.old)) → ⊥ }
 {
-    if triple.x == triple.y && K::inverse(triple.t) == triple.t {
+    if triple.is_loop::<K>() {
         return Err(PairFault::Unpaired);
     }
     book.add(triple.turned::<K>())?;

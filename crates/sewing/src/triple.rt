@@ -1,4 +1,4 @@
-ghost use Rattle.std.specs.Prelude.{◌≡◌};
+ghost use Rattle.std.specs.Prelude.{◌≡◌, ◌↔◌, IsTrue};
 ghost use Rattle.map_defs.specs.Kind.{inverse};
 
 use link_rows::Change;
@@ -33,6 +33,13 @@ impl Triple {
             y: self.x,
             t: K::inverse(self.t),
         }
+    }
+
+    /// Whether a link that is its own inverse is to join a dart to itself.
+    pub(crate) fn is_loop<K: Kind>(self) -> bool
+        ensures { IsTrue result ↔ ((self.x ≡ self.y) × (inverse K.kind self.t ≡ self.t)) }
+    {
+        self.x == self.y && K::inverse(self.t) == self.t
     }
 
     /// The change by which link `t` of `x`, which is free, becomes `y`.
