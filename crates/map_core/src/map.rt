@@ -32,7 +32,6 @@ pub struct Map<K: Kind, const DIM: usize> {
 }
 
 impl<K: Kind, const DIM: usize> Model for Map<K, DIM> {
-    ghost use Rattle.std.specs.Prelude.{◌≤◌};
     ghost use Rattle.map_defs.specs.Rows.{links_of};
     ghost use Rattle.map_defs.specs.Laws.{Laws};
     ghost use Rattle.map_defs.specs.State.{State};
@@ -42,7 +41,7 @@ impl<K: Kind, const DIM: usize> Model for Map<K, DIM> {
 
     ghost view = { λ map. bare_state K.kind DIM map.links.rows };
 
-    ghost invariant = { λ map. (2 ≤ DIM) × Laws K.kind (links_of map.links.rows) };
+    ghost invariant = { λ map. Laws K.kind (links_of map.links.rows) };
 }
 
 impl<K: Kind, const DIM: usize> Map<K, DIM> {

@@ -16,7 +16,7 @@ returns-clause-fits g c =
     let first : c.made-first.result + 1 ≡ length rows = omega (arith, c.made-first.ensures.made) in
     let last : c.loop-side.side ≡ c.args.sides = omega arith in
     rw (c.per_side.ensures, c.new.ensures.items, c.loop-side.invariant, first, last)
-    (polygon-fits k n rows c.args.sides (omega arith) c.made-first.ensures.begun c.made-first.ensures.sound c.requires.few)
+    (polygon-fits k n rows c.args.sides (omega (arith, c.made-first.ensures.low)) c.made-first.ensures.begun c.made-first.ensures.sound c.requires.few)
 
 pub returns-clause-rows : goal.returns-clause-rows
 returns-clause-rows g c =
@@ -27,7 +27,7 @@ returns-clause-rows g c =
     let next : made rows + 1 ≡ length rows = omega arith in
     let last : c.loop-side.side ≡ c.args.sides = omega arith in
     rw (next, c.per_side.ensures, c.new.ensures.items, c.loop-side.invariant, first, last)
-    (polygon-after k n rows c.args.sides (omega arith) c.made-first.ensures.begun c.made-first.ensures.sound c.requires.few)
+    (polygon-after k n rows c.args.sides (omega (arith, c.made-first.ensures.low)) c.made-first.ensures.begun c.made-first.ensures.sound c.requires.few)
 
 pub returns-clause-laws : goal.returns-clause-laws
 returns-clause-laws g c =
@@ -37,4 +37,4 @@ returns-clause-laws g c =
     let first : c.made-first.result + 1 ≡ length rows = omega (arith, c.made-first.ensures.made) in
     let last : c.loop-side.side ≡ c.args.sides = omega arith in
     rw (c.per_side.ensures, c.new.ensures.items, c.loop-side.invariant, first, last)
-    (polygon-lawful k n rows c.args.sides (omega arith) c.made-first.ensures.begun c.made-first.ensures.sound c.requires.few)
+    (polygon-lawful k n rows c.args.sides (omega (arith, c.made-first.ensures.low)) c.made-first.ensures.begun c.made-first.ensures.sound c.requires.few)

@@ -12,6 +12,6 @@ make-requires g c =
       lit< tt,
       (
         births-fit g.K.Kind.kind g.row.DIM 1 rows c.made-first.ensures.sound,
-        (births-keep g.K.Kind.kind g.row.DIM 1 rows c.self.invariant.1, few),
+        (births-keep g.K.Kind.kind g.row.DIM 1 rows c.self.invariant, few),
       ),
     )

@@ -15,7 +15,7 @@ make-requires g c =
     let alone : (i : ℕ) → links_of rows i d ≡ 0 = c.if-not-is_alone.ensures.alone.0 refl in
     let live : IsLive rows d = rw (← c.self.view_is, ← c.in-Some.ensures.same) at c.in-Some.ensures.live.0 refl in
     rw (← c.self.view_is, c.in_ok-vec.ensures.items, c.new.ensures.items)
-    (lit< tt, (death-fits k n rows d sound live alone, (death-keeps k n rows d alone c.self.invariant.1, omega (arith, sound.few))))
+    (lit< tt, (death-fits k n rows d sound live alone, (death-keeps k n rows d alone c.self.invariant, omega (arith, sound.few))))
 
 pub returns : goal.returns
 returns g c =
