@@ -1,4 +1,5 @@
 pub mod PolygonSides
+pub mod PolygonRing
 pub mod PolygonSound
 pub mod RowWrites
 pub mod EditSteps
@@ -6,3 +7,5 @@ pub mod EditSound
 pub mod EditBack
 pub mod EditPlain
 pub mod EditLinks
+pub mod BirthLinks
+pub mod PolygonEdit

@@ -18,6 +18,23 @@ flat_map-range_more {X} f n =
     ∙ ap (λ (m : ℕ). flat_map f (range_with_len 0 n ++ m ∷ [])) e ∙ flat_map-append f (range_with_len 0 n) (n ∷ [])
     ∙ ap (λ (ys : List X). flat_map f (range_with_len 0 n) ++ ys) (append-nil (f n))
 
+-- where each number gives one element, the list has that of s at the place s
+pub flat_map-singles : {X : Type 0} (f : ℕ → List X) (one : ℕ → X) → ((s : ℕ) → f s ≡ one s ∷ []) → (a n : ℕ)
+    → length (flat_map f (range_with_len a n)) ≡ n
+flat_map-singles f one are a zero = refl
+flat_map-singles f one are a (suc n) =
+    let rest = flat_map-singles f one are (a + 1) n in
+    rw (are a) (omega (arith, rest))
+
+pub get_or-flat_map-singles : {X : Type 0} (f : ℕ → List X) (one : ℕ → X) → ((s : ℕ) → f s ≡ one s ∷ []) → (a n s : ℕ) (d : X) → s < n
+    → get_or (flat_map f (range_with_len a n)) s d ≡ one (a + s)
+get_or-flat_map-singles f one are a zero s d h = absurd (omega arith)
+get_or-flat_map-singles f one are a (suc n) zero d h = rw (are a, add-zero) refl
+get_or-flat_map-singles f one are a (suc n) (suc s) d h =
+    let rest = get_or-flat_map-singles f one are (a + 1) n s d (omega arith) in
+    let p : a + 1 + s ≡ a + suc s = omega arith in
+    rw (are a, ← p) rest
+
 -- where each number gives two elements, the list has the two of s at the places 2s and 2s + 1
 pub flat_map-pairs : {X : Type 0} (f : ℕ → List X) (one other : ℕ → X) → ((s : ℕ) → f s ≡ one s ∷ other s ∷ []) → (a n : ℕ)
     → length (flat_map f (range_with_len a n)) ≡ 2 * n

@@ -29,7 +29,7 @@ impl<K: Kind, const DIM: usize> Model for Links<K, DIM> {
 
     ghost view = { λ links. links.rows };
 
-    ghost invariant = { λ links. (DIM ≤ 8) × (0 < length links.rows.rows) × IsSound K.kind DIM links.rows.rows };
+    ghost invariant = { λ links. (DIM ≤ 8) × (0 < length links.rows.rows) × IsSound K.kind DIM links.rows.rows × (2 ≤ DIM) };
 }
 
 impl<K: Kind, const DIM: usize> Links<K, DIM> {
@@ -47,9 +47,10 @@ impl<K: Kind, const DIM: usize> Links<K, DIM> {
         }
     }
 
-    /// The dimension of the map.
+    /// The dimension of the map, from 2 to 8.
     pub fn dimension(&self) -> usize
         ensures dimension { result ≡ DIM }
+        ensures low { 2 ≤ DIM }
         ensures high { DIM ≤ 8 }
         ensures sound { IsSound K.kind DIM self.now.rows }
     {
@@ -60,6 +61,7 @@ impl<K: Kind, const DIM: usize> Links<K, DIM> {
     /// How many darts were made so far, dead ones among them: the greatest number of a dart, or 0.
     pub fn made(&self) -> u32
         ensures made { result ≡ made self.now.rows }
+        ensures low { 2 ≤ DIM }
         ensures begun { 0 < length self.now.rows }
         ensures sound { IsSound K.kind DIM self.now.rows }
     {
@@ -96,6 +98,7 @@ impl<K: Kind, const DIM: usize> Links<K, DIM> {
         requires { link ≤ DIM }
         ensures free { IsNone result ↔ (links_of self.now.rows link dart ≡ 0) }
         ensures linked { IfSome result (λ other. other ≡ links_of self.now.rows link dart) }
+        ensures low { 2 ≤ DIM }
         ensures sound { IsSound K.kind DIM self.now.rows }
     {
         let row = self.rows.get(dart)?;

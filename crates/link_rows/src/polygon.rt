@@ -21,7 +21,6 @@ pub fn polygon_edit<K: Kind, const DIM: usize>(
     links: &Links<K, DIM>,
     sides: u32,
 ) -> Result<Edit, AllocError>
-    requires dim { 2 ≤ DIM }
     requires low { 3 ≤ sides }
     requires high { sides ≤ 65536 }
     requires few { made links.now.rows + per_side K.kind * sides ≤ MADE_MAX }

@@ -1,5 +1,5 @@
 -- What calls answer and leave, told by the steps of the plain map machine.
-use Rattle.std.specs.Prelude.{◌≡◌, Unit, Result, Ok, Err}
+use Rattle.std.specs.Prelude.{◌≡◌, Result, Ok, Err}
 use Rattle.map_kind.specs.declared.refusal.Refusal.{Refusal}
 use Rattle.map_kind.specs.declared.refusal.Refused.{Refused}
 use Rattle.map_kind.specs.declared.refusal.Refused.TheVariants as why

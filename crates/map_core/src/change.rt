@@ -1,11 +1,11 @@
 //! The changing lines.
 ghost use Rattle.std.specs.Prelude.{◌≡◌, ℕ, ◌↔◌, IsTrue};
-ghost use Rattle.map_defs.specs.Rows.{IsLive, links_of};
+ghost use Rattle.map_defs.specs.Rows.{IsLive, IsSound, links_of};
 ghost use Rattle.map_defs.specs.Script.{Polygon, Dart as MakeDart, Del};
 ghost use Rattle.map_core.specs.Calls.{Does};
 
 use crate::map::{Done, Map};
-use link_rows::{Edit, polygon_edit};
+use link_rows::{Edit, Links, polygon_edit};
 use map_kind::{Dart, Kind, Refusal, Refused};
 use std::alloc::Global;
 
@@ -60,7 +60,7 @@ impl<K: Kind, const DIM: usize> Map<K, DIM> {
         let Some(dart) = self.live_dart(dart) else {
             return Err(Refused::Line(Refusal::NoDart));
         };
-        if !self.is_alone(dart) {
+        if !is_alone(&self.links, dart) {
             return Err(Refused::Line(Refusal::Linked));
         }
         let edit = Edit {
@@ -71,11 +71,18 @@ impl<K: Kind, const DIM: usize> Map<K, DIM> {
         self.make(&edit)?;
         Ok(Done::NONE)
     }
+}
 
-    /// Whether all links of a dart are free.
-    fn is_alone(&self, dart: Dart) -> bool
-        ensures { IsTrue result ↔ ((i : ℕ) → links_of self.now.present.rows i dart ≡ 0) }
-    {
-        (0..self.links.dimension() + 1).all(|link| self.links.is_free(dart, link))
+/// Whether all links of a dart are free.
+fn is_alone<K: Kind, const DIM: usize>(links: &Links<K, DIM>, dart: Dart) -> bool
+    requires { IsLive links.now.rows dart }
+    ensures alone { IsTrue result ↔ ((i : ℕ) → links_of links.now.rows i dart ≡ 0) }
+    ensures sound { IsSound K.kind DIM links.now.rows }
+{
+    for link in 0..links.dimension() + 1 {
+        if !links.is_free(dart, link) {
+            return false;
+        }
     }
+    true
 }

@@ -1,5 +1,5 @@
 //! The listing of a map.
-ghost use Rattle.std.specs.Prelude.{◌≡◌, ℕ, ◌≤◌, IfOk, OnOk, ◌++◌, ◌∷◌, [], map};
+ghost use Rattle.std.specs.Prelude.{◌≡◌, ℕ, ◌+◌, ◌≤◌, IfOk, OnOk, ◌++◌, ◌∷◌, [], map};
 ghost use Rattle.std.specs.List.{range_with_len};
 ghost use Rattle.map_defs.specs.Rows.{row_at, links_of};
 ghost use Rattle.map_defs.specs.Listing.{live_rows_from};
@@ -70,7 +70,18 @@ fn entries<K: Kind, const DIM: usize>(
 {
     let mut entries = Vec::new(alloc);
     for link in 0..links.dimension() + 1 {
-        entries.push(links.link(dart, link).map_or(0, Dart::number))?;
+        entries.push(entry(links, dart, link))?;
     }
     Ok(entries)
+}
+
+/// The number of the dart at a link of a dart, 0 where the link is free.
+fn entry<K: Kind, const DIM: usize>(links: &Links<K, DIM>, dart: Dart, link: usize) -> u32
+    requires { link ≤ DIM }
+    ensures { result ≡ links_of links.now.rows link dart }
+{
+    match links.link(dart, link) {
+        Some(other) => other.number(),
+        None => 0,
+    }
 }

@@ -32,7 +32,6 @@ pub struct Map<K: Kind, const DIM: usize> {
 }
 
 impl<K: Kind, const DIM: usize> Model for Map<K, DIM> {
-    ghost use Rattle.std.specs.Prelude.{◌≤◌};
     ghost use Rattle.map_defs.specs.Rows.{links_of};
     ghost use Rattle.map_defs.specs.Laws.{Laws};
     ghost use Rattle.map_defs.specs.State.{State};
@@ -42,7 +41,7 @@ impl<K: Kind, const DIM: usize> Model for Map<K, DIM> {
 
     ghost view = { λ map. bare_state K.kind DIM map.links.rows };
 
-    ghost invariant = { λ map. (2 ≤ DIM) × Laws K.kind (links_of map.links.rows) };
+    ghost invariant = { λ map. Laws K.kind (links_of map.links.rows) };
 }
 
 impl<K: Kind, const DIM: usize> Map<K, DIM> {
@@ -66,6 +65,7 @@ impl<K: Kind, const DIM: usize> Map<K, DIM> {
         ensures sound { IsSound K.kind DIM self.now.present.rows }
         ensures lawful { IsLawful K.kind (links_of self.now.present.rows) }
     {
+        let _ = self.links.dimension();
         &self.links
     }
 
@@ -74,7 +74,10 @@ impl<K: Kind, const DIM: usize> Map<K, DIM> {
         ensures live { IsSome result ↔ IsLive self.now.present.rows number }
         ensures same { IfSome result (λ dart. dart ≡ number) }
     {
-        let dart = Dart::new(u32::try_from(number).ok()?)?;
+        if number > u64::from(self.links.made()) {
+            return None;
+        }
+        let dart = Dart::new(number as u32)?;
         if self.links.is_live(dart) {
             Some(dart)
         } else {

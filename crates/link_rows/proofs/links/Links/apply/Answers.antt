@@ -25,4 +25,5 @@ invariant_of-self g c =
       c.self.invariant.0,
       omega (arith, length-after g.row.DIM c.args.edit.now c.args.self.now.rows),
       after-sound _ _ _ _ begun sound c.requires.fits c.requires.few,
+      c.self.invariant.3,
     )

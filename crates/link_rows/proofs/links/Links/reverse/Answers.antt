@@ -33,4 +33,4 @@ returns-clause-back g c = λ rows led. returns-clause-rows g c ∙ before-led _ 
 pub invariant_of-self : goal.invariant_of-self
 invariant_of-self g c =
     let rows : c.unlink.new.rows.rows ≡ c.requires.led.0 = returns-clause-back g c c.requires.led.0 c.requires.led.1 in
-    rw rows (c.self.invariant.0, c.requires.led.1.begun, c.requires.led.1.sound)
+    rw rows (c.self.invariant.0, c.requires.led.1.begun, c.requires.led.1.sound, c.self.invariant.3)

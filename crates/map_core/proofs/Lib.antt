@@ -1,0 +1,4 @@
+mod BareStates
+mod KeptLaws
+mod ListingRows
+mod LiveDarts

@@ -1,0 +1,4 @@
+pub mod PairFacts
+pub mod PairWalks
+mod BookPlaces
+mod Exits

@@ -1,0 +1,23 @@
+use Rattle.std.proofs.Common.{ℕ, ◌≡◌, ◌↔◌, List, map, sym, subst}
+use Rattle.std.proofs.lemmas.Result.{IfOk-weaker}
+use Rattle.std.specs.BTreeMap.{get}
+use Rattle.sewing.specs.Triples.{Triple, Lists, IsAscending}
+use Rattle.sewing.specs.Steps.{Tells}
+use Rattle.sewing.proofs.BookPlaces.{by_place, triple_of, listed-places, places-ascending, tells-one}
+use Rattle.sewing.proofs.book.Book.into_ascending.Goals as goal
+
+pub returns-clause-members : goal.returns-clause-members
+returns-clause-members c =
+    let tells : Tells (get by_place c.self.inside.partners) c.args.self = rw c.self.view_is at c.self.invariant in
+    IfOk-weaker c.ascending.result _ _
+    (λ triples is. λ x y t. rw is (listed-places c.self.inside.partners c.args.self c.ascending.ensures.ordered tells x y t))
+    c.ascending.ensures.triples
+
+pub returns-clause-ascending : goal.returns-clause-ascending
+returns-clause-ascending c =
+    IfOk-weaker c.ascending.result _ _ (λ triples is. rw is (places-ascending c.self.inside.partners c.ascending.ensures.ordered)) c.ascending.ensures.triples
+
+pub returns-clause-one : goal.returns-clause-one
+returns-clause-one c =
+    let tells : Tells (get by_place c.self.inside.partners) c.args.self = rw c.self.view_is at c.self.invariant in
+    tells-one (get by_place c.self.inside.partners) c.args.self tells

@@ -1,0 +1,133 @@
+ghost use Rattle.std.specs.Prelude.{◌≡◌, ◌≢◌, ℕ, ◌+◌, ◌≤◌, ◌<◌, ◌↔◌, All, Contains, IfOk, OnOk, IsErrOf};
+ghost use Rattle.map_defs.specs.Kind.{inverse};
+ghost use Rattle.map_defs.specs.Rows.{links_of};
+ghost use Rattle.map_defs.specs.Pairs.{InPairs, IsGood};
+ghost use Rattle.sewing.specs.Triples.{Lists, IsAscending};
+ghost use Rattle.sewing.specs.Steps.{HasOther, IsVisited, IsStepped, FailsAcross};
+ghost use Rattle.sewing.specs.declared.pairing.PairFault.TheVariants.{NoMemory};
+
+use crate::book::Book;
+use crate::triple::Triple;
+use link_rows::Links;
+use map_kind::Kind;
+use std::alloc::{AllocError, AllocFailed, Global};
+
+/// Why darts are not paired.
+#[derive(Clone, Copy, Debug, PartialEq, Eq)]
+pub enum PairFault {
+    /// The pairs cannot be joined: a dart would have two partners at a link, or would be joined to itself by a link that
+    /// is its own inverse, or two partners are not alike free at the links that the pairs go along.
+    Unpaired,
+    /// There is no memory.
+    NoMemory,
+}
+
+impl From<AllocError> for PairFault {
+    ghost from_gives = { λ _ fault. fault ≡ NoMemory };
+
+    fn from(_error: AllocError) -> PairFault {
+        PairFault::NoMemory
+    }
+}
+
+impl<T: Drop> From<AllocFailed<T>> for PairFault {
+    ghost from_gives = { λ _ fault. fault ≡ NoMemory };
+
+    fn from(_error: AllocFailed<T>) -> PairFault {
+        PairFault::NoMemory
+    }
+}
+
+/// The pairs that grow from some seeds along a set of links, ascending by `x`, then by `t`: the seeds, each triple
+/// turned round, and, where `x` has a link of the set and `y` its inverse, the triple across that link. `Unpaired` comes
+/// exactly where the pairs cannot be joined; seeds in which a dart has two partners at a link are among these.
+///
+/// It costs the number of pairs, for each link of the set, times a logarithm.
+pub fn pair<K: Kind, const DIM: usize>(
+    alloc: Global,
+    links: &Links<K, DIM>,
+    seeds: &[Triple],
+    set: &[usize],
+) -> Result<Vec<Triple>, PairFault>
+    requires { All (λ j. j ≤ DIM) set.now }
+    ensures members { IfOk result (λ pairs. (x y t : ℕ) → Lists pairs.items x y t
+        ↔ InPairs K.kind (links_of links.now.rows) (Contains set.now) (Lists seeds.now) x y t) }
+    ensures ascending { IfOk result (λ pairs. IsAscending pairs.items) }
+
+    // It answers where the pairs can be joined, and says `Unpaired` where they cannot.
+    ensures good { OnOk result (IsGood K.kind (links_of links.now.rows) (Contains set.now)
+        (InPairs K.kind (links_of links.now.rows) (Contains set.now) (Lists seeds.now))) }
+    ensures unpaired { IsErrOf result PairFault.Unpaired → IsGood K.kind (links_of links.now.rows) (Contains set.now)
+        (InPairs K.kind (links_of links.now.rows) (Contains set.now) (Lists seeds.now)) → ⊥ }
+{
+    let mut book = listed(alloc, seeds)?;
+    let mut next = 0;
+    while next < book.len() {
+        visit(links, set, book.at(next), &mut book)?;
+        next += 1;
+    }
+    Ok(book.into_ascending(alloc)?)
+}
+
+/// A book of these triples.
+fn listed(alloc: Global, triples: &[Triple]) -> Result<Book, PairFault>
+    ensures members { IfOk result (λ book. (x y t : ℕ) → Lists book x y t ↔ Lists triples.now x y t) }
+    ensures unpaired { IsErrOf result PairFault.Unpaired
+        → (x : ℕ) × (y : ℕ) × (t : ℕ) × Lists triples.now x y t × HasOther triples.now x y t }
+{
+    let mut book = Book::new(alloc);
+    for triple in triples {
+        book.add(*triple)?;
+    }
+    Ok(book)
+}
+
+/// Finds what a triple leads to: the triple turned round, and the triples across the links of the set.
+fn visit<K: Kind, const DIM: usize>(
+    links: &Links<K, DIM>,
+    set: &[usize],
+    triple: Triple,
+    book: &mut Book,
+) -> Result<(), PairFault>
+    requires set { All (λ j. j ≤ DIM) set.now }
+    requires found { Contains book.old triple }
+    ensures visited { OnOk result (IsVisited K.kind (links_of links.now.rows) (Contains set.now) triple book.old book.new) }
+    ensures unpaired { IsErrOf result PairFault.Unpaired → IsGood K.kind (links_of links.now.rows) (Contains set.now)
+        (InPairs K.kind (links_of links.now.rows) (Contains set.now) (Lists book.old)) → ⊥ }
+{
+    if triple.is_loop::<K>() {
+        return Err(PairFault::Unpaired);
+    }
+    book.add(triple.turned::<K>())?;
+    for link in set {
+        cross(links, *link, triple, book)?;
+    }
+    Ok(())
+}
+
+/// Finds the triple across a link, where both darts are linked. `Unpaired` comes exactly where just one of them is, or
+/// where the dart across the link has another partner.
+fn cross<K: Kind, const DIM: usize>(
+    links: &Links<K, DIM>,
+    link: usize,
+    triple: Triple,
+    book: &mut Book,
+) -> Result<(), PairFault>
+    requires { link ≤ DIM }
+    ensures stepped { OnOk result (IsStepped K.kind (links_of links.now.rows) link triple book.old book.new) }
+    ensures unpaired { IsErrOf result PairFault.Unpaired
+        → FailsAcross K.kind (links_of links.now.rows) link book.old triple.x triple.y triple.t }
+{
+    match (
+        links.link(triple.x, link),
+        links.link(triple.y, K::inverse(link)),
+    ) {
+        (Some(x), Some(y)) => book.add(Triple {
+            x,
+            y,
+            t: K::inverse(triple.t),
+        }),
+        (None, None) => Ok(()),
+        _ => Err(PairFault::Unpaired),
+    }
+}

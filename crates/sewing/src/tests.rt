@@ -1,0 +1,139 @@
+ghost use Rattle.std.specs.Prelude.{◌≡◌, ℕ, ◌≤◌, OnOk};
+ghost use Rattle.map_defs.specs.Kind.{alpha};
+ghost use Rattle.map_defs.specs.Rows.{links_of};
+ghost use Rattle.map_defs.specs.Laws.{Laws};
+
+use crate::{Triple, pair, sew_plan, sewable, unsew_plan};
+use link_rows::{Edit, Links};
+use map_kind::{Alpha, Dart, Refusal, Refused};
+use std::alloc::{AllocError, Global};
+use std::process::Abort;
+use std::test::Fail;
+
+/// A map of so many darts without links.
+fn loose<const DIM: usize>(rt: &impl Abort, alloc: Global, darts: u32) -> Links<Alpha, DIM> {
+    let mut links = Links::<Alpha, DIM>::new(alloc);
+    assert!(rt; links.reserve(darts).is_ok());
+    links.apply(&Edit {
+        births: darts,
+        deaths: Vec::new(alloc),
+        changes: Vec::new(alloc),
+    });
+    links
+}
+
+/// Sews two darts that can be sewn.
+fn sew<const DIM: usize>(
+    rt: &impl Abort,
+    alloc: Global,
+    links: &mut Links<Alpha, DIM>,
+    link: usize,
+    one: u32,
+    other: u32,
+) {
+    let one = dart(rt, one);
+    let other = dart(rt, other);
+    assert!(rt; links.is_live(one));
+    assert!(rt; links.is_live(other));
+    match sew_plan(alloc, links, link, one, other) {
+        Ok(edit) => links.apply(&edit),
+        Err(_) => panic!(rt; "not sewn"),
+    }
+}
+
+/// Sews six darts to a triangle, numbered on from `first`.
+fn triangle<const DIM: usize>(
+    rt: &impl Abort,
+    alloc: Global,
+    links: &mut Links<Alpha, DIM>,
+    first: u32,
+) {
+    sew(rt, alloc, links, 0, first, first + 1);
+    sew(rt, alloc, links, 0, first + 2, first + 3);
+    sew(rt, alloc, links, 0, first + 4, first + 5);
+    sew(rt, alloc, links, 1, first + 1, first + 2);
+    sew(rt, alloc, links, 1, first + 3, first + 4);
+    sew(rt, alloc, links, 1, first + 5, first);
+}
+
+fn dart(rt: &impl Abort, number: u32) -> Dart {
+    Dart::new(number).expect(rt, "0 is no dart")
+}
+
+fn numbers(alloc: Global, pairs: &[Triple]) -> Result<Vec<(u32, u32, usize)>, AllocError> {
+    let mut numbers = Vec::new(alloc);
+    for pair in pairs {
+        numbers.push((pair.x.number(), pair.y.number(), pair.t))?;
+    }
+    Ok(numbers)
+}
+
+#[test]
+fn pairs_go_along_the_links_of_the_set(rt: HostRuntime) -> Result<(), Fail> {
+    let alloc = rt.alloc();
+    let mut links = loose::<2>(&rt, alloc, 12);
+    triangle(&rt, alloc, &mut links, 1);
+    triangle(&rt, alloc, &mut links, 7);
+    let seeds = [Triple {
+        x: dart(&rt, 1),
+        y: dart(&rt, 7),
+        t: 2,
+    }];
+    match pair(alloc, &links, &seeds, &[0]) {
+        Ok(pairs) => {
+            assert_eq!(&rt;
+                numbers(alloc, &pairs)?.as_slice(),
+                [(1, 7, 2), (2, 8, 2), (7, 1, 2), (8, 2, 2)].as_slice()
+            );
+        }
+        Err(_) => panic!(&rt; "not paired"),
+    }
+    Ok(())
+}
+
+#[test]
+fn sews_and_unsews_two_triangles(rt: HostRuntime) -> Result<(), Fail> {
+    let alloc = rt.alloc();
+    let mut links = loose::<2>(&rt, alloc, 12);
+    triangle(&rt, alloc, &mut links, 1);
+    triangle(&rt, alloc, &mut links, 7);
+    sew(&rt, alloc, &mut links, 2, 1, 7);
+    assert_eq!(&rt; links.link(dart(&rt, 2), 2), Some(dart(&rt, 8)));
+    assert_eq!(&rt; links.link(dart(&rt, 8), 2), Some(dart(&rt, 2)));
+    match unsew_plan(alloc, &links, 2, dart(&rt, 8)) {
+        Ok(edit) => links.apply(&edit),
+        Err(_) => panic!(&rt; "not unsewn"),
+    }
+    assert_eq!(&rt; links.link(dart(&rt, 1), 2), None);
+    assert_eq!(&rt; links.link(dart(&rt, 7), 2), None);
+    assert!(&rt;
+        matches!(
+            unsew_plan(alloc, &links, 2, dart(&rt, 8)),
+            Err(Refused::Line(Refusal::AlreadyFree))
+        )
+    );
+    Ok(())
+}
+
+#[test]
+fn folds_an_edge_but_sews_no_dart_to_itself(rt: HostRuntime) -> Result<(), Fail> {
+    let alloc = rt.alloc();
+    let mut links = loose::<2>(&rt, alloc, 6);
+    triangle(&rt, alloc, &mut links, 1);
+    assert!(&rt; !sewable(alloc, &links, 2, dart(&rt, 1), dart(&rt, 1))?);
+    sew(&rt, alloc, &mut links, 2, 1, 2);
+    assert_eq!(&rt; links.link(dart(&rt, 1), 2), Some(dart(&rt, 2)));
+    assert!(&rt; !sewable(alloc, &links, 2, dart(&rt, 1), dart(&rt, 2))?);
+    Ok(())
+}
+
+// A triangle can be turned over, but not turned round by a side.
+#[test]
+fn a_face_is_sewn_to_itself_only_where_it_fits(rt: HostRuntime) -> Result<(), Fail> {
+    let alloc = rt.alloc();
+    let mut links = loose::<3>(&rt, alloc, 6);
+    triangle(&rt, alloc, &mut links, 1);
+    assert!(&rt; sewable(alloc, &links, 3, dart(&rt, 1), dart(&rt, 2))?);
+    assert!(&rt; !sewable(alloc, &links, 3, dart(&rt, 1), dart(&rt, 3))?);
+    Ok(())
+}
