@@ -8,11 +8,13 @@ use std::process::Abort;
 use std::test::Fail;
 
 /// A triangle of the darts 1 to 6 and a square of the darts 7 to 14.
-fn triangle_and_square(alloc: Global) -> Result<Links<Alpha, 2>, ReserveFault> {
+fn triangle_and_square(rt: &impl Abort, alloc: Global) -> Result<Links<Alpha, 2>, AllocError> {
     let mut links = Links::<Alpha, 2>::new(alloc);
-    links.reserve(14)?;
-    links.apply(&polygon_edit(alloc, &links, 3)?);
-    links.apply(&polygon_edit(alloc, &links, 4)?);
+    assert!(rt; links.reserve(14).is_ok());
+    let triangle = polygon_edit(alloc, &links, 3)?;
+    links.apply(&triangle);
+    let square = polygon_edit(alloc, &links, 4)?;
+    links.apply(&square);
     Ok(links)
 }
 
@@ -31,7 +33,7 @@ fn numbers(alloc: Global, darts: &[Dart]) -> Result<Vec<u32>, AllocError> {
 #[test]
 fn walks_along_the_words_alone(rt: HostRuntime) -> Result<(), Fail> {
     let alloc = rt.alloc();
-    let links = triangle_and_square(&rt, alloc);
+    let links = triangle_and_square(&rt, alloc)?;
     let words = [Word::two(0, 1), Word::two(1, 0)];
     let every_second = orbit(alloc, &links, &words, dart(&rt, 9))?;
     assert_eq!(&rt;
@@ -46,7 +48,7 @@ fn walks_along_the_words_alone(rt: HostRuntime) -> Result<(), Fail> {
 #[test]
 fn finds_the_cells_of_a_dart(rt: HostRuntime) -> Result<(), Fail> {
     let alloc = rt.alloc();
-    let links = triangle_and_square(&rt, alloc);
+    let links = triangle_and_square(&rt, alloc)?;
     let vertex = cell(alloc, &links, 0, dart(&rt, 1))?;
     assert_eq!(&rt; numbers(alloc, &vertex)?.as_slice(), [1, 6].as_slice());
     let edge = cell(alloc, &links, 1, dart(&rt, 14))?;
@@ -65,7 +67,7 @@ fn finds_the_cells_of_a_dart(rt: HostRuntime) -> Result<(), Fail> {
 #[test]
 fn names_and_counts_the_cells_of_a_map(rt: HostRuntime) -> Result<(), Fail> {
     let alloc = rt.alloc();
-    let links = triangle_and_square(&rt, alloc);
+    let links = triangle_and_square(&rt, alloc)?;
     let vertices = cells(alloc, &links, 0)?;
     assert_eq!(&rt;
         numbers(alloc, &vertices)?.as_slice(),
