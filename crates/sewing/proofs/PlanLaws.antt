@@ -1,19 +1,19 @@
 -- The edits of a sewing and of an unsewing: they fit, do what they are named for, and keep the laws.
-use Rattle.std.proofs.Common.{◌≡◌, ◌≢◌, ℕ, ◌≤◌, ◌⊎◌, ◌↔◌, List, Option, None, refl, sym, ap, ◌∙◌, inl, inr}
+use Rattle.std.proofs.Common.{◌≡◌, ◌≢◌, ℕ, ◌≤◌, ◌↔◌, List, sym, ap, ◌∙◌, inl, inr}
 use Rattle.std.specs.Prelude.{is_some}
 use Rattle.std.proofs.lemmas.Bool.{false≢true}
-use Rattle.map_defs.specs.Kind.{Kind, inverse, IsDistant}
+use Rattle.map_defs.specs.Kind.{Kind, IsDistant}
 use Rattle.map_defs.specs.Laws.{Laws}
 use Rattle.map_defs.specs.Rows.{Rows, links_of, row_at, IsLive, IsSound}
 use Rattle.map_defs.specs.Edits.{after_edit, Fits}
 use Rattle.map_defs.specs.Pairs.{JustOne}
-use Rattle.map_defs.specs.Sewing.{SewnPairs, IsSewable, IsSewn, IsFreed, IsUnsewn}
+use Rattle.map_defs.specs.Sewing.{SewnPairs, IsSewable, IsSewn, IsUnsewn}
 use Rattle.link_laws.proofs.RowFacts.{linked_live}
 use Rattle.link_laws.proofs.Relink.{IsEither}
 use Rattle.link_laws.proofs.Sewn.{sewn_triple, sewing_keeps}
 use Rattle.link_laws.proofs.Unsewn.{unsewing_keeps}
 use Rattle.sewing.specs.Triples.{Triple, Lists, IsAscending}
-use Rattle.sewing.proofs.PairFacts.{pairs-least}
+use Rattle.sewing.proofs.PairFacts.{pairs-live}
 use Rattle.sewing.proofs.PartedPairs.{parted-pair, freed-pair}
 use Rattle.sewing.proofs.DistantPairs.{inverse_within}
 use Rattle.sewing.proofs.PlanChanges.{relinks, changes, relinks-fit, are-changes, changed-at, changed-else}
@@ -27,16 +27,10 @@ either_within k n i t dim low (inl is) = rw is low
 either_within k n i t dim low (inr is) = rw is (inverse_within k n i dim low)
 
 module _ (k : Kind) (n : ℕ) (rows : Rows) (sound : IsSound k n rows) (dim : 2 ≤ n) (w : Laws k (links_of rows)) (i : ℕ) (low : i ≤ n) where
-  -- the darts of a sewing's pairs live
-  sewn-live : (d e : ℕ) → IsLive rows d → IsLive rows e → (x y t : ℕ) → SewnPairs k (links_of rows) i d e x y t → IsLive rows x × IsLive rows y
-  sewn-live d e live_d live_e = pairs-least k (links_of rows) (IsDistant k i) (JustOne d e i) (λ x y t. IsLive rows x × IsLive rows y)
-      (λ x y t is. (rw is.0 live_d, rw is.1 live_e))
-      (record { turned = λ x y t p. (p.1, p.0); across = λ x y t j far p hx hy. (sound.live j x hx, sound.live (inverse k j) y hy) })
-
   module _ (d e : ℕ) (live_d : IsLive rows d) (live_e : IsLive rows e) (can : IsSewable k (links_of rows) i d e) (pairs : List Triple) (up : IsAscending pairs)
       (same : (x y t : ℕ) → Lists pairs x y t ↔ SewnPairs k (links_of rows) i d e x y t) where
     live : (x y t : ℕ) → Lists pairs x y t → IsLive rows x
-    live x y t has = (sewn-live d e live_d live_e x y t ((same x y t).0 has)).0
+    live x y t has = (pairs-live k n rows sound (IsDistant k i) (JustOne d e i) (λ u v s is. (rw is.0 live_d, rw is.1 live_e)) x y t ((same x y t).0 has)).0
 
     facts : (x y t : ℕ) → Lists pairs x y t → (t ≤ n) × (links_of rows t x ≡ 0)
     facts x y t has =

@@ -1,4 +1,4 @@
-use Rattle.std.proofs.Common.{ℕ, ◌<◌, ◌≤◌, ◌↔◌, Contains}
+use Rattle.std.proofs.Common.{ℕ, ◌<◌, ◌↔◌, Contains}
 use Rattle.map_defs.specs.Kind.{IsDistant}
 use Rattle.sewing.proofs.plans.distant_links.Given as goal
 

@@ -1,7 +1,7 @@
-use Rattle.std.proofs.Common.{ℕ, ◌≡◌, List, [], ◌↔◌, sym, ap, ◌∙◌, arith}
+use Rattle.std.proofs.Common.{◌≡◌, List}
 use Rattle.map_defs.specs.Rows.{links_of}
-use Rattle.map_defs.specs.Sewing.{SewnPairs, IsSewable}
-use Rattle.sewing.specs.Triples.{Triple, Lists}
+use Rattle.map_defs.specs.Sewing.{IsSewable}
+use Rattle.sewing.specs.Triples.{Triple}
 use Rattle.sewing.proofs.PlanChanges.{changes}
 use Rattle.sewing.proofs.PlanLaws.{plan-sewn, plan-sewn-laws, plan-sewn-fits}
 use Rattle.sewing.proofs.plans.sew_plan.Goals as goal

@@ -1,8 +1,7 @@
-use Rattle.std.proofs.Common.{ℕ, ◌≡◌, ◌≢◌, List, [], ◌↔◌, Err, sym, ap, ◌∙◌, arith}
+use Rattle.std.proofs.Common.{◌≡◌, ◌≢◌, List, Err, sym, ap}
 use Rattle.std.proofs.lemmas.Bool.{false≢true}
 use Rattle.map_defs.specs.Rows.{links_of}
-use Rattle.map_defs.specs.Sewing.{SewnPairs}
-use Rattle.sewing.specs.Triples.{Triple, Lists}
+use Rattle.sewing.specs.Triples.{Triple}
 use Rattle.sewing.proofs.PartedPairs.{parted-good}
 use Rattle.sewing.proofs.PlanChanges.{changes}
 use Rattle.sewing.proofs.PlanLaws.{plan-unsewn, plan-unsewn-laws, plan-unsewn-fits}
