@@ -1,5 +1,5 @@
 -- The line of the machine that a `Line` stands for, and the reply that a `Reply` stands for.
-use Rattle.std.specs.Prelude.{ℕ, ◌≡◌, ◌≢◌, List, [], Option, None, Some}
+use Rattle.std.specs.Prelude.{ℕ, ◌≡◌, ◌≢◌, List, [], None, Some}
 use Rattle.std.specs.String.{string_bytes}
 use Rattle.map_kind.specs.declared.refusal.Refused.{Refused}
 use Rattle.map_kind.specs.declared.refusal.Refused.TheVariants as outcome

@@ -4,6 +4,8 @@
 mod line;
 mod read;
 mod reply;
+#[cfg(test)]
+mod tests;
 mod word;
 
 pub use line::Line;

@@ -14,7 +14,7 @@ use std::alloc::{AllocError, Global};
 
 /// The line that these bytes tell; none exactly where they have no word. The bytes are one line without its line feed: a
 /// number sign begins a comment, and the rest is cut into words at spaces, tabs and carriage returns. It is refused as
-/// `Syntax` exactly where it has words that are outside the grammar of lines, and has no other refusal.
+/// `Syntax` exactly where it has words that are outside the grammar of lines; the one other error is `NoMemory`.
 pub fn read_line(alloc: Global, bytes: &[u8]) -> Result<Option<Line>, Refused>
     // there is no line exactly where there is no word
     ensures blank { IfOk result (λ line. IfNone line (words_of bytes.now ≡ [])) }

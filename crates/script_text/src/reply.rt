@@ -11,9 +11,9 @@ use std::alloc::{AllocError, Global};
 /// The darts that a changing line made: they are numbered on from the first.
 #[derive(Clone, Copy, Debug, PartialEq, Eq)]
 pub struct Births {
-    /// The number of the first dart. Where no dart was made it has no meaning, and is not written.
+    /// The number of the first dart. Where no dart was made the machine tells 0, and nothing is written.
     pub first: u32,
-    /// How many darts were made.
+    /// How many darts were made, 0 where none was.
     pub count: u32,
 }
 
@@ -43,7 +43,8 @@ impl Reply {
 }
 
 /// The text of a reply, with the line feed at its end: `ok`, behind it the first new dart and their number where darts were
-/// made; `true` or `false`; `cell` or `count`, and its numbers; or `no`, the refusal's number and its name.
+/// made; `true` or `false`; `cell` or `count`, and its numbers; or `no`, the refusal's number and its name. The one error is
+/// want of memory.
 pub fn reply_text(alloc: Global, reply: &Reply) -> Result<Vec<u8>, AllocError>
     ensures { IfOk result (λ written. written.items ≡ reply_text (reply_meaning reply.now)) }
 {

@@ -1,4 +1,4 @@
-use Rattle.std.proofs.Common.{sym, ◌∙◌, ap}
+use Rattle.std.proofs.Common.{sym, ◌∙◌}
 use Rattle.std.proofs.lemmas.Bool.{and_parts}
 use Rattle.script_text.proofs.AsciiWords.{IsUtf8-name, read_whole}
 use Rattle.script_text.proofs.word.read_name.Goals as goal

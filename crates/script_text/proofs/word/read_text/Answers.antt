@@ -1,5 +1,4 @@
-use Rattle.std.proofs.Common.{sym, ◌∙◌, ap}
-use Rattle.std.specs.Option.{option_copied}
+use Rattle.std.proofs.Common.{sym, ◌∙◌}
 use Rattle.script_text.proofs.AsciiWords.{IsUtf8-graphic, read_whole}
 use Rattle.script_text.proofs.word.read_text.Goals as goal
 
