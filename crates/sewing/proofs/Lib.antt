@@ -1,4 +1,8 @@
 pub mod PairFacts
 pub mod PairWalks
+pub mod DistantPairs
+pub mod PartedPairs
+pub mod PlanChanges
+pub mod PlanLaws
 mod BookPlaces
 mod Exits

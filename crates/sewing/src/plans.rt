@@ -1,6 +1,6 @@
 ghost use Rattle.std.specs.Prelude.{◌≡◌, ◌≢◌, ℕ, ◌+◌, ◌≤◌, ◌<◌, ◌↔◌, ◌⊎◌, [], Contains, IsTrue, IfOk, IfErr, OnOk, IsErrOf, map};
 ghost use Rattle.map_defs.specs.Kind.{inverse, IsDistant};
-ghost use Rattle.map_defs.specs.Rows.{links_of, IsLive};
+ghost use Rattle.map_defs.specs.Rows.{links_of, IsLive, IsSound};
 ghost use Rattle.map_defs.specs.Laws.{Laws};
 ghost use Rattle.map_defs.specs.Edits.{Fits, after_edit};
 ghost use Rattle.map_defs.specs.Pairs.{IsGood};
@@ -157,6 +157,8 @@ fn sewn_pairs<K: Kind, const DIM: usize>(
         (SewnPairs K.kind (links_of links.now.rows) link one other)) }
     ensures unpaired { IsErrOf result PairFault.Unpaired → IsGood K.kind (links_of links.now.rows) (IsDistant K.kind link)
         (SewnPairs K.kind (links_of links.now.rows) link one other) → ⊥ }
+    ensures low { 2 ≤ DIM }
+    ensures sound { IsSound K.kind DIM links.now.rows }
 {
     let distant = distant_links::<K>(alloc, links.dimension(), link)?;
     let seed = Triple {
