@@ -19,13 +19,7 @@ impl<K: Kind, const DIM: usize> Map<K, DIM> {
     /// Refused as `BadDim` exactly where the link is above the map's dimension, or is link 0 of a combinatorial map, which
     /// follows link 1; then as `NoDart` exactly where no live dart has one of the numbers; then as `NotFree` exactly where
     /// one of the two ends is not free; and then as `Unsewable` exactly where the darts cannot be paired.
-    pub fn sew(
-        &mut self,
-        alloc: Global,
-        link: u64,
-        dart: u64,
-        other: u64,
-    ) -> Result<Done, Refused>
+    pub fn sew(&mut self, alloc: Global, link: u64, dart: u64, other: u64) -> Result<Done, Refused>
         ensures { Does self.old (Sew link dart other) result self.new }
     {
         let Some(link) = sewing_link(&self.links, link) else {
@@ -67,13 +61,7 @@ impl<K: Kind, const DIM: usize> Map<K, DIM> {
     ///
     /// Refused as `BadDim` exactly where the link is above the map's dimension, or is link 0 of a combinatorial map, which
     /// follows link 1, and then as `NoDart` exactly where no live dart has one of the numbers.
-    pub fn sewable(
-        &self,
-        alloc: Global,
-        link: u64,
-        dart: u64,
-        other: u64,
-    ) -> Result<bool, Refused>
+    pub fn sewable(&self, alloc: Global, link: u64, dart: u64, other: u64) -> Result<bool, Refused>
         ensures { Answers self.now (Sewable link dart other) Truth result }
     {
         let Some(link) = sewing_link(&self.links, link) else {
