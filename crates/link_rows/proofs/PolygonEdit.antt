@@ -56,7 +56,7 @@ module _ (k : Kind) (n : ℕ) (rows : Rows) (sides : ℕ) (wide : 1 ≤ n) (begu
   polygon-fits =
       subst (Fits k n rows) (sym (edit-is k n (length rows) sides))
       (births-fit-rows k n wide rows ys (polygon-flat k n (length rows) sides)
-        (ring-sound k n rows (per_side k * sides) ys (ring k sides) wide begun sound (polygon-ring k n (length rows) sides) few))
+      (ring-sound k n rows (per_side k * sides) ys (ring k sides) wide begun sound (polygon-ring k n (length rows) sides) few))
 
   pub polygon-after : after_edit n (sides_edit k (length rows) sides) rows ≡ rows ++ map (λ (row : List ℕ). Some row) ys
   polygon-after =

@@ -67,7 +67,12 @@ fn push_side<K: Kind>(
 }
 
 /// Appends the changes that give a new dart its links 0 and 1.
-fn push_row(changes: &mut Vec<Change>, number: u32, zeroth: u32, first: u32) -> Result<(), AllocError>
+fn push_row(
+    changes: &mut Vec<Change>,
+    number: u32,
+    zeroth: u32,
+    first: u32,
+) -> Result<(), AllocError>
     requires { 0 < number }
     ensures { OnOk result (changes.new.items ≡ changes.old.items ++ birth_changes number ((zeroth ∷ first ∷ []) ∷ [])) }
 {

@@ -1,6 +1,6 @@
 //! What no clause says: that calls are obeyed where memory is there.
 use crate::{Done, Map};
-use map_kind::{Alpha, Dart, Refusal, Refused};
+use map_kind::{Alpha, Refusal, Refused};
 use std::test::Fail;
 
 /// A triangle, and a dart that is made and ended.
@@ -21,8 +21,38 @@ fn obeys_each_line_once(rt: HostRuntime) -> Result<(), Fail> {
     assert_eq!(&rt; map.count(alloc)?.as_slice(), [6, 3, 3, 1, 1].as_slice());
     let listing = map.listing(alloc)?;
     assert_eq!(&rt; (listing.letter, listing.dim, listing.made), (b'g', 2, 7));
-    assert_eq!(&rt; listing.rows[2].dart, Dart::new(3).unwrap());
-    assert_eq!(&rt; listing.rows[2].links.as_slice(), [4, 2, 0].as_slice());
+    let third = listing.rows.get(2).ok_or("no row")?;
+    assert_eq!(&rt;
+        (third.dart.number(), third.links.as_slice()),
+        (3, [4, 2, 0].as_slice())
+    );
+    Ok(())
+}
+
+/// Two triangles are sewn along an edge, and unsewn.
+#[test]
+fn sews_and_unsews(rt: HostRuntime) -> Result<(), Fail> {
+    let alloc = rt.alloc();
+    let nothing = Ok(Done { first: 0, count: 0 });
+    let mut map = Map::<Alpha, 2>::new(alloc);
+    assert!(&rt; map.polygon(alloc, 3).is_ok());
+    assert!(&rt; map.polygon(alloc, 3).is_ok());
+    assert_eq!(&rt; map.sewable(alloc, 2, 1, 8), Ok(true));
+    assert_eq!(&rt; map.sew(alloc, 2, 1, 8), nothing);
+    assert_eq!(&rt; map.count(alloc)?.as_slice(), [12, 4, 5, 2, 1].as_slice());
+    assert_eq!(&rt;
+        map.sew(alloc, 2, 2, 7),
+        Err(Refused::Line(Refusal::NotFree))
+    );
+    assert_eq!(&rt;
+        map.sew(alloc, 3, 2, 7),
+        Err(Refused::Line(Refusal::BadDim))
+    );
+    assert_eq!(&rt; map.unsew(alloc, 2, 7), nothing);
+    assert_eq!(&rt;
+        map.unsew(alloc, 2, 1),
+        Err(Refused::Line(Refusal::AlreadyFree))
+    );
     Ok(())
 }
 
