@@ -1,6 +1,6 @@
 -- What an edit that fits leaves of a map besides its links.
-use Rattle.std.proofs.Common.{◌≡◌, ◌≢◌, ℕ, zero, suc, ◌+◌, ◌-◌, ◌<◌, ◌≤◌, ◌⊎◌, ◌↔◌, List, [], ◌∷◌, ◌++◌, length, get_or, map, replicate, Option, Some, None, is_some, IsSome, refl, sym, ap, ◌∙◌, arith, inl, inr}
-use Rattle.std.specs.Prelude.{All, Contains}
+use Rattle.std.proofs.Common.{◌≡◌, ℕ, ◌+◌, ◌<◌, ◌≤◌, ◌⊎◌, ◌↔◌, List, [], ◌∷◌, ◌++◌, length, map, replicate, Option, Some, None, is_some, IsSome, refl, sym, ap, ◌∙◌, arith, inl, inr}
+use Rattle.std.specs.Prelude.{Contains}
 use Rattle.std.proofs.lemmas.Bool.{cases_lt, false≢true}
 use Rattle.std.proofs.lemmas.List.{replicate-append-replicate, get_or_default}
 use Rattle.map_defs.specs.Kind.{Kind}
@@ -11,7 +11,7 @@ use Rattle.map_defs.specs.State.{no_values}
 use Rattle.map_defs.specs.Edits.{Edit, with_births, with_changes, after_edit, Fits}
 use Rattle.map_defs.specs.Relinking.{IsRelinked}
 use Rattle.link_rows.proofs.RowWrites.{births-wide, births-old, live-within}
-use Rattle.link_rows.proofs.EditSteps.{linked-live, linked-wide, buried-wide, buried-dead, buried-none, buried-other}
+use Rattle.link_rows.proofs.EditSteps.{linked-live, linked-wide, buried-wide, buried-dead, buried-none}
 use Rattle.link_rows.proofs.EditSound.{length-after, length-births}
 use Rattle.link_rows.proofs.EditLinks.{lives-on}
 use Rattle.link_rows.proofs.EditBack.{born-live}

@@ -1,9 +1,9 @@
 -- What the machine does where darts are sewn or unsewn, by what the plans answer.
-use Rattle.std.proofs.Common.{◌≡◌, ◌≢◌, ℕ, ◌<◌, ◌⊎◌, length, zero, suc, [], Result, Ok, Err, refl, ap, sym, ◌∙◌, subst, inl, inr, arith}
+use Rattle.std.proofs.Common.{◌≡◌, ◌≢◌, ℕ, ◌<◌, ◌⊎◌, length, [], Result, Err, refl, ap, subst, inl, inr, arith}
 use Rattle.map_kind.specs.declared.refusal.Refusal.TheVariants as told
 use Rattle.map_kind.specs.declared.refusal.Refused.{Refused}
 use Rattle.map_kind.specs.declared.refusal.Refused.TheVariants as why
-use Rattle.map_defs.specs.Kind.{Kind, alpha, beta, inverse, IsDistant}
+use Rattle.map_defs.specs.Kind.{Kind, beta, inverse, IsDistant}
 use Rattle.map_defs.specs.Rows.{Rows, links_of, IsLive, IsSound}
 use Rattle.map_defs.specs.Edits.{Edit, Fits, after_edit}
 use Rattle.map_defs.specs.State.{State}

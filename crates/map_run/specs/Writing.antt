@@ -6,8 +6,7 @@ use Rattle.map_defs.specs.Outside.{Appended, IsFront}
 use Rattle.map_defs.specs.Program.{EndsLine}
 use Rattle.map_defs.specs.State.{State}
 use Rattle.map_defs.specs.Text.{Reply, reply_text, replies_text, is_refused, any_refused}
-use Rattle.map_defs.specs.Machine.{Step, Obeys}
-use Rattle.map_defs.specs.Script.{Line}
+use Rattle.map_defs.specs.Machine.{Obeys}
 
 -- the whole text; or a front of it; or for want of memory a front that ends with a line
 abbrev pub IsWritten : List ℕ → Result (Unit {0}) PutFault → List ℕ → Type 0

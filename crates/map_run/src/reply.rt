@@ -38,11 +38,7 @@ fn write_reply<S: Sink>(alloc: Global, out: &mut S, reply: &Reply) -> Result<(),
 }
 
 /// Writes a listing, each line in one piece.
-fn write_listing<S: Sink>(
-    alloc: Global,
-    out: &mut S,
-    listing: &Listing,
-) -> Result<(), PutFault>
+fn write_listing<S: Sink>(alloc: Global, out: &mut S, listing: &Listing) -> Result<(), PutFault>
     ensures written { Writes (S.written out.old) (S.written out.new) result (listing_text listing.now) }
     ensures cause { HasCause (S.faults out.old) (S.faults out.new) (IsErrOf result PutFault.Failed) }
 {
@@ -53,11 +49,7 @@ fn write_listing<S: Sink>(
     out.put(b"end\n")
 }
 
-fn write_header<S: Sink>(
-    line: &mut Vec<u8>,
-    out: &mut S,
-    listing: &Listing,
-) -> Result<(), PutFault>
+fn write_header<S: Sink>(line: &mut Vec<u8>, out: &mut S, listing: &Listing) -> Result<(), PutFault>
     ensures written { Writes (S.written out.old) (S.written out.new) result (header_text listing.now) }
     ensures cause { HasCause (S.faults out.old) (S.faults out.new) (IsErrOf result PutFault.Failed) }
 {
@@ -74,11 +66,7 @@ fn write_header<S: Sink>(
     }
 }
 
-fn write_rows<S: Sink>(
-    line: &mut Vec<u8>,
-    out: &mut S,
-    rows: &[ListRow],
-) -> Result<(), PutFault>
+fn write_rows<S: Sink>(line: &mut Vec<u8>, out: &mut S, rows: &[ListRow]) -> Result<(), PutFault>
     ensures written { Writes (S.written out.old) (S.written out.new) result (flat_map row_text rows.now) }
     ensures cause { HasCause (S.faults out.old) (S.faults out.new) (IsErrOf result PutFault.Failed) }
 {

@@ -1,8 +1,8 @@
-use Rattle.std.proofs.Common.{◌≡◌, ◌≤◌, ◌+◌, ℕ, List, ◌∷◌, [], map, length, ap, arith, lit≤, string_bytes, String, refl, sym, ◌∙◌}
+use Rattle.std.proofs.Common.{◌≡◌, ◌≤◌, List, ◌∷◌, [], map, length, ap, arith, lit≤, string_bytes, String, refl, sym, ◌∙◌}
 use Rattle.std.specs.declared.alloc.Global.{Global}
 use Rattle.std.proofs.lemmas.Bool.{true≢false}
 use Rattle.map_defs.specs.Kind.{alpha}
-use Rattle.map_defs.specs.Program.{RunScript, Tells}
+use Rattle.map_defs.specs.Program.{RunScript}
 use Rattle.map_run.specs.Commands.{number}
 use Rattle.map_run.specs.declared.command.Dimension.{Dimension}
 use Rattle.map_run.specs.declared.command.Dimension.TheVariants.{Two, Three, Four}

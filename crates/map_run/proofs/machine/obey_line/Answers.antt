@@ -1,11 +1,6 @@
-use Rattle.std.proofs.Common.{ap, ◌∙◌}
-use Rattle.map_kind.specs.Refusals.{meaning}
-use Rattle.map_kind.specs.declared.refusal.Refusal.{Refusal}
 use Rattle.map_defs.specs.Script.{words_of}
-use Rattle.map_defs.specs.Text.{Refused}
 use Rattle.script_text.specs.Meanings.{line_meaning}
 use Rattle.map_run.specs.Lines.{answer_meaning}
-use Rattle.map_run.specs.Writing.{Says}
 use Rattle.map_run.proofs.LineFacts.{AnswersLine-told, AnswersLine-unread}
 use Rattle.map_run.proofs.machine.obey_line.Goals as goal
 

@@ -1,4 +1,4 @@
-use Rattle.std.proofs.Common.{ℕ, lit<, refl}
+use Rattle.std.proofs.Common.{lit<, refl}
 use Rattle.map_defs.specs.Rows.{Rows}
 use Rattle.link_rows.proofs.EditPlain.{births-fit}
 use Rattle.map_core.proofs.KeptLaws.{births-keep}

@@ -1,4 +1,4 @@
-use Rattle.std.proofs.Common.{◌≡◌, ℕ, lit<, refl, ap, sym, arith, ◌∙◌, ◌⊎◌, ◌<◌, ◌≤◌, Err}
+use Rattle.std.proofs.Common.{◌≡◌, ℕ, lit<, refl, ap, arith, ◌∙◌, ◌⊎◌, ◌<◌, Err}
 use Rattle.std.proofs.lemmas.Result.{err_from_is_err_and}
 use Rattle.map_defs.specs.Kind.{beta}
 use Rattle.map_defs.specs.Rows.{Rows}
