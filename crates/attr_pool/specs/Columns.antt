@@ -12,7 +12,9 @@ pub record KeepsColumn (old new : List ℕ) : Type 0 where
   pub ids : (d : ℕ) → id_at new d ≡ id_at old d
   pub longer : length old ≤ length new
 
--- each list with places has one for each dart up to made, and no id above
+-- there is a list for each dimension that a map can have; one with places has a place for each dart up to made, and no
+-- id above
 pub record AreLong (made : ℕ) (columns : List (List ℕ)) : Type 0 where
+  pub all : length columns ≡ 9
   pub long : (i : ℕ) → 0 < length (slice_index_or columns i []) → made < length (slice_index_or columns i [])
   pub bare : (i d : ℕ) → made < d → id_at (slice_index_or columns i []) d ≡ None

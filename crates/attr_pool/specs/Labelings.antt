@@ -1,5 +1,5 @@
 -- What a contract sees of labels: for each dimension, the ids of the darts.
-use Rattle.std.specs.Prelude.{ℕ, zero, suc, ◌≡◌, ◌≢◌, ◌⊎◌, ◌↔◌, ◌≤◌, ◌<◌, List, [], length, Option, Some, None, slice_index, slice_index_or}
+use Rattle.std.specs.Prelude.{ℕ, zero, suc, ◌≡◌, ◌≢◌, ◌⊎◌, ◌↔◌, ◌<◌, List, [], length, Option, Some, None, slice_index, slice_index_or}
 
 -- The labels are for the darts 1 to `made`. List i has the ids of dimension i, that of dart d at place d, and 0 where it
 -- has none; it is empty where no place is made for ids.

@@ -1,4 +1,4 @@
-ghost use Rattle.std.specs.Prelude.{◌≡◌, ℕ, ◌+◌, ◌≤◌, ◌<◌, [], length, take, slice_set, OnOk, IsTrue, ◌↔◌, Option};
+ghost use Rattle.std.specs.Prelude.{◌≡◌, ℕ, ◌+◌, ◌≤◌, ◌<◌, [], length, take, slice_set, OnOk, OnErr};
 ghost use Rattle.attr_pool.specs.Labelings.{id_at};
 ghost use Rattle.attr_pool.specs.Columns.{KeepsColumn, number_of};
 
@@ -34,6 +34,7 @@ impl Column {
     pub(crate) fn open(&mut self, made: u32) -> Result<(), AllocError>
         ensures kept { KeepsColumn self.old self.new }
         ensures long { OnOk result (made < length self.new) }
+        ensures err { OnErr result (self.new ≡ self.old) }
     {
         if (made as usize) < self.ids.len() {
             return Ok(());

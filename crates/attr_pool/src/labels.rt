@@ -60,7 +60,8 @@ impl<const DIM: usize> Labels<DIM> {
         ensures places_stay { HasPlaces self.old dim → HasPlaces self.new dim }
         ensures others { (i : ℕ) → i ≢ dim → HasPlaces self.new i ↔ HasPlaces self.old i }
     {
-        self.columns[dim].open(self.made)
+        let made = self.made;
+        self.columns[dim].open(made)
     }
 
     /// Lengthens the labels to the darts up to `made`, if they are for fewer. The darts that come in have no ids. It
