@@ -47,7 +47,7 @@ pub record IsTouchedCell (k : Kind) (L : Links) (rules : List (Option Rule)) (to
   pub ruled : IsSome (rule_at rules g.dim)
   pub ascending : IsStrictlyIncreasing g.darts
   pub whole : (d x : ℕ) → Contains g.darts d → Contains g.darts x ↔ InCell k L g.dim d x
-  pub touched : (t : ℕ) × Contains touched t × Contains g.darts t
+  pub reached : (t : ℕ) × Contains touched t × Contains g.darts t
 
 -- The groups are just these cells, each once, and they ascend.
 pub record AreTouchedCells (k : Kind) (L : Links) (rules : List (Option Rule)) (touched : List ℕ) (groups : List Group) : Type 0 where

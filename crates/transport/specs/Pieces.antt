@@ -19,7 +19,7 @@ pub record IsBareCell (Cell : ℕ → ℕ → Type 0) (i : ℕ) (touched : List 
   pub bare : g.value ≡ None
   pub ascending : IsStrictlyIncreasing g.darts
   pub whole : (d x : ℕ) → Contains g.darts d → Contains g.darts x ↔ Cell d x
-  pub touched : (t : ℕ) × Contains touched t × Contains g.darts t
+  pub reached : (t : ℕ) × Contains touched t × Contains g.darts t
 
 -- just the cells that hold a touched dart, each once, ascending by least dart
 pub record AreBareCells (Cell : ℕ → ℕ → Type 0) (i : ℕ) (touched : List ℕ) (cells : List Group) : Type 0 where

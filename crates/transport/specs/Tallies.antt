@@ -1,5 +1,6 @@
 -- Counts by id, and the cell in which each id was met last.
-use Rattle.std.specs.Prelude.{ℕ, Option, unwrap_or, nat_cmp}
+use Rattle.std.specs.Prelude.{ℕ, Option, unwrap_or}
+use Rattle.std.specs.Ordering.{nat_cmp}
 use Rattle.std.specs.BTreeMap.{get}
 use Rattle.transport.specs.declared.tally.Tally.{Tally}
 use Rattle.transport.specs.declared.tally.LastMet.{LastMet}

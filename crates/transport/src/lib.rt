@@ -1,7 +1,7 @@
 //! The values of cells, carried along where a change of links splits and merges them.
 #![tactic(auto)]
 
-mod carry;
+mod carrying;
 mod group;
 mod merging;
 mod pieces;
@@ -10,5 +10,5 @@ mod tally;
 mod tests;
 mod touched;
 
-pub use carry::carry;
+pub use carrying::carry;
 pub use group::{Group, RuleRow};

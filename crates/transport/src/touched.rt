@@ -1,8 +1,8 @@
-ghost use Rattle.std.specs.Prelude.{◌≡◌, ◌≤◌, IfOk, OnOk, Contains};
-ghost use Rattle.map_defs.specs.Rows.{links_of};
+ghost use Rattle.std.specs.Prelude.{◌≡◌, ℕ, ◌≤◌, ◌↔◌, ◌⊎◌, IfOk, OnOk, Contains};
+ghost use Rattle.map_defs.specs.Rows.{links_of, IsSound};
 ghost use Rattle.map_defs.specs.Cells.{InCell};
 ghost use Rattle.transport.specs.Pieces.{AreBareCells};
-ghost use Rattle.transport.specs.Found.{AreFound, IsMarked};
+ghost use Rattle.transport.specs.Found.{IsCellAdded};
 
 use crate::group::Group;
 use cell_walk::cell;
@@ -19,7 +19,8 @@ pub(crate) fn touched_cells<K: Kind, const DIM: usize>(
     dim: usize,
     touched: &[Dart],
 ) -> Result<Vec<Group>, AllocError>
-    requires { dim ≤ DIM }
+    requires dim { dim ≤ DIM }
+    requires sound { IsSound K.kind DIM links.now.rows }
     ensures { IfOk result (λ cells.
         AreBareCells (InCell K.kind (links_of links.now.rows) dim) dim touched.now cells.items) }
 {
@@ -42,6 +43,8 @@ fn add_cell<K: Kind, const DIM: usize>(
     cells: &mut Vec<Group>,
 ) -> Result<(), AllocError>
     requires { dim ≤ DIM }
+    ensures { OnOk result (IsCellAdded (InCell K.kind (links_of links.now.rows) dim) dim dart seen.old.keys seen.new.keys
+        cells.old.items cells.new.items) }
 {
     if seen.contains(&dart) {
         return Ok(());
@@ -57,7 +60,9 @@ fn add_cell<K: Kind, const DIM: usize>(
 }
 
 /// Adds darts to a set.
-fn mark(darts: &[Dart], seen: &mut BTreeSet<Dart>) -> Result<(), AllocError> {
+fn mark(darts: &[Dart], seen: &mut BTreeSet<Dart>) -> Result<(), AllocError>
+    ensures { OnOk result ((x : ℕ) → Contains seen.new.keys x ↔ (Contains seen.old.keys x ⊎ Contains darts.now x)) }
+{
     for dart in darts {
         seen.insert(*dart)?;
     }

@@ -44,7 +44,7 @@ pub fn carry<K: Kind, H: Hook, const DIM: usize>(
         AreTouchedCells K.kind (links_of links.now.rows) rules.now touched.now groups.items) }
     ensures values { IfOk result (λ groups. (n : ℕ) → n < length groups.items
         → HasCarriedValue K.kind (links_of links.now.rows) (IsLive links.now.rows) (id_of labels.now) pool.now
-            (H.meaning hook.now) rules.now (group_at groups.items n)) }
+        (H.meaning hook.now) rules.now (group_at groups.items n)) }
 {
     let mut groups = Vec::new(alloc);
     for dim in 0..links.dimension() + 1 {
