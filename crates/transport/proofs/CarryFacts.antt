@@ -1,6 +1,11 @@
 -- The pieces of the touched cells are the pieces of the definition, and so are the values merged from them.
-use Rattle.std.proofs.Common.{◌≡◌, ◌≢◌, ◌⊎◌, ◌↔◌, inl, inr, ℕ, zero, suc, ◌+◌, ◌<◌, ◌≤◌, List, [], ◌∷◌, length, slice_index, get_or, Bool, true, false, Option, Some, None, Contains, nat_eq, refl, sym, ◌∙◌, ap, subst, arith}
+use Rattle.std.proofs.Common.{◌≡◌, ◌≢◌, ◌⊎◌, ◌↔◌, inl, inr, ℕ, zero, suc, ◌+◌, ◌-◌, ◌<◌, ◌≤◌, List, [], ◌∷◌, length, slice_index, get_or, Bool, true, false, Option, Some, None, Contains, nat_eq, refl, sym, ◌∙◌, ap, subst, arith}
 use Rattle.std.proofs.lemmas.Bool.{false≢true}
+use Rattle.map_defs.specs.Kind.{Kind}
+use Rattle.map_defs.specs.Words.{through_second}
+use Rattle.map_defs.specs.Rows.{Rows, links_of, IsLive, IsSound}
+use Rattle.map_defs.specs.Cells.{InCell, here, onward}
+use Rattle.dart_arena.proofs.RowLemmas.{some-within}
 use Rattle.map_defs.specs.Values.{Value, Meaning}
 use Rattle.map_defs.specs.Touched.{IsAlike, IsWhole}
 use Rattle.map_defs.specs.Carry.{known, NamesPiece, ArePieces, Gets, IsCarried, merged_all}
@@ -20,10 +25,12 @@ use Rattle.transport.proofs.Picking.{count_passed, place_counted, picked_size, p
 told_in : (xs : List ℕ) (x : ℕ) → Contains xs x ⊎ (Contains xs x → ⊥)
 told_in [] x = inr (held_none x)
 told_in (y ∷ xs) x = elim (told_eq y x) [
-    inl p ↦ inl (subst (Contains (y ∷ xs)) p.0 (held_first y xs))
+  | inl p ↦ inl (subst (Contains (y ∷ xs)) p.0 (held_first y xs))
   | inr p ↦ elim (told_in xs x) [
-        inl h ↦ inl (held_later y xs x h)
-      | inr n ↦ inr (λ h. elim (held_case y xs x h) [ inl e ↦ p.0 e | inr r ↦ n r ]) ] ]
+    | inl h ↦ inl (held_later y xs x h)
+    | inr n ↦ inr (λ h. elim (held_case y xs x h) [ inl e ↦ p.0 e | inr r ↦ n r ])
+  ]
+]
 
 -- some number below b, or none
 find_below : (P : ℕ → Type 0) → ((n : ℕ) → P n ⊎ (P n → ⊥)) → (b : ℕ) → ((n : ℕ) × (n < b) × P n) ⊎ ((n : ℕ) → n < b → P n → ⊥)
@@ -44,6 +51,55 @@ first_least xs up x h = let p = place_of xs x h in let r = rises_at_most xs up 0
 
 same_some : (o : Option ℕ) (a b : ℕ) → o ≡ Some a → o ≡ Some b → a ≡ b
 same_some o a b p q = cc
+
+-- the darts of a live dart's cell are live
+pub cell_live : (k : Kind) (n : ℕ) (rows : Rows) → IsSound k n rows → (i d x : ℕ) → IsLive rows d → InCell k (links_of rows) i d x → IsLive rows x
+cell_live k n rows sound i d x l here = l
+cell_live k n rows sound i d x l (onward {x = u} {y = y} o s) = go s.0.first s.0.second s.2
+  where
+    linked : (j v : ℕ) → links_of rows j v ≡ y → IsLive rows y
+    linked j v e = subst (IsLive rows) e (sound.live j v (λ z. s.3 (sym e ∙ z)))
+
+    go : (f : ℕ) (t : Option ℕ) → through_second (links_of rows) t (links_of rows f u) ≡ y → IsLive rows y
+    go f None e = linked f u e
+    go f (Some j) e = linked j (links_of rows f u) e
+
+-- the darts of the cells of live darts are live
+pub bare_live : (k : Kind) (n : ℕ) (rows : Rows) → IsSound k n rows → (i : ℕ) (touched : List ℕ) (cells : List Group) → AreBareCells (InCell k (links_of rows) i) i touched cells
+    → ((t : ℕ) → Contains touched t → IsLive rows t) → (j x : ℕ) → j < length cells → Contains (group_at cells j).darts x → IsLive rows x
+bare_live k n rows sound i touched cells bare live j x h c =
+    let r = (bare.each j h).reached in
+    cell_live k n rows sound i r.0 x (live r.0 r.1) (((bare.each j h).whole r.0 x r.2).0 c)
+
+-- the ids of pieces are ids of live darts
+pub pieces_held : (Live : ℕ → Type 0) (label : ℕ → Option ℕ) (Held : ℕ → Type 0) (cells : List Group) (pieces : List Piece) → AreAllPieces label cells pieces
+    → ((j x : ℕ) → j < length cells → Contains (group_at cells j).darts x → Live x) → ((d id : ℕ) → Live d → label d ≡ Some id → Held id) → (k : ℕ) → k < length pieces → Held (piece_at pieces k).id
+pieces_held Live label Held cells pieces all live held k h =
+    let p = all.sound k h in
+    held (piece_at pieces k).dart (piece_at pieces k).id (live (piece_at pieces k).cell (piece_at pieces k).dart p.placed p.inside) p.labelled
+
+-- there are at most as many pieces as darts are ever made
+pub few_pieces : (k : Kind) (n : ℕ) (rows : Rows) → IsSound k n rows → (label : ℕ → Option ℕ) (cells : List Group) (pieces : List Piece) → AreAllPieces label cells pieces
+    → ((j x : ℕ) → j < length cells → Contains (group_at cells j).darts x → IsLive rows x) → length pieces < 4294967296
+few_pieces k n rows sound label cells pieces all live = go (case (length pieces))
+  where
+    rank : (j : ℕ) → j < length pieces → j ≤ (piece_at pieces j).dart
+    rank zero h = omega arith
+    rank (suc j) h = let r = rank j (omega arith) in let s = all.rising j (suc j) (omega arith) h in omega arith
+
+    made_at_most : (j : ℕ) → j < length pieces → (piece_at pieces j).dart ≤ 4194305
+    made_at_most j h =
+        let p = all.sound j h in
+        let l = some-within rows (piece_at pieces j).dart (live (piece_at pieces j).cell (piece_at pieces j).dart p.placed p.inside) in
+        let f = sound.few in
+        omega arith
+
+    case : (m : ℕ) → (m ≡ 0) ⊎ (0 < m)
+    case m = grind arith
+
+    go : (length pieces ≡ 0) ⊎ (0 < length pieces) → length pieces < 4294967296
+    go (inl e) = omega arith
+    go (inr l) = let r = rank (length pieces - 1) (omega arith) in let m = made_at_most (length pieces - 1) (omega arith) in omega arith
 
 module _ (Cell : ℕ → ℕ → Type 0) (classes : AreClasses Cell) (i : ℕ) (touched : List ℕ) (cells : List Group) (bare : AreBareCells Cell i touched cells) where
   -- two cells with a dart in common are one
@@ -186,8 +242,8 @@ module _ (Cell : ℕ → ℕ → Type 0) (classes : AreClasses Cell) (i : ℕ) (
         within = (let s = size in let c = count_passed (has_id pieces (piece_at pieces k).id) k (length pieces) own h in omega arith);
         named = picked_at (has_id pieces (piece_at pieces k).id) (λ j. (piece_at pieces j).dart) 0 (length pieces) k h own;
         is =
-          ap (λ v. rule.share v (count_below (has_id pieces (piece_at pieces k).id) (length pieces)) (count_below (has_id pieces (piece_at pieces k).id) k)) (sym worth)
-          ∙ ap (λ n. rule.share (worth_of pool label (piece_at pieces k).dart) n (count_below (has_id pieces (piece_at pieces k).id) k)) (sym size);
+            ap (λ v. rule.share v (count_below (has_id pieces (piece_at pieces k).id) (length pieces)) (count_below (has_id pieces (piece_at pieces k).id) k)) (sym worth)
+            ∙ ap (λ n. rule.share (worth_of pool label (piece_at pieces k).dart) n (count_below (has_id pieces (piece_at pieces k).id) k)) (sym size);
       }
         where
           own : has_id pieces (piece_at pieces k).id k ≡ true
@@ -217,8 +273,8 @@ module _ (Cell : ℕ → ℕ → Type 0) (classes : AreClasses Cell) (i : ℕ) (
                   → Gets rule (worth_of pool label) Live (IsAlike label) Cell (slice_index (picked (lies_in pieces n) (λ k. (piece_at pieces k).dart) (length pieces)) at) (get_or (picked (lies_in pieces n) (part_at rule pool pieces) (length pieces)) at None)
               go (k, w, e, f) =
                   let a : (piece_at pieces k).dart ≡ slice_index (picked (lies_in pieces n) (λ k. (piece_at pieces k).dart) (length pieces)) at =
-                        sym (picked_at (lies_in pieces n) (λ k. (piece_at pieces k).dart) 0 (length pieces) k w e) ∙ ap (slice_index (picked (lies_in pieces n) (λ k. (piece_at pieces k).dart) (length pieces))) f in
+                  sym (picked_at (lies_in pieces n) (λ k. (piece_at pieces k).dart) 0 (length pieces) k w e) ∙ ap (slice_index (picked (lies_in pieces n) (λ k. (piece_at pieces k).dart) (length pieces))) f in
                   let b : part_at rule pool pieces k ≡ get_or (picked (lies_in pieces n) (part_at rule pool pieces) (length pieces)) at None =
-                        sym (picked_at (lies_in pieces n) (part_at rule pool pieces) None (length pieces) k w e) ∙ ap (λ j. get_or (picked (lies_in pieces n) (part_at rule pool pieces) (length pieces)) j None) f in
+                  sym (picked_at (lies_in pieces n) (part_at rule pool pieces) None (length pieces) k w e) ∙ ap (λ j. get_or (picked (lies_in pieces n) (part_at rule pool pieces) (length pieces)) j None) f in
                   subst (λ v. Gets rule (worth_of pool label) Live (IsAlike label) Cell (slice_index (picked (lies_in pieces n) (λ k. (piece_at pieces k).dart) (length pieces)) at) v) b
                   (subst (λ x. Gets rule (worth_of pool label) Live (IsAlike label) Cell x (part_at rule pool pieces k)) a (gets k w))

@@ -99,8 +99,9 @@ module _ (Cell : ℕ → ℕ → Type 0) (classes : AreClasses Cell) (i : ℕ) (
 
       apart : (m n : ℕ) → m < n → n < length (old ++ g ∷ []) → least_of (group_at (old ++ g ∷ []) m) ≢ least_of (group_at (old ++ g ∷ []) n)
       apart m n l h = elim (back_or_front no_group old g n h) [
-          inl s ↦ (let m' : m < length old = omega arith in rw (at_front no_group old g m m', at_front no_group old g n s) (f.apart m n l s))
-        | inr s ↦ (let m' : m < length old = omega arith in rw (s, at_front no_group old g m m', at_back no_group old g) (least_apart m m')) ]
+        | inl s ↦ (let m' : m < length old = omega arith in rw (at_front no_group old g m m', at_front no_group old g n s) (f.apart m n l s))
+        | inr s ↦ (let m' : m < length old = omega arith in rw (s, at_front no_group old g m m', at_back no_group old g) (least_apart m m'))
+      ]
 
       to : (x : ℕ) → Contains before x ⊎ Contains g.darts x → (n : ℕ) × (n < length (old ++ g ∷ [])) × Contains (group_at (old ++ g ∷ []) n).darts x
       to x (inl h) = let t = (f.marked x).0 h in let w = t.1 in (t.0, omega (arith, one_more no_group old g), rw (at_front no_group old g t.0 t.1) t.2)
@@ -108,8 +109,9 @@ module _ (Cell : ℕ → ℕ → Type 0) (classes : AreClasses Cell) (i : ℕ) (
 
       from : (x : ℕ) → (n : ℕ) × (n < length (old ++ g ∷ [])) × Contains (group_at (old ++ g ∷ []) n).darts x → Contains before x ⊎ Contains g.darts x
       from x (n, h, c) = elim (back_or_front no_group old g n h) [
-          inl s ↦ inl ((f.marked x).1 (n, s, rw (at_front no_group old g n s) at c))
-        | inr s ↦ inr (rw (s, at_back no_group old g) at c) ]
+        | inl s ↦ inl ((f.marked x).1 (n, s, rw (at_front no_group old g n s) at c))
+        | inr s ↦ inr (rw (s, at_back no_group old g) at c)
+      ]
 
       marked : (x : ℕ) → Contains after x ↔ ((n : ℕ) × (n < length (old ++ g ∷ [])) × Contains (group_at (old ++ g ∷ []) n).darts x)
       marked x = (λ h. to x ((fresh.marked x).0 h), λ h. (fresh.marked x).1 (from x h))

@@ -70,8 +70,9 @@ module _ (label : ℕ → Option ℕ) (cells : List Group) where
 
       met_case : (other m : ℕ) → after other ≡ Some m → ((id ≡ other) × (m ≡ n)) ⊎ (met other ≡ Some m)
       met_case other m e = elim (told_eq id other) [
-          inl p ↦ (let f : after other ≡ Some n = rw p.1 at (meets.is other) in inl (p.0, (let s : Some m ≡ Some n = sym e ∙ f in cc)))
-        | inr p ↦ (let f : after other ≡ met other = rw p.1 at (meets.is other) in inr (sym f ∙ e)) ]
+        | inl p ↦ (let f : after other ≡ Some n = rw p.1 at (meets.is other) in inl (p.0, (let s : Some m ≡ Some n = sym e ∙ f in cc)))
+        | inr p ↦ (let f : after other ≡ met other = rw p.1 at (meets.is other) in inr (sym f ∙ e))
+      ]
 
       at_most : (other m : ℕ) (old : List Piece) → AreGathered label cells n t met old → after other ≡ Some m → m ≤ n
       at_most other m old g e = elim (met_case other m e) [ inl p ↦ (let f = p.1 in omega arith) | inr f ↦ g.bounded other m f ]
@@ -116,8 +117,9 @@ module _ (label : ℕ → Option ℕ) (cells : List Group) where
 
             go : (j : ℕ) × (j < length (group_at cells n).darts) × (slice_index (group_at cells n).darts j ≡ x) → d ≤ x
             go (j, l, f) = elim (case j) [
-                inl s ↦ absurd (unmet (g.passed n j id low l (inr (refl, s)) (ap label f ∙ e)))
-              | inr s ↦ (let r = rises_at_most (group_at cells n).darts (apart.ascending n low) t j s l in omega arith) ]
+              | inl s ↦ absurd (unmet (g.passed n j id low l (inr (refl, s)) (ap label f ∙ e)))
+              | inr s ↦ (let r = rises_at_most (group_at cells n).darts (apart.ascending n low) t j s l in omega arith)
+            ]
 
         is_piece : IsPiece label cells (record { dart = d; id = id; cell = n })
         is_piece = record { placed = low; inside = inside; labelled = labelled; least = least }
@@ -159,8 +161,9 @@ module _ (label : ℕ → Option ℕ) (cells : List Group) where
 
             differ : (j k : ℕ) → j < k → k < length (old ++ (record { dart = d; id = id; cell = n }) ∷ []) → (piece_at (old ++ (record { dart = d; id = id; cell = n }) ∷ []) j).dart ≢ (piece_at (old ++ (record { dart = d; id = id; cell = n }) ∷ []) k).dart
             differ j k l h = elim (back_or_front no_piece old (record { dart = d; id = id; cell = n }) k h) [
-                inl s ↦ (let j' : j < length old = omega arith in rw (at_front no_piece old (record { dart = d; id = id; cell = n }) j j', at_front no_piece old (record { dart = d; id = id; cell = n }) k s) (g.apart j k l s))
-              | inr s ↦ (let j' : j < length old = omega arith in rw (s, at_front no_piece old (record { dart = d; id = id; cell = n }) j j', at_back no_piece old (record { dart = d; id = id; cell = n })) (other_dart j j')) ]
+              | inl s ↦ (let j' : j < length old = omega arith in rw (at_front no_piece old (record { dart = d; id = id; cell = n }) j j', at_front no_piece old (record { dart = d; id = id; cell = n }) k s) (g.apart j k l s))
+              | inr s ↦ (let j' : j < length old = omega arith in rw (s, at_front no_piece old (record { dart = d; id = id; cell = n }) j j', at_back no_piece old (record { dart = d; id = id; cell = n })) (other_dart j j'))
+            ]
 
     pub gathered_more : (met after : ℕ → Option ℕ) (old new : List Piece) → AreGathered label cells n t met old → IsPieceAdded label n d met after old new → AreGathered label cells n (t + 1) after new
     gathered_more met after old new g (inl (bare, same, kept)) = added_none met after old new g bare same kept

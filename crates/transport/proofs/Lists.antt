@@ -31,8 +31,9 @@ module _ {X : Type 0} (e : X) where
   -- what holds of each element
   pub each_pushed : (P : X → Type 0) (xs : List X) (x : X) → ((k : ℕ) → k < length xs → P (get_or xs k e)) → P x → (k : ℕ) → k < length (xs ++ x ∷ []) → P (get_or (xs ++ x ∷ []) k e)
   each_pushed P xs x all p k h = elim (back_or_front xs x k h) [
-      inl l ↦ subst P (sym (at_front xs x k l)) (all k l)
-    | inr l ↦ subst P (sym (ap (λ j. get_or (xs ++ x ∷ []) j e) l ∙ at_back xs x)) p ]
+    | inl l ↦ subst P (sym (at_front xs x k l)) (all k l)
+    | inr l ↦ subst P (sym (ap (λ j. get_or (xs ++ x ∷ []) j e) l ∙ at_back xs x)) p
+  ]
 
   pub each_moved : (P : X → Type 0) (xs ys : List X) → IsPermutation xs ys → ((k : ℕ) → k < length xs → P (get_or xs k e)) → (k : ℕ) → k < length ys → P (get_or ys k e)
   each_moved P xs ys moved all k h = All-permutation P xs ys moved (λ j d l. subst P (get_or_default xs j e d l) (all j l)) k e h

@@ -17,8 +17,9 @@ merged_last f sofar (u ∷ parts) v = merged_last f (merged_with f sofar u) part
 -- a group after one was written
 group_set : (gs : List Group) (n m : ℕ) (g : Group) → n < length gs → ((m ≡ n) × (group_at (set gs n g) m ≡ g)) ⊎ ((m ≢ n) × (group_at (set gs n g) m ≡ group_at gs m))
 group_set gs n m g h = elim (told_eq m n) [
-    inl p ↦ inl (p.0, (let e = p.0 in rw (e, get_or-set_same) refl))
-  | inr p ↦ inr (p.0, get_or-set_other gs n m g no_group p.0) ]
+  | inl p ↦ inl (p.0, (let e = p.0 in rw (e, get_or-set_same) refl))
+  | inr p ↦ inr (p.0, get_or-set_other gs n m g no_group p.0)
+]
 
 module _ (rule : Meaning) (pool : Store) (pieces : List Piece) where
   pub merged_none : (cells : List Group) → ((n : ℕ) → n < length cells → (group_at cells n).value ≡ None) → AreMerged rule pool pieces 0 cells cells

@@ -21,8 +21,9 @@ module _ (passes : ℕ → Bool) where
   pub count_at_most : (n : ℕ) → count_below passes n ≤ n
   count_at_most zero = omega arith
   count_at_most (suc n) = elim (decide (passes n)) [
-      inl e ↦ (let c = count_yes n e in let l = count_at_most n in omega arith)
-    | inr e ↦ (let c = count_no n e in let l = count_at_most n in omega arith) ]
+    | inl e ↦ (let c = count_yes n e in let l = count_at_most n in omega arith)
+    | inr e ↦ (let c = count_no n e in let l = count_at_most n in omega arith)
+  ]
 
   one_by_one : (n : ℕ) → count_below passes n ≤ count_below passes (suc n)
   one_by_one n = elim (decide (passes n)) [ inl e ↦ (let c = count_yes n e in omega arith) | inr e ↦ (let c = count_no n e in omega arith) ]
@@ -33,8 +34,9 @@ module _ (passes : ℕ → Bool) where
   pub count_rises : (k n : ℕ) → k ≤ n → count_below passes k ≤ count_below passes n
   count_rises k zero h = let e : k ≡ 0 = omega arith in rw e (omega arith)
   count_rises k (suc n) h = elim (last_or_before k n h) [
-      inl l ↦ (let a = count_rises k n l in let b = one_by_one n in omega arith)
-    | inr e ↦ rw e (omega arith) ]
+    | inl l ↦ (let a = count_rises k n l in let b = one_by_one n in omega arith)
+    | inr e ↦ rw e (omega arith)
+  ]
 
   pub count_passed : (k n : ℕ) → passes k ≡ true → k < n → count_below passes k < count_below passes n
   count_passed k n e h = let c = count_yes k e in let l = count_rises (suc k) n (omega arith) in omega arith
@@ -64,8 +66,9 @@ module _ (passes : ℕ → Bool) where
     pub picked_size : (e : X) (n : ℕ) → length (picked passes f n) ≡ count_below passes n
     picked_size e zero = refl
     picked_size e (suc n) = elim (decide (passes n)) [
-        inl p ↦ ap length (picked_yes n p) ∙ one_more e (picked passes f n) (f n) ∙ ap (λ c. c + 1) (picked_size e n) ∙ sym (count_yes n p)
-      | inr p ↦ ap length (picked_no n p) ∙ picked_size e n ∙ sym (count_no n p) ]
+      | inl p ↦ ap length (picked_yes n p) ∙ one_more e (picked passes f n) (f n) ∙ ap (λ c. c + 1) (picked_size e n) ∙ sym (count_yes n p)
+      | inr p ↦ ap length (picked_no n p) ∙ picked_size e n ∙ sym (count_no n p)
+    ]
 
     pub picked_at : (e : X) (n k : ℕ) → k < n → passes k ≡ true → get_or (picked passes f n) (count_below passes k) e ≡ f k
     picked_at e zero k h p = absurd (omega arith)

@@ -1,9 +1,10 @@
 ghost use Rattle.std.specs.Prelude.{◌≡◌, ℕ, ◌+◌, ◌<◌, ◌≤◌, length, Some, IsSome, IfOk, Contains};
-ghost use Rattle.map_defs.specs.Rows.{IsLive, links_of};
+ghost use Rattle.map_defs.specs.Rows.{IsLive, links_of, IsSound};
 ghost use Rattle.map_defs.specs.Touched.{Covers};
 ghost use Rattle.attr_pool.specs.Stores.{IsLive as IsHeld};
 ghost use Rattle.attr_pool.specs.Labelings.{id_of};
 ghost use Rattle.transport.specs.Groups.{group_at, rule_at, AreTouchedCells, HasCarriedValue};
+ghost use Rattle.transport.specs.Joined.{IsCarriedCell, IsWanted, AreAllOf};
 
 use crate::group::{Group, RuleRow};
 use crate::merging::merge_pieces;
@@ -66,6 +67,17 @@ fn carried_cells<K: Kind, H: Hook, const DIM: usize>(
     dim: usize,
 ) -> Result<Vec<Group>, AllocError>
     requires dim { dim ≤ DIM }
+    requires sound { IsSound K.kind DIM links.now.rows }
+    requires ready { H.ready hook.now }
+    requires rules { length rules.now ≡ DIM + 1 }
+    requires live { (d : ℕ) → Contains touched.now d → IsLive links.now.rows d }
+    requires held { (i d id : ℕ) → IsLive links.now.rows d → id_of labels.now i d ≡ Some id → IsHeld pool.now id }
+    requires covered { (i : ℕ) → IsSome (rule_at rules.now i)
+        → Covers K.kind i (links_of links.now.rows) (IsLive links.now.rows) (id_of labels.now i) (Contains touched.now) }
+    ensures { IfOk result (λ cells. AreAllOf
+        (IsCarriedCell K.kind (links_of links.now.rows) (IsLive links.now.rows) (id_of labels.now) pool.now
+        (H.meaning hook.now) rules.now touched.now)
+        (IsWanted rules.now touched.now) (λ i. i ≡ dim) cells.items) }
 {
     let Some(rule) = rules.rules[dim] else {
         return Ok(Vec::new(alloc));

@@ -39,8 +39,9 @@ loop-piece-preserved g c =
     let within : p.cell < length c.loop-piece.cells.items = (let size = c.loop-piece.invariant.0.size in omega arith) in
     let part = part_of rule c.args.pool.now c.args.pieces.now k p c.unwrap-value.result c.count.result c.count-in-loop-piece.result c.share-part.result at (sym c.value.ensures ∙ c.unwrap-value.ensures) (c.count.ensures ∙ c.in_ok-totals.ensures p.id) (c.count-in-loop-piece.ensures ∙ c.loop-piece.invariant.1 p.id) c.share-part.ensures in
     let read : c.index_mut-cell.result.now ≡ group_at c.loop-piece.cells.items p.cell = c.index_mut-cell.ensures.value ∙ get_or_default c.loop-piece.cells.items p.cell c.index_mut-cell.result.now no_group within in
-    let seen = c.cell.view_is ∙ read in
-    (merged_more rule c.args.pool.now c.args.pieces.now k c.args.cells.now.items c.loop-piece.cells.items p c.share-part.result _ c.loop-piece.invariant.0 at placed part
-      (ap (λ (h : Group). h.dim) seen) (ap (λ (h : Group). h.darts) seen)
-      (c.merged_with-cell-inside.ensures ∙ ap (λ (h : Group). merged_with rule.merged h.value c.share-part.result) seen),
-    tally_more rule c.args.pool.now c.args.pieces.now k p (count_of c.loop-piece.before) (count_of c.add.new.self) at c.loop-piece.invariant.1 c.in_ok-add.ensures)
+    let seen = c.cell.view_is ∙ read in (
+      merged_more rule c.args.pool.now c.args.pieces.now k c.args.cells.now.items c.loop-piece.cells.items p c.share-part.result _ c.loop-piece.invariant.0 at placed part
+          (ap (λ (h : Group). h.dim) seen) (ap (λ (h : Group). h.darts) seen)
+          (c.merged_with-cell-inside.ensures ∙ ap (λ (h : Group). merged_with rule.merged h.value c.share-part.result) seen),
+      tally_more rule c.args.pool.now c.args.pieces.now k p (count_of c.loop-piece.before) (count_of c.add.new.self) at c.loop-piece.invariant.1 c.in_ok-add.ensures,
+    )

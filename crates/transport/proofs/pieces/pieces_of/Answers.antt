@@ -2,7 +2,6 @@ use Rattle.std.proofs.Common.{rules, ◌≡◌, ◌≤◌, ℕ, length, arith}
 use Rattle.std.proofs.lemmas.List.Sorted.{IsNonDecreasingBy-from_sort_by_key}
 use Rattle.transport.specs.declared.pieces.Piece.{Piece}
 use Rattle.transport.proofs.Gathering.{gathered_none, gathered_sorted}
-use Rattle.transport.proofs.CarryFacts.{bare_apart}
 use Rattle.transport.proofs.pieces.pieces_of.Goals as goal
 
 pub returns : goal.returns
