@@ -1,8 +1,8 @@
 mod CellDarts
 mod ComponentDarts
 mod Counting
-mod FoundDarts
+pub mod FoundDarts
 mod RowSteps
-mod SeenDarts
+pub mod SeenDarts
 mod SurveyFacts
 mod Walks

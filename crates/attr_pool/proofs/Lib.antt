@@ -1,0 +1,2 @@
+pub mod FreePlaces
+pub mod ColumnFacts

@@ -1,0 +1,4 @@
+pub mod Stores
+pub mod Labelings
+pub mod Kept
+pub mod Columns

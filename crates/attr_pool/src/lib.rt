@@ -1,0 +1,13 @@
+//! Values under ids, and the ids of darts: the darts of a cell share an id, and so a value.
+#![tactic(auto)]
+
+mod column;
+mod id;
+mod labels;
+mod pool;
+#[cfg(test)]
+mod tests;
+
+pub use id::AttrId;
+pub use labels::Labels;
+pub use pool::Pool;

@@ -1,0 +1,50 @@
+use crate::{Labels, Pool};
+use map_kind::{Dart, Value};
+use std::test::Fail;
+
+fn value(a: i64) -> Value {
+    Value { a, b: 0, c: 0 }
+}
+
+#[test]
+fn gives_ids_that_are_not_live(rt: HostRuntime) -> Result<(), Fail> {
+    let mut pool = Pool::new(rt.alloc());
+    assert!(&rt; pool.reserve(2).is_ok());
+    let one = pool.make(value(1));
+    let two = pool.make(value(2));
+    assert!(&rt; one != two);
+    assert_eq!(&rt; pool.live_count(), 2);
+    assert_eq!(&rt; pool.release(one), value(1));
+    assert_eq!(&rt; pool.value(one), None);
+    let three = pool.make(value(3));
+    assert!(&rt; three != two);
+    assert_eq!(&rt; pool.replace(three, value(4)), value(3));
+    assert_eq!(&rt;
+        (pool.value(two), pool.value(three)),
+        (Some(value(2)), Some(value(4)))
+    );
+    assert_eq!(&rt; pool.live_count(), 2);
+    Ok(())
+}
+
+#[test]
+fn keeps_the_ids_of_darts(rt: HostRuntime) -> Result<(), Fail> {
+    let dart = Dart::new(2).unwrap();
+    let other = Dart::new(3).unwrap();
+    let mut pool = Pool::new(rt.alloc());
+    assert!(&rt; pool.reserve(1).is_ok());
+    let id = pool.make(value(1));
+    let mut labels = Labels::<3>::new(rt.alloc());
+    assert!(&rt; labels.open(0).is_ok());
+    assert!(&rt; labels.open(3).is_ok());
+    assert!(&rt; labels.grow(3).is_ok());
+    assert_eq!(&rt; labels.put(3, dart, Some(id)), None);
+    assert_eq!(&rt; labels.put(3, other, Some(id)), None);
+    assert_eq!(&rt; (labels.id(3, dart), labels.id(0, dart)), (Some(id), None));
+    labels.cut(2);
+    assert!(&rt; labels.grow(4).is_ok());
+    assert_eq!(&rt; (labels.id(3, dart), labels.id(3, other)), (Some(id), None));
+    assert_eq!(&rt; labels.put(3, dart, None), Some(id));
+    assert_eq!(&rt; labels.id(3, dart), None);
+    Ok(())
+}

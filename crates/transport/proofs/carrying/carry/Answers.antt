@@ -1,0 +1,25 @@
+use Rattle.std.proofs.Common.{◌≡◌, ◌<◌, ◌≤◌, ◌+◌, ℕ, List, length, sym, subst, arith}
+use Rattle.map_defs.specs.Rows.{IsLive, links_of}
+use Rattle.attr_pool.specs.Labelings.{id_of}
+use Rattle.transport.specs.Groups.{Group}
+use Rattle.transport.specs.Joined.{IsCarriedCell, IsWanted, AreAllOf}
+use Rattle.transport.proofs.JoinFacts.{all_joined, all_touched, all_carried}
+use Rattle.transport.proofs.carrying.carry.Goals as goal
+
+pub loop-dim-preserved : goal.loop-dim-preserved
+loop-dim-preserved g c =
+    subst (λ (groups : List Group). AreAllOf
+        (IsCarriedCell g.K.Kind.kind (links_of c.args.links.now.rows) (IsLive c.args.links.now.rows) (id_of c.args.labels.now) c.args.pool.now (g.H.Rule.meaning c.args.hook.now) c.args.rules.now c.args.touched.now)
+        (IsWanted c.args.rules.now c.args.touched.now) (λ i. i < c.loop-dim.dim + 1) groups)
+    (sym c.in_ok-append.ensures.items)
+    (all_joined _ _ c.loop-dim.dim c.loop-dim.groups.items c.in_ok-cells.cells.items c.loop-dim.invariant c.in_ok-cells.ensures)
+
+pub returns-clause-cells : goal.returns-clause-cells
+returns-clause-cells g c =
+    let end = c.loop-dim-test.false in
+    let dimension = c.dimension-dim-end.ensures.dimension in
+    let rows = c.requires.rules in
+    all_touched _ _ _ _ _ _ _ _ c.loop-dim.dim c.loop-dim.groups.items (omega arith) c.loop-dim.invariant
+
+pub returns-clause-values : goal.returns-clause-values
+returns-clause-values g c = all_carried _ _ _ _ _ _ _ _ c.loop-dim.dim c.loop-dim.groups.items c.loop-dim.invariant

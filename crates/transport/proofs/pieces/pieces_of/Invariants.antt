@@ -1,0 +1,7 @@
+use Rattle.attr_pool.specs.Labelings.{id_of}
+use Rattle.transport.specs.Tallies.{met_in}
+use Rattle.transport.specs.Gathered.{AreGathered}
+use Rattle.transport.proofs.pieces.pieces_of.Given as goal
+
+abbrev pub invariant-loop-place : goal.invariant-loop-place
+invariant-loop-place g l = AreGathered (id_of l.labels l.dim) l.cells l.place 0 (met_in l.met) l.pieces.items

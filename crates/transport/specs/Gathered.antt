@@ -1,0 +1,36 @@
+-- What is gathered while the darts of the cells are looked at one after the other.
+use Rattle.std.specs.Prelude.{ℕ, ◌≡◌, ◌≢◌, ◌+◌, ◌≤◌, ◌<◌, ◌⊎◌, cond, nat_eq, List, [], ◌∷◌, ◌++◌, length, Option, Some, None, slice_index, Contains}
+use Rattle.std.specs.List.Sorted.{IsStrictlyIncreasing}
+use Rattle.transport.specs.Groups.{Group, group_at}
+use Rattle.transport.specs.Pieces.{piece_at, IsPiece}
+use Rattle.transport.specs.declared.pieces.Piece.{Piece}
+
+-- the cells' darts ascend, and no dart lies in two of them
+pub record AreApart (cells : List Group) : Type 0 where
+  pub ascending : (n : ℕ) → n < length cells → IsStrictlyIncreasing (group_at cells n).darts
+  pub one : (m n x : ℕ) → m < length cells → n < length cells → Contains (group_at cells m).darts x → Contains (group_at cells n).darts x → m ≡ n
+
+-- some piece has this cell and this id
+abbrev pub HasPiece : List Piece → ℕ → ℕ → Type 0
+HasPiece pieces n id = (k : ℕ) × (k < length pieces) × ((piece_at pieces k).cell ≡ n) × ((piece_at pieces k).id ≡ id)
+
+-- The cells before cell n are looked at, and the first t darts of cell n. For each id it is told in which cell it was met
+-- last.
+pub record AreGathered (label : ℕ → Option ℕ) (cells : List Group) (n t : ℕ) (met : ℕ → Option ℕ) (pieces : List Piece) : Type 0 where
+  pub sound : (k : ℕ) → k < length pieces → IsPiece label cells (piece_at pieces k)
+  pub passed : (m j id : ℕ) → m < length cells → j < length (group_at cells m).darts → (m < n) ⊎ ((m ≡ n) × (j < t)) → label (slice_index (group_at cells m).darts j) ≡ Some id → HasPiece pieces m id
+  pub last : (id : ℕ) → met id ≡ Some n → HasPiece pieces n id
+  pub known : (k : ℕ) → k < length pieces → (piece_at pieces k).cell ≡ n → met (piece_at pieces k).id ≡ Some n
+  pub low : (k : ℕ) → k < length pieces → (piece_at pieces k).cell ≤ n
+  pub bounded : (id m : ℕ) → met id ≡ Some m → m ≤ n
+  pub apart : (j k : ℕ) → j < k → k < length pieces → (piece_at pieces j).dart ≢ (piece_at pieces k).dart
+
+-- The dart has no id; or an id that was met last in its cell; or another, and then its piece stands at the end now.
+pub record IsMet (cell id : ℕ) (before after : ℕ → Option ℕ) : Type 0 where
+  pub is : (other : ℕ) → after other ≡ cond (nat_eq id other) (Some cell) (before other)
+
+abbrev pub IsPieceAdded : (ℕ → Option ℕ) → ℕ → ℕ → (ℕ → Option ℕ) → (ℕ → Option ℕ) → List Piece → List Piece → Type 0
+IsPieceAdded label cell d before after old new =
+    ((label d ≡ None) × ((id : ℕ) → after id ≡ before id) × (new ≡ old))
+    ⊎ ((id : ℕ) × (label d ≡ Some id) × IsMet cell id before after
+    × (((before id ≡ Some cell) × (new ≡ old)) ⊎ ((before id ≡ Some cell → ⊥) × (new ≡ old ++ (record { dart = d; id = id; cell = cell }) ∷ []))))

@@ -1,0 +1,6 @@
+pub mod Groups
+pub mod Tallies
+pub mod Pieces
+pub mod Found
+pub mod Gathered
+pub mod Joined

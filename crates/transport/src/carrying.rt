@@ -1,0 +1,90 @@
+ghost use Rattle.std.specs.Prelude.{◌≡◌, ℕ, ◌+◌, ◌<◌, ◌≤◌, length, Some, IsSome, IfOk, Contains};
+ghost use Rattle.map_defs.specs.Rows.{IsLive, links_of, IsSound};
+ghost use Rattle.map_defs.specs.Touched.{Covers};
+ghost use Rattle.attr_pool.specs.Stores.{IsLive as IsHeld};
+ghost use Rattle.attr_pool.specs.Labelings.{id_of};
+ghost use Rattle.transport.specs.Groups.{group_at, rule_at, AreTouchedCells, HasCarriedValue};
+ghost use Rattle.transport.specs.Joined.{IsCarriedCell, IsWanted, AreAllOf};
+
+use crate::group::{Group, RuleRow};
+use crate::merging::merge_pieces;
+use crate::pieces::pieces_of;
+use crate::touched::touched_cells;
+use attr_pool::{Labels, Pool};
+use attr_rules::{Hook, RuleWith};
+use link_rows::Links;
+use map_kind::{Dart, Kind};
+use std::alloc::{AllocError, Global};
+
+/// Carries values along after a change of links: `links` are the new links, `labels` have the ids of the old cells, and
+/// `pool` their values. It answers just the new cells, of the dimensions with a rule, that hold a touched dart, each
+/// once, ascending by dimension, then by least dart, with the value that the rule gives it. Every other new cell of these
+/// dimensions keeps the value of its one id, or has none.
+///
+/// The touched darts are live and cover the labels in each dimension with a rule: a new cell without one of them has one
+/// id, which no other live dart has, or no id. All live darts do. Each id of a live dart is live in the pool. There is an
+/// entry in `rules` for each dimension from 0 to `DIM`.
+///
+/// It costs the cells of the touched darts times a logarithm, whatever the size of the map.
+pub fn carry<K: Kind, H: Hook, const DIM: usize>(
+    alloc: Global,
+    links: &Links<K, DIM>,
+    labels: &Labels<DIM>,
+    pool: &Pool,
+    rules: &RuleRow,
+    hook: &H,
+    touched: &[Dart],
+) -> Result<Vec<Group>, AllocError>
+    requires ready { H.ready hook.now }
+    requires rules { length rules.now ≡ DIM + 1 }
+    requires live { (d : ℕ) → Contains touched.now d → IsLive links.now.rows d }
+    requires held { (i d id : ℕ) → IsLive links.now.rows d → id_of labels.now i d ≡ Some id → IsHeld pool.now id }
+    requires covered { (i : ℕ) → IsSome (rule_at rules.now i)
+        → Covers K.kind i (links_of links.now.rows) (IsLive links.now.rows) (id_of labels.now i) (Contains touched.now) }
+    ensures cells { IfOk result (λ groups.
+        AreTouchedCells K.kind (links_of links.now.rows) rules.now touched.now groups.items) }
+    ensures values { IfOk result (λ groups. (n : ℕ) → n < length groups.items
+        → HasCarriedValue K.kind (links_of links.now.rows) (IsLive links.now.rows) (id_of labels.now) pool.now
+        (H.meaning hook.now) rules.now (group_at groups.items n)) }
+{
+    let mut groups = Vec::new(alloc);
+    for dim in 0..links.dimension() + 1 {
+        let mut cells = carried_cells(alloc, links, labels, pool, rules, hook, touched, dim)?;
+        groups.append(&mut cells)?;
+    }
+    Ok(groups)
+}
+
+/// The cells of one dimension that hold a touched dart, with their values; none where the dimension has no rule.
+fn carried_cells<K: Kind, H: Hook, const DIM: usize>(
+    alloc: Global,
+    links: &Links<K, DIM>,
+    labels: &Labels<DIM>,
+    pool: &Pool,
+    rules: &RuleRow,
+    hook: &H,
+    touched: &[Dart],
+    dim: usize,
+) -> Result<Vec<Group>, AllocError>
+    requires dim { dim ≤ DIM }
+    requires sound { IsSound K.kind DIM links.now.rows }
+    requires ready { H.ready hook.now }
+    requires rules { length rules.now ≡ DIM + 1 }
+    requires live { (d : ℕ) → Contains touched.now d → IsLive links.now.rows d }
+    requires held { (i d id : ℕ) → IsLive links.now.rows d → id_of labels.now i d ≡ Some id → IsHeld pool.now id }
+    requires covered { (i : ℕ) → IsSome (rule_at rules.now i)
+        → Covers K.kind i (links_of links.now.rows) (IsLive links.now.rows) (id_of labels.now i) (Contains touched.now) }
+    ensures { IfOk result (λ cells. AreAllOf
+        (IsCarriedCell K.kind (links_of links.now.rows) (IsLive links.now.rows) (id_of labels.now) pool.now
+        (H.meaning hook.now) rules.now touched.now)
+        (IsWanted rules.now touched.now) (λ i. i ≡ dim) cells.items) }
+{
+    let Some(rule) = rules.rules[dim] else {
+        return Ok(Vec::new(alloc));
+    };
+    let mut cells = touched_cells(alloc, links, dim, touched)?;
+    let pieces = pieces_of(alloc, labels, dim, &cells)?;
+    let rule = RuleWith { rule, hook };
+    merge_pieces(alloc, pool, &rule, &pieces, &mut cells)?;
+    Ok(cells)
+}

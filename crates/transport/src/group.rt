@@ -1,0 +1,49 @@
+ghost use Rattle.std.specs.Prelude.{◌≡◌};
+ghost use Rattle.transport.specs.Groups.{least_of};
+
+use attr_rules::TableRule;
+use map_kind::{Dart, Value};
+use std::marker::Model;
+
+/// A cell of dimension `dim` of the new map: its darts, ascending, and its value, if it has one.
+#[derive(Drop)]
+pub struct Group {
+    pub dim: usize,
+    pub darts: Vec<Dart>,
+    pub value: Option<Value>,
+}
+
+impl Model for Group {
+    ghost use Rattle.transport.specs.Groups as groups;
+
+    ghost Value = { groups.Group };
+
+    ghost view = { λ group. record { dim = group.dim; darts = group.darts.items; value = group.value } };
+}
+
+/// The rules of the dimensions 0 to `DIM`, in this order; none where a dimension has no rule, and so no values.
+#[derive(Drop)]
+pub struct RuleRow {
+    pub rules: Vec<Option<TableRule>>,
+}
+
+impl Model for RuleRow {
+    ghost use Rattle.std.specs.Prelude.{List, Option};
+    ghost use Rattle.map_defs.specs.Values as values;
+
+    ghost Value = { List (Option values.Rule) };
+
+    ghost view = { λ row. row.rules.items };
+}
+
+impl Group {
+    /// The number of the least dart, which stands first; 0 where there is no dart.
+    pub(crate) fn least(&self) -> u32
+        ensures { result ≡ least_of self.now }
+    {
+        match self.darts.first() {
+            Some(dart) => dart.number(),
+            None => 0,
+        }
+    }
+}

@@ -1,0 +1,14 @@
+//! The values of cells, carried along where a change of links splits and merges them.
+#![tactic(auto)]
+
+mod carrying;
+mod group;
+mod merging;
+mod pieces;
+mod tally;
+#[cfg(test)]
+mod tests;
+mod touched;
+
+pub use carrying::carry;
+pub use group::{Group, RuleRow};

@@ -1,0 +1,82 @@
+ghost use Rattle.std.specs.Prelude.{◌≡◌, ◌+◌, ◌<◌, length, IfOk, OnOk};
+ghost use Rattle.attr_pool.specs.Labelings.{id_of};
+ghost use Rattle.transport.specs.Tallies.{met_in};
+ghost use Rattle.transport.specs.Pieces.{AreAllPieces};
+ghost use Rattle.transport.specs.Gathered.{AreApart, AreGathered, IsPieceAdded};
+
+use crate::group::Group;
+use crate::tally::LastMet;
+use attr_pool::{AttrId, Labels};
+use map_kind::Dart;
+use std::alloc::{AllocError, Global};
+
+/// A piece: the darts of one new cell with one id, named by the least of them. The new cell is told by its place in a
+/// list.
+#[derive(Clone, Copy)]
+pub(crate) struct Piece {
+    pub(crate) dart: Dart,
+    pub(crate) id: AttrId,
+    pub(crate) cell: usize,
+}
+
+/// The pieces of some cells of dimension `dim`, ascending by dart. No dart lies in two of the cells.
+pub(crate) fn pieces_of<const DIM: usize>(
+    alloc: Global,
+    labels: &Labels<DIM>,
+    dim: usize,
+    cells: &[Group],
+) -> Result<Vec<Piece>, AllocError>
+    requires { AreApart cells.now }
+    ensures { IfOk result (λ pieces. AreAllPieces (id_of labels.now dim) cells.now pieces.items) }
+{
+    let mut met = LastMet::new(alloc);
+    let mut pieces = Vec::new(alloc);
+    for place in 0..cells.len() {
+        add_pieces(labels, dim, cells, place, &mut met, &mut pieces)?;
+    }
+    pieces.sort_unstable_by_key(|piece| piece.dart);
+    Ok(pieces)
+}
+
+/// Adds the pieces of the cell at a place.
+fn add_pieces<const DIM: usize>(
+    labels: &Labels<DIM>,
+    dim: usize,
+    cells: &[Group],
+    place: usize,
+    met: &mut LastMet,
+    pieces: &mut Vec<Piece>,
+) -> Result<(), AllocError>
+    requires place { place < length cells.now }
+    requires apart { AreApart cells.now }
+    requires gathered { AreGathered (id_of labels.now dim) cells.now place 0 (met_in met.old) pieces.old.items }
+    ensures { OnOk result (AreGathered (id_of labels.now dim) cells.now (place + 1) 0 (met_in met.new) pieces.new.items) }
+{
+    let cell = &cells[place];
+    for dart in &cell.darts {
+        add_piece(labels, dim, place, *dart, met, pieces)?;
+    }
+    Ok(())
+}
+
+/// Adds the piece of a dart, unless the dart has no id or its id was met last in the same cell.
+fn add_piece<const DIM: usize>(
+    labels: &Labels<DIM>,
+    dim: usize,
+    cell: usize,
+    dart: Dart,
+    met: &mut LastMet,
+    pieces: &mut Vec<Piece>,
+) -> Result<(), AllocError>
+    ensures { OnOk result (IsPieceAdded (id_of labels.now dim) cell dart (met_in met.old) (met_in met.new)
+        pieces.old.items pieces.new.items) }
+{
+    let Some(id) = labels.id(dim, dart) else {
+        return Ok(());
+    };
+    if met.meet(id, cell)? {
+        return Ok(());
+    }
+    pieces.push(Piece { dart, id, cell })?;
+    Ok(())
+}

@@ -1,0 +1,68 @@
+ghost use Rattle.std.specs.Prelude.{◌≡◌, ◌↔◌, ℕ, ◌+◌, ◌<◌, ◌^◌, nat_eq, cond, None, Some, IsTrue, IfOk, OnOk};
+ghost use Rattle.transport.specs.Tallies.{count_of, met_in};
+
+use attr_pool::AttrId;
+use std::alloc::{AllocError, Global};
+use std::collections::BTreeMap;
+
+/// A count for each id.
+#[derive(Drop)]
+pub(crate) struct Tally {
+    pub(crate) counts: BTreeMap<AttrId, u32>,
+}
+
+impl Tally {
+    /// Nothing counted yet.
+    pub(crate) fn new(alloc: Global) -> Self
+        ensures { (id : ℕ) → count_of result id ≡ 0 }
+    {
+        Tally {
+            counts: BTreeMap::new(alloc),
+        }
+    }
+
+    /// How often an id was counted.
+    pub(crate) fn count(&self, id: AttrId) -> u32
+        ensures { result ≡ count_of self.now id }
+    {
+        self.counts.get(&id).copied().unwrap_or(0)
+    }
+
+    /// Counts an id once more.
+    pub(crate) fn add(&mut self, id: AttrId) -> Result<(), AllocError>
+        requires { count_of self.old id + 1 < 2 ^ 32 }
+        ensures { OnOk result ((other : ℕ)
+            → count_of self.new other ≡ cond (nat_eq id other) (count_of self.old other + 1) (count_of self.old other)) }
+    {
+        let count = self.count(id);
+        self.counts.insert(id, count + 1)?;
+        Ok(())
+    }
+}
+
+/// In which cell each id was met last.
+#[derive(Drop)]
+pub(crate) struct LastMet {
+    pub(crate) cells: BTreeMap<AttrId, usize>,
+}
+
+impl LastMet {
+    /// No id was met yet.
+    pub(crate) fn new(alloc: Global) -> Self
+        ensures { (id : ℕ) → met_in result id ≡ None }
+    {
+        LastMet {
+            cells: BTreeMap::new(alloc),
+        }
+    }
+
+    /// Meets an id in a cell, and answers whether it was met last in the same cell.
+    pub(crate) fn meet(&mut self, id: AttrId, cell: usize) -> Result<bool, AllocError>
+        ensures again { IfOk result (λ again. IsTrue again ↔ (met_in self.old id ≡ Some cell)) }
+        ensures after { OnOk result ((other : ℕ)
+            → met_in self.new other ≡ cond (nat_eq id other) (Some cell) (met_in self.old other)) }
+    {
+        let before = self.cells.insert(id, cell)?;
+        Ok(before == Some(cell))
+    }
+}
