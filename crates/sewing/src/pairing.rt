@@ -40,7 +40,7 @@ impl<T: Drop> From<AllocFailed<T>> for PairFault {
 
 /// The pairs that grow from some seeds along a set of links, ascending by `x`, then by `t`: the seeds, each triple
 /// turned round, and, where `x` has a link of the set and `y` its inverse, the triple across that link. `Unpaired` comes
-/// exactly where the pairs cannot be joined; seeds in which a dart has two partners at a link are among these.
+/// exactly where the pairs cannot be joined, memory aside; seeds in which a dart has two partners at a link are such.
 ///
 /// It costs the number of pairs, for each link of the set, times a logarithm.
 pub fn pair<K: Kind, const DIM: usize>(

@@ -17,7 +17,7 @@ use std::alloc::{AllocError, Global};
 /// `one`, and all darts that must move with them, along the links distant from the link, are joined in the same way.
 ///
 /// `NotFree` comes exactly where one of the two ends is not free, and is looked for before any memory is taken.
-/// `Unsewable` comes exactly where both are free and the pairs of darts cannot be joined.
+/// `Unsewable` comes exactly where both are free and the pairs of darts cannot be joined, memory aside.
 ///
 /// It costs the number of pairs times a logarithm.
 pub fn sew_plan<K: Kind, const DIM: usize>(
