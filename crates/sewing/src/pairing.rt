@@ -40,7 +40,7 @@ impl<T: Drop> From<AllocFailed<T>> for PairFault {
 
 /// The pairs that grow from some seeds along a set of links, ascending by `x`, then by `t`: the seeds, each triple
 /// turned round, and, where `x` has a link of the set and `y` its inverse, the triple across that link. `Unpaired` comes
-/// exactly where the pairs cannot be joined; seeds in which a dart has two partners at a link are among these.
+/// exactly where the pairs cannot be joined, memory aside; seeds in which a dart has two partners at a link are such.
 ///
 /// It costs the number of pairs, for each link of the set, times a logarithm.
 pub fn pair<K: Kind, const DIM: usize>(
@@ -91,7 +91,8 @@ fn visit<K: Kind, const DIM: usize>(
 ) -> Result<(), PairFault>
     requires set { All (λ j. j ≤ DIM) set.now }
     requires found { Contains book.old triple }
-    ensures visited { OnOk result (IsVisited K.kind (links_of links.now.rows) (Contains set.now) triple book.old book.new) }
+    ensures visited { OnOk result
+        (IsVisited K.kind (links_of links.now.rows) (Contains set.now) triple book.old book.new) }
     ensures unpaired { IsErrOf result PairFault.Unpaired → IsGood K.kind (links_of links.now.rows) (Contains set.now)
         (InPairs K.kind (links_of links.now.rows) (Contains set.now) (Lists book.old)) → ⊥ }
 {
@@ -105,8 +106,8 @@ fn visit<K: Kind, const DIM: usize>(
     Ok(())
 }
 
-/// Finds the triple across a link, where both darts are linked. `Unpaired` comes exactly where just one of them is, or
-/// where the dart across the link has another partner.
+/// Finds the triple across a link, where both darts are linked. `Unpaired` comes only where just one of them is, or where
+/// the dart across the link has another partner.
 fn cross<K: Kind, const DIM: usize>(
     links: &Links<K, DIM>,
     link: usize,

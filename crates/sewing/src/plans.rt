@@ -17,7 +17,7 @@ use std::alloc::{AllocError, Global};
 /// `one`, and all darts that must move with them, along the links distant from the link, are joined in the same way.
 ///
 /// `NotFree` comes exactly where one of the two ends is not free, and is looked for before any memory is taken.
-/// `Unsewable` comes exactly where both are free and the pairs of darts cannot be joined.
+/// `Unsewable` comes exactly where both are free and the pairs of darts cannot be joined, memory aside.
 ///
 /// It costs the number of pairs times a logarithm.
 pub fn sew_plan<K: Kind, const DIM: usize>(
@@ -46,7 +46,8 @@ pub fn sew_plan<K: Kind, const DIM: usize>(
         ↔ ((links_of links.now.rows link one ≢ 0) ⊎ (links_of links.now.rows (inverse K.kind link) other ≢ 0)) }
     ensures unsewable { IsErrOf result (Refused.Line Refusal.Unsewable)
         → (links_of links.now.rows link one ≡ 0) × (links_of links.now.rows (inverse K.kind link) other ≡ 0)
-        × (IsGood K.kind (links_of links.now.rows) (IsDistant K.kind link) (SewnPairs K.kind (links_of links.now.rows) link one other) → ⊥) }
+        × (IsGood K.kind (links_of links.now.rows) (IsDistant K.kind link)
+        (SewnPairs K.kind (links_of links.now.rows) link one other) → ⊥) }
     ensures refusals { IfErr result (λ refused. (refused ≡ Refused.NoMemory)
         ⊎ ((refused ≡ Refused.Line Refusal.NotFree) ⊎ (refused ≡ Refused.Line Refusal.Unsewable))) }
 {
@@ -86,8 +87,10 @@ pub fn unsew_plan<K: Kind, const DIM: usize>(
     ensures laws { IfOk result (λ edit. Laws K.kind (links_of (after_edit DIM edit links.now.rows))) }
 
     // It is refused where the link is free, or for want of memory.
-    ensures already_free { IsErrOf result (Refused.Line Refusal.AlreadyFree) ↔ (links_of links.now.rows link dart ≡ 0) }
-    ensures refusals { IfErr result (λ refused. (refused ≡ Refused.NoMemory) ⊎ (refused ≡ Refused.Line Refusal.AlreadyFree)) }
+    ensures already_free { IsErrOf result (Refused.Line Refusal.AlreadyFree)
+        ↔ (links_of links.now.rows link dart ≡ 0) }
+    ensures refusals { IfErr result (λ refused. (refused ≡ Refused.NoMemory)
+        ⊎ (refused ≡ Refused.Line Refusal.AlreadyFree)) }
 {
     match links.link(dart, link) {
         Some(other) => match sewn_pairs(alloc, links, link, dart, other) {
@@ -172,7 +175,8 @@ fn sewn_pairs<K: Kind, const DIM: usize>(
 /// The links from 0 to `dim` that are distant from a link.
 fn distant_links<K: Kind>(alloc: Global, dim: usize, link: usize) -> Result<Vec<usize>, AllocError>
     requires { dim ≤ 8 }
-    ensures { IfOk result (λ distant. (j : ℕ) → Contains distant.items j ↔ ((j ≤ dim) × IsDistant K.kind link j)) }
+    ensures { IfOk result (λ distant. (j : ℕ)
+        → Contains distant.items j ↔ ((j ≤ dim) × IsDistant K.kind link j)) }
 {
     let mut distant = Vec::new(alloc);
     for other in 0..dim + 1 {
