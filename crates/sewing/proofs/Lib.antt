@@ -1,4 +1,9 @@
 pub mod PairFacts
 pub mod PairWalks
+pub mod DistantPairs
+pub mod PartedPairs
+pub mod PlanChanges
+pub mod PlanLaws
 mod BookPlaces
 mod Exits
+mod TestMaps

@@ -1,8 +1,9 @@
 -- Pairs are the least set that is closed; what that says of other seeds and other links.
-use Rattle.std.proofs.Common.{◌≡◌, ◌≢◌, ℕ, ◌↔◌, ◌∙◌}
+use Rattle.std.proofs.Common.{◌≢◌, ℕ}
 use Rattle.map_defs.specs.Kind.{Kind, inverse}
 use Rattle.map_defs.specs.Links.{Links}
 use Rattle.map_defs.specs.Pairs.{InPairs, seed, turned, across, IsGood}
+use Rattle.map_defs.specs.Rows.{Rows, links_of, IsLive, IsSound}
 
 -- a set of triples that holds each of its triples turned round, and goes along the links of J
 pub record IsClosed (k : Kind) (L : Links) (J : ℕ → Type 0) (P : ℕ → ℕ → ℕ → Type 0) : Type 0 where
@@ -40,4 +41,12 @@ pub pairs-along : (k : Kind) (L : Links) (J I : ℕ → Type 0) (Seed Other : �
 pairs-along k L J I Seed Other begun along = pairs-least k L J Seed (InPairs k L I Other) (λ x y t s. seed (begun x y t s)) (record {
   turned = λ x y t p. turned p;
   across = λ x y t j there p hx hy. across j (along j x there hx) p hx hy;
+})
+
+-- the darts of the pairs live, where those of the seeds do
+pub pairs-live : (k : Kind) (n : ℕ) (rows : Rows) → IsSound k n rows → (J : ℕ → Type 0) (Seed : ℕ → ℕ → ℕ → Type 0) → ((x y t : ℕ) → Seed x y t → IsLive rows x × IsLive rows y)
+    → (x y t : ℕ) → InPairs k (links_of rows) J Seed x y t → IsLive rows x × IsLive rows y
+pairs-live k n rows sound J Seed live = pairs-least k (links_of rows) J Seed (λ x y t. IsLive rows x × IsLive rows y) live (record {
+  turned = λ x y t p. (p.1, p.0);
+  across = λ x y t j along p hx hy. (sound.live j x hx, sound.live (inverse k j) y hy);
 })

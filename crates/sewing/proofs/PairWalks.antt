@@ -8,7 +8,7 @@ use Rattle.map_defs.specs.Links.{Links}
 use Rattle.map_defs.specs.Pairs.{InPairs, seed, turned, across, IsGood}
 use Rattle.sewing.specs.Triples.{Triple, Lists}
 use Rattle.sewing.specs.Steps.{IsAdded, HasOther, IsCrossed, FailsAcross, IsDone, IsVisited, IsStepped}
-use Rattle.sewing.proofs.PairFacts.{IsClosed, pairs-least, pairs-within, pairs-closed, good-same}
+use Rattle.sewing.proofs.PairFacts.{IsClosed, pairs-least, pairs-within, good-same}
 
 -- what stood in the list stays there
 pub Contains-before : {X : Type 0} (old new : List X) → take (length old) new ≡ old → (y : X) → Contains old y → Contains new y

@@ -61,8 +61,8 @@ impl Book {
         self.triples[place]
     }
 
-    /// Adds a triple, unless it was found before. `Unpaired` comes exactly where its dart `x` has another partner at
-    /// link `t`.
+    /// Adds a triple, unless it was found before. `Unpaired` comes only where its dart `x` has another partner at link
+    /// `t`.
     pub(crate) fn add(&mut self, triple: Triple) -> Result<(), PairFault>
         ensures added { OnOk result (IsAdded self.old self.new triple) }
         ensures unpaired { IsErrOf result PairFault.Unpaired → HasOther self.old triple.x triple.y triple.t }

@@ -91,7 +91,8 @@ fn visit<K: Kind, const DIM: usize>(
 ) -> Result<(), PairFault>
     requires set { All (λ j. j ≤ DIM) set.now }
     requires found { Contains book.old triple }
-    ensures visited { OnOk result (IsVisited K.kind (links_of links.now.rows) (Contains set.now) triple book.old book.new) }
+    ensures visited { OnOk result
+        (IsVisited K.kind (links_of links.now.rows) (Contains set.now) triple book.old book.new) }
     ensures unpaired { IsErrOf result PairFault.Unpaired → IsGood K.kind (links_of links.now.rows) (Contains set.now)
         (InPairs K.kind (links_of links.now.rows) (Contains set.now) (Lists book.old)) → ⊥ }
 {
@@ -105,8 +106,8 @@ fn visit<K: Kind, const DIM: usize>(
     Ok(())
 }
 
-/// Finds the triple across a link, where both darts are linked. `Unpaired` comes exactly where just one of them is, or
-/// where the dart across the link has another partner.
+/// Finds the triple across a link, where both darts are linked. `Unpaired` comes only where just one of them is, or where
+/// the dart across the link has another partner.
 fn cross<K: Kind, const DIM: usize>(
     links: &Links<K, DIM>,
     link: usize,

@@ -1,6 +1,6 @@
 ghost use Rattle.std.specs.Prelude.{◌≡◌, ◌≢◌, ℕ, ◌+◌, ◌≤◌, ◌<◌, ◌↔◌, ◌⊎◌, [], Contains, IsTrue, IfOk, IfErr, OnOk, IsErrOf, map};
 ghost use Rattle.map_defs.specs.Kind.{inverse, IsDistant};
-ghost use Rattle.map_defs.specs.Rows.{links_of, IsLive};
+ghost use Rattle.map_defs.specs.Rows.{links_of, IsLive, IsSound};
 ghost use Rattle.map_defs.specs.Laws.{Laws};
 ghost use Rattle.map_defs.specs.Edits.{Fits, after_edit};
 ghost use Rattle.map_defs.specs.Pairs.{IsGood};
@@ -46,7 +46,8 @@ pub fn sew_plan<K: Kind, const DIM: usize>(
         ↔ ((links_of links.now.rows link one ≢ 0) ⊎ (links_of links.now.rows (inverse K.kind link) other ≢ 0)) }
     ensures unsewable { IsErrOf result (Refused.Line Refusal.Unsewable)
         → (links_of links.now.rows link one ≡ 0) × (links_of links.now.rows (inverse K.kind link) other ≡ 0)
-        × (IsGood K.kind (links_of links.now.rows) (IsDistant K.kind link) (SewnPairs K.kind (links_of links.now.rows) link one other) → ⊥) }
+        × (IsGood K.kind (links_of links.now.rows) (IsDistant K.kind link)
+        (SewnPairs K.kind (links_of links.now.rows) link one other) → ⊥) }
     ensures refusals { IfErr result (λ refused. (refused ≡ Refused.NoMemory)
         ⊎ ((refused ≡ Refused.Line Refusal.NotFree) ⊎ (refused ≡ Refused.Line Refusal.Unsewable))) }
 {
@@ -86,8 +87,10 @@ pub fn unsew_plan<K: Kind, const DIM: usize>(
     ensures laws { IfOk result (λ edit. Laws K.kind (links_of (after_edit DIM edit links.now.rows))) }
 
     // It is refused where the link is free, or for want of memory.
-    ensures already_free { IsErrOf result (Refused.Line Refusal.AlreadyFree) ↔ (links_of links.now.rows link dart ≡ 0) }
-    ensures refusals { IfErr result (λ refused. (refused ≡ Refused.NoMemory) ⊎ (refused ≡ Refused.Line Refusal.AlreadyFree)) }
+    ensures already_free { IsErrOf result (Refused.Line Refusal.AlreadyFree)
+        ↔ (links_of links.now.rows link dart ≡ 0) }
+    ensures refusals { IfErr result (λ refused. (refused ≡ Refused.NoMemory)
+        ⊎ (refused ≡ Refused.Line Refusal.AlreadyFree)) }
 {
     match links.link(dart, link) {
         Some(other) => match sewn_pairs(alloc, links, link, dart, other) {
@@ -157,6 +160,8 @@ fn sewn_pairs<K: Kind, const DIM: usize>(
         (SewnPairs K.kind (links_of links.now.rows) link one other)) }
     ensures unpaired { IsErrOf result PairFault.Unpaired → IsGood K.kind (links_of links.now.rows) (IsDistant K.kind link)
         (SewnPairs K.kind (links_of links.now.rows) link one other) → ⊥ }
+    ensures low { 2 ≤ DIM }
+    ensures sound { IsSound K.kind DIM links.now.rows }
 {
     let distant = distant_links::<K>(alloc, links.dimension(), link)?;
     let seed = Triple {
@@ -170,7 +175,8 @@ fn sewn_pairs<K: Kind, const DIM: usize>(
 /// The links from 0 to `dim` that are distant from a link.
 fn distant_links<K: Kind>(alloc: Global, dim: usize, link: usize) -> Result<Vec<usize>, AllocError>
     requires { dim ≤ 8 }
-    ensures { IfOk result (λ distant. (j : ℕ) → Contains distant.items j ↔ ((j ≤ dim) × IsDistant K.kind link j)) }
+    ensures { IfOk result (λ distant. (j : ℕ)
+        → Contains distant.items j ↔ ((j ≤ dim) × IsDistant K.kind link j)) }
 {
     let mut distant = Vec::new(alloc);
     for other in 0..dim + 1 {

@@ -1,4 +1,4 @@
-ghost use Rattle.std.specs.Prelude.{◌≡◌, ℕ, ◌≤◌, OnOk};
+ghost use Rattle.std.specs.Prelude.{◌≡◌, ◌+◌, ◌≤◌, ◌<◌, ◌^◌};
 ghost use Rattle.map_defs.specs.Kind.{alpha};
 ghost use Rattle.map_defs.specs.Rows.{links_of};
 ghost use Rattle.map_defs.specs.Laws.{Laws};
@@ -11,14 +11,20 @@ use std::process::Abort;
 use std::test::Fail;
 
 /// A map of so many darts without links.
-fn loose<const DIM: usize>(rt: &impl Abort, alloc: Global, darts: u32) -> Links<Alpha, DIM> {
+fn loose<const DIM: usize>(rt: &impl Abort, alloc: Global, darts: u32) -> Links<Alpha, DIM>
+    requires low { 2 ≤ DIM }
+    requires high { DIM ≤ 8 }
+    ensures { Laws alpha (links_of result.rows) }
+{
     let mut links = Links::<Alpha, DIM>::new(alloc);
-    assert!(rt; links.reserve(darts).is_ok());
-    links.apply(&Edit {
-        births: darts,
-        deaths: Vec::new(alloc),
-        changes: Vec::new(alloc),
-    });
+    match links.reserve(darts) {
+        Ok(()) => links.apply(&Edit {
+            births: darts,
+            deaths: Vec::new(alloc),
+            changes: Vec::new(alloc),
+        }),
+        Err(_) => panic!(rt; "no room"),
+    }
     links
 }
 
@@ -30,7 +36,11 @@ fn sew<const DIM: usize>(
     link: usize,
     one: u32,
     other: u32,
-) {
+)
+    requires link { link ≤ DIM }
+    requires laws { Laws alpha (links_of links.old.rows) }
+    ensures { Laws alpha (links_of links.new.rows) }
+{
     let one = dart(rt, one);
     let other = dart(rt, other);
     assert!(rt; links.is_live(one));
@@ -47,7 +57,12 @@ fn triangle<const DIM: usize>(
     alloc: Global,
     links: &mut Links<Alpha, DIM>,
     first: u32,
-) {
+)
+    requires first { first + 5 < 2 ^ 32 }
+    requires low { 1 ≤ DIM }
+    requires laws { Laws alpha (links_of links.old.rows) }
+    ensures { Laws alpha (links_of links.new.rows) }
+{
     sew(rt, alloc, links, 0, first, first + 1);
     sew(rt, alloc, links, 0, first + 2, first + 3);
     sew(rt, alloc, links, 0, first + 4, first + 5);
@@ -120,7 +135,15 @@ fn folds_an_edge_but_sews_no_dart_to_itself(rt: HostRuntime) -> Result<(), Fail>
     let alloc = rt.alloc();
     let mut links = loose::<2>(&rt, alloc, 6);
     triangle(&rt, alloc, &mut links, 1);
-    assert!(&rt; !sewable(alloc, &links, 2, dart(&rt, 1), dart(&rt, 1))?);
+    let one = dart(&rt, 1);
+    assert!(&rt; !sewable(alloc, &links, 2, one, one)?);
+    assert!(&rt; links.is_live(one));
+    assert!(&rt;
+        matches!(
+            sew_plan(alloc, &links, 2, one, one),
+            Err(Refused::Line(Refusal::Unsewable))
+        )
+    );
     sew(&rt, alloc, &mut links, 2, 1, 2);
     assert_eq!(&rt; links.link(dart(&rt, 1), 2), Some(dart(&rt, 2)));
     assert!(&rt; !sewable(alloc, &links, 2, dart(&rt, 1), dart(&rt, 2))?);

@@ -1,7 +1,7 @@
-use Rattle.std.proofs.Common.{◌≡◌, ℕ, take, Contains, sym, ap, ◌∙◌, subst, arith, Err}
+use Rattle.std.proofs.Common.{◌≡◌, ℕ, take, sym, ap, arith, Err}
 use Rattle.std.proofs.lemmas.List.{take_all}
 use Rattle.std.proofs.lemmas.Result.{err_from_is_err_and}
-use Rattle.sewing.specs.Triples.{Triple, Lists}
+use Rattle.sewing.specs.Triples.{Lists}
 use Rattle.sewing.specs.declared.pairing.PairFault.TheVariants.{Unpaired}
 use Rattle.sewing.proofs.Exits.{handed_on}
 use Rattle.sewing.proofs.PairWalks.{Contains-take, listed-more}

@@ -1,9 +1,8 @@
-use Rattle.std.proofs.Common.{◌≡◌, ℕ, Contains, sym, ap, ◌∙◌, subst, arith, Err, lit<}
+use Rattle.std.proofs.Common.{Contains, ap, arith, Err, lit<}
 use Rattle.std.proofs.lemmas.Option.{get_or_from_slice_get}
 use Rattle.std.proofs.lemmas.Result.{err_from_is_err_and}
-use Rattle.map_defs.specs.Kind.{inverse}
 use Rattle.map_defs.specs.Rows.{links_of}
-use Rattle.sewing.specs.Triples.{Triple, Lists}
+use Rattle.sewing.specs.Triples.{Lists}
 use Rattle.sewing.specs.declared.pairing.PairFault.TheVariants.{Unpaired}
 use Rattle.sewing.proofs.Exits.{handed_on}
 use Rattle.sewing.proofs.PairWalks.{walked-begun, walked-more, walked-pairs, walked-good, walked-bad, not-one-seed}

@@ -1,14 +1,12 @@
-use Rattle.std.proofs.Common.{◌≡◌, ◌≢◌, ℕ, take, get_or, Contains, sym, ap, ◌∙◌, subst, arith, Err}
+use Rattle.std.proofs.Common.{◌≡◌, ◌≢◌, ℕ, take, get_or, Contains, sym, ap, ◌∙◌, Err}
 use Rattle.std.proofs.lemmas.List.{get_or_default}
 use Rattle.std.proofs.lemmas.Bool.{false≢true}
 use Rattle.std.proofs.lemmas.Result.{err_from_is_err_and}
 use Rattle.map_defs.specs.Kind.{inverse}
 use Rattle.map_defs.specs.Rows.{links_of}
-use Rattle.sewing.specs.Triples.{Triple, Lists}
-use Rattle.sewing.specs.Steps.{HasOther, IsAdded}
 use Rattle.sewing.specs.declared.pairing.PairFault.TheVariants.{Unpaired}
 use Rattle.sewing.proofs.Exits.{handed_on}
-use Rattle.sewing.proofs.PairWalks.{visiting-begun, visiting-more, visited-all, not-moved, not-one-turned, not-across}
+use Rattle.sewing.proofs.PairWalks.{visiting-begun, visiting-more, not-moved, not-one-turned, not-across}
 use Rattle.sewing.proofs.pairing.visit.Goals as goal
 
 pub returns-then-is_loop-clause-unpaired : goal.returns-then-is_loop-clause-unpaired
@@ -21,13 +19,13 @@ returns-in_err-add-clause-unpaired g c = λ is.
     let p = err_from_is_err_and c.from_residual.result c.from_residual.ensures.1 in
     let other = c.in_err-add.ensures.unpaired (ap Err (handed_on c.from_residual.result c.in_err-add.field-0.0 Unpaired p is)) in
     not-one-turned g.K.Kind.kind (links_of c.args.links.now.rows) (Contains c.args.set.now) c.args.triple c.args.book.now c.requires.found
-    (subst (λ (q : Triple). HasOther c.args.book.now q.x q.y q.t) c.turned.ensures other)
+    (rw c.turned.ensures at other)
 
 pub loop-link-init : goal.loop-link-init
 loop-link-init g c =
     let moves : inverse g.K.Kind.kind c.args.triple.t ≡ c.args.triple.t → c.args.triple.x ≢ c.args.triple.y = λ own same. false≢true (sym c.if-is_loop.false ∙ c.is_loop.ensures.1 (same, own)) in
     visiting-begun g.K.Kind.kind (links_of c.args.links.now.rows) (Contains c.args.set.now) c.args.triple c.args.book.now c.add.new.self c.requires.found moves
-    (subst (λ (q : Triple). IsAdded c.args.book.now c.add.new.self q) c.turned.ensures c.in_ok-add.ensures.added)
+    (rw c.turned.ensures at c.in_ok-add.ensures.added)
 
 pub returns-in_err-cross-clause-unpaired : goal.returns-in_err-cross-clause-unpaired
 returns-in_err-cross-clause-unpaired g c = λ is.

@@ -1,9 +1,7 @@
-use Rattle.std.proofs.Common.{ℕ, ◌≡◌, ◌↔◌, List, map, sym, subst}
 use Rattle.std.proofs.lemmas.Result.{IfOk-weaker}
 use Rattle.std.specs.BTreeMap.{get}
-use Rattle.sewing.specs.Triples.{Triple, Lists, IsAscending}
 use Rattle.sewing.specs.Steps.{Tells}
-use Rattle.sewing.proofs.BookPlaces.{by_place, triple_of, listed-places, places-ascending, tells-one}
+use Rattle.sewing.proofs.BookPlaces.{by_place, listed-places, places-ascending, tells-one}
 use Rattle.sewing.proofs.book.Book.into_ascending.Goals as goal
 
 pub returns-clause-members : goal.returns-clause-members
