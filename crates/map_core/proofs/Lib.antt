@@ -2,3 +2,5 @@ mod BareStates
 mod KeptLaws
 mod ListingRows
 mod LiveDarts
+mod Relinked
+mod SewingSteps

@@ -1,6 +1,6 @@
 //! The changing lines.
 ghost use Rattle.std.specs.Prelude.{◌≡◌, ℕ, ◌↔◌, IsTrue};
-ghost use Rattle.map_defs.specs.Rows.{IsLive, IsSound, links_of};
+ghost use Rattle.map_defs.specs.Rows.{IsLive, links_of};
 ghost use Rattle.map_defs.specs.Script.{Polygon, Dart as MakeDart, Del};
 ghost use Rattle.map_core.specs.Calls.{Does};
 
@@ -76,8 +76,7 @@ impl<K: Kind, const DIM: usize> Map<K, DIM> {
 /// Whether all links of a dart are free.
 fn is_alone<K: Kind, const DIM: usize>(links: &Links<K, DIM>, dart: Dart) -> bool
     requires { IsLive links.now.rows dart }
-    ensures alone { IsTrue result ↔ ((i : ℕ) → links_of links.now.rows i dart ≡ 0) }
-    ensures sound { IsSound K.kind DIM links.now.rows }
+    ensures { IsTrue result ↔ ((i : ℕ) → links_of links.now.rows i dart ≡ 0) }
 {
     for link in 0..links.dimension() + 1 {
         if !links.is_free(dart, link) {

@@ -10,6 +10,7 @@ mod change;
 mod list;
 mod map;
 mod question;
+mod sew;
 #[cfg(test)]
 mod tests;
 

@@ -32,7 +32,8 @@ pub struct Map<K: Kind, const DIM: usize> {
 }
 
 impl<K: Kind, const DIM: usize> Model for Map<K, DIM> {
-    ghost use Rattle.map_defs.specs.Rows.{links_of};
+    ghost use Rattle.std.specs.Prelude.{length, ◌<◌};
+    ghost use Rattle.map_defs.specs.Rows.{links_of, IsSound};
     ghost use Rattle.map_defs.specs.Laws.{Laws};
     ghost use Rattle.map_defs.specs.State.{State};
     ghost use Rattle.map_core.specs.Bare.{bare_state};
@@ -41,7 +42,7 @@ impl<K: Kind, const DIM: usize> Model for Map<K, DIM> {
 
     ghost view = { λ map. bare_state K.kind DIM map.links.rows };
 
-    ghost invariant = { λ map. Laws K.kind (links_of map.links.rows) };
+    ghost invariant = { λ map. (0 < length map.links.rows) × IsSound K.kind DIM map.links.rows × Laws K.kind (links_of map.links.rows) };
 }
 
 impl<K: Kind, const DIM: usize> Map<K, DIM> {
@@ -65,7 +66,6 @@ impl<K: Kind, const DIM: usize> Map<K, DIM> {
         ensures sound { IsSound K.kind DIM self.now.present.rows }
         ensures lawful { IsLawful K.kind (links_of self.now.present.rows) }
     {
-        let _ = self.links.dimension();
         &self.links
     }
 

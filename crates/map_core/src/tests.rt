@@ -29,6 +29,33 @@ fn obeys_each_line_once(rt: HostRuntime) -> Result<(), Fail> {
     Ok(())
 }
 
+/// Two triangles are sewn along an edge, and unsewn.
+#[test]
+fn sews_and_unsews(rt: HostRuntime) -> Result<(), Fail> {
+    let alloc = rt.alloc();
+    let nothing = Ok(Done { first: 0, count: 0 });
+    let mut map = Map::<Alpha, 2>::new(alloc);
+    assert!(&rt; map.polygon(alloc, 3).is_ok());
+    assert!(&rt; map.polygon(alloc, 3).is_ok());
+    assert_eq!(&rt; map.sewable(alloc, 2, 1, 8), Ok(true));
+    assert_eq!(&rt; map.sew(alloc, 2, 1, 8), nothing);
+    assert_eq!(&rt; map.count(alloc)?.as_slice(), [12, 4, 5, 2, 1].as_slice());
+    assert_eq!(&rt;
+        map.sew(alloc, 2, 2, 7),
+        Err(Refused::Line(Refusal::NotFree))
+    );
+    assert_eq!(&rt;
+        map.sew(alloc, 3, 2, 7),
+        Err(Refused::Line(Refusal::BadDim))
+    );
+    assert_eq!(&rt; map.unsew(alloc, 2, 7), nothing);
+    assert_eq!(&rt;
+        map.unsew(alloc, 2, 1),
+        Err(Refused::Line(Refusal::AlreadyFree))
+    );
+    Ok(())
+}
+
 #[test]
 fn a_polygon_in_dimension_eight(rt: HostRuntime) -> Result<(), Fail> {
     let alloc = rt.alloc();

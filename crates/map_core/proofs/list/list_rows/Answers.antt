@@ -1,4 +1,4 @@
-use Rattle.std.proofs.Common.{◌≡◌, ◌+◌, ◌<◌, ◌∙◌, ℕ, length, arith}
+use Rattle.std.proofs.Common.{◌≡◌, ◌+◌, ◌<◌, ℕ, length, arith}
 use Rattle.map_defs.specs.Rows.{Rows}
 use Rattle.map_core.proofs.ListingRows.{live_rows-more}
 use Rattle.map_core.proofs.list.list_rows.Goals as goal

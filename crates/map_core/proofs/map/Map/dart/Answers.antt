@@ -1,4 +1,4 @@
-use Rattle.std.proofs.Common.{ℕ, lit<, refl}
+use Rattle.std.proofs.Common.{lit<, refl}
 use Rattle.map_defs.specs.Rows.{Rows}
 use Rattle.link_rows.proofs.EditPlain.{births-fit}
 use Rattle.map_core.proofs.KeptLaws.{births-keep}
@@ -11,7 +11,7 @@ make-requires g c =
     rw (← c.self.view_is, c.new.ensures.items, c.new-2.ensures.items) (
       lit< tt,
       (
-        births-fit g.K.Kind.kind g.row.DIM 1 rows c.made-first.ensures.sound,
-        (births-keep g.K.Kind.kind g.row.DIM 1 rows c.self.invariant, few),
+        births-fit g.K.Kind.kind g.row.DIM 1 rows c.self.invariant.1,
+        (births-keep g.K.Kind.kind g.row.DIM 1 rows c.self.invariant.2, few),
       ),
     )

@@ -11,18 +11,18 @@ make-requires g c =
     let n : ℕ = g.row.DIM in
     let rows : Rows = c.self.inside.links.rows in
     let d : ℕ = c.in-Some.dart in
-    let sound = c.is_alone.ensures.sound in
-    let alone : (i : ℕ) → links_of rows i d ≡ 0 = c.if-not-is_alone.ensures.alone.0 refl in
+    let sound = c.self.invariant.1 in
+    let alone : (i : ℕ) → links_of rows i d ≡ 0 = c.if-not-is_alone.ensures.0 refl in
     let live : IsLive rows d = rw (← c.self.view_is, ← c.in-Some.ensures.same) at c.in-Some.ensures.live.0 refl in
     rw (← c.self.view_is, c.in_ok-vec.ensures.items, c.new.ensures.items)
-    (lit< tt, (death-fits k n rows d sound live alone, (death-keeps k n rows d alone c.self.invariant, omega (arith, sound.few))))
+    (lit< tt, (death-fits k n rows d sound live alone, (death-keeps k n rows d alone c.self.invariant.2, omega (arith, sound.few))))
 
 pub returns : goal.returns
 returns g c =
     let k = g.K.Kind.kind in
     let n : ℕ = g.row.DIM in
     let rows : Rows = c.self.inside.links.rows in
-    let alone : (i : ℕ) → links_of rows i c.in-Some.dart ≡ 0 = c.if-not-is_alone.ensures.alone.0 refl in
+    let alone : (i : ℕ) → links_of rows i c.in-Some.dart ≡ 0 = c.if-not-is_alone.ensures.0 refl in
     let live : IsLive rows c.args.dart = rw (← c.self.view_is) at c.in-Some.ensures.live.0 refl in
     let made = rw (← c.self.view_is, c.in_ok-vec.ensures.items, c.new.ensures.items) at c.in_ok-make.ensures.made in
     rw (← c.self.view_is, ← c.in-Some.ensures.same) (inr (rw c.in-Some.ensures.same live, inr (alone, (refl, made ∙ ended-state k n rows c.in-Some.dart))))

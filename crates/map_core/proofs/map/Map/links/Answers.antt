@@ -4,4 +4,4 @@ use Rattle.map_core.proofs.map.Map.links.Goals as goal
 
 pub returns-clause-lawful : goal.returns-clause-lawful
 returns-clause-lawful g c =
-    rw (← c.self.view_is) (told_of_laws g.K.Kind.kind (links_of c.self.inside.links.rows) c.self.invariant)
+    rw (← c.self.view_is) (told_of_laws g.K.Kind.kind (links_of c.self.inside.links.rows) c.self.invariant.2)

@@ -1,7 +1,6 @@
-use Rattle.std.proofs.Common.{ℕ, ◌≡◌, ◌+◌, ap, inl, inr, refl, arith, ◌∙◌, sym}
+use Rattle.std.proofs.Common.{ℕ, ◌+◌, ap, inl, inr, refl, arith, ◌∙◌}
 use Rattle.map_defs.specs.Rows.{Rows, made}
-use Rattle.map_defs.specs.Polygon.{polygon_rows, per_side}
-use Rattle.map_defs.specs.Text.{Done}
+use Rattle.map_defs.specs.Polygon.{polygon_rows}
 use Rattle.map_core.specs.Bare.{bare_state}
 use Rattle.map_core.proofs.BareStates.{born-state}
 use Rattle.map_core.proofs.map.Map.polygon.Goals as goal

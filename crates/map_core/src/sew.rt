@@ -1,0 +1,93 @@
+//! Sewing and unsewing.
+ghost use Rattle.std.specs.Prelude.{◌≡◌, ℕ, ◌≤◌, ◌<◌, ◌⊎◌, ◌↔◌, IsNone, IfSome};
+ghost use Rattle.map_defs.specs.Kind.{beta};
+ghost use Rattle.map_defs.specs.Script.{Sew, Unsew, Sewable};
+ghost use Rattle.map_defs.specs.Text.{Truth};
+ghost use Rattle.map_core.specs.Calls.{Does, Answers};
+
+use crate::map::{Done, Map};
+use link_rows::Links;
+use map_kind::{Kind, Refusal, Refused};
+use sewing::{sew_plan, sewable, unsew_plan};
+use std::alloc::Global;
+
+impl<K: Kind, const DIM: usize> Map<K, DIM> {
+    /// Sews two darts at a link: the link of the first becomes the second, the inverse link of the second becomes the
+    /// first, and all darts that must move with them, along the links distant from the link, are joined in the same way.
+    /// It costs the number of darts that it joins times a logarithm.
+    ///
+    /// Refused as `BadDim` exactly where the link is above the map's dimension, or is link 0 of a combinatorial map, which
+    /// follows link 1; then as `NoDart` exactly where no live dart has one of the numbers; then as `NotFree` exactly where
+    /// one of the two ends is not free; and then as `Unsewable` exactly where the darts cannot be paired.
+    pub fn sew(&mut self, alloc: Global, link: u64, dart: u64, other: u64) -> Result<Done, Refused>
+        ensures { Does self.old (Sew link dart other) result self.new }
+    {
+        let Some(link) = sewing_link(&self.links, link) else {
+            return Err(Refused::Line(Refusal::BadDim));
+        };
+        let Some(dart) = self.live_dart(dart) else {
+            return Err(Refused::Line(Refusal::NoDart));
+        };
+        let Some(other) = self.live_dart(other) else {
+            return Err(Refused::Line(Refusal::NoDart));
+        };
+        let edit = sew_plan(alloc, &self.links, link, dart, other)?;
+        self.make(&edit)?;
+        Ok(Done::NONE)
+    }
+
+    /// Frees a link of a dart, with all links of darts that were sewn together with it, both ends of each. It costs the
+    /// number of links that it frees times a logarithm.
+    ///
+    /// Refused as `BadDim` exactly where the link is above the map's dimension, or is link 0 of a combinatorial map, which
+    /// follows link 1; then as `NoDart` exactly where no live dart has the number; and then as `AlreadyFree` exactly where
+    /// the link is free.
+    pub fn unsew(&mut self, alloc: Global, link: u64, dart: u64) -> Result<Done, Refused>
+        ensures { Does self.old (Unsew link dart) result self.new }
+    {
+        let Some(link) = sewing_link(&self.links, link) else {
+            return Err(Refused::Line(Refusal::BadDim));
+        };
+        let Some(dart) = self.live_dart(dart) else {
+            return Err(Refused::Line(Refusal::NoDart));
+        };
+        let edit = unsew_plan(alloc, &self.links, link, dart)?;
+        self.make(&edit)?;
+        Ok(Done::NONE)
+    }
+
+    /// Whether two darts can be sewn at a link: whether `sew` would be refused neither as `NotFree` nor as `Unsewable`.
+    /// It costs the number of darts that would be joined times a logarithm.
+    ///
+    /// Refused as `BadDim` exactly where the link is above the map's dimension, or is link 0 of a combinatorial map, which
+    /// follows link 1, and then as `NoDart` exactly where no live dart has one of the numbers.
+    pub fn sewable(&self, alloc: Global, link: u64, dart: u64, other: u64) -> Result<bool, Refused>
+        ensures { Answers self.now (Sewable link dart other) Truth result }
+    {
+        let Some(link) = sewing_link(&self.links, link) else {
+            return Err(Refused::Line(Refusal::BadDim));
+        };
+        let Some(dart) = self.live_dart(dart) else {
+            return Err(Refused::Line(Refusal::NoDart));
+        };
+        let Some(other) = self.live_dart(other) else {
+            return Err(Refused::Line(Refusal::NoDart));
+        };
+        Ok(sewable(alloc, &self.links, link, dart, other)?)
+    }
+}
+
+/// The link of this number; none exactly where it cannot be sewn: it is above the map's dimension, or is link 0 of a
+/// combinatorial map, which follows link 1.
+fn sewing_link<K: Kind, const DIM: usize>(links: &Links<K, DIM>, number: u64) -> Option<usize>
+    ensures none { IsNone result ↔ ((DIM < number) ⊎ ((K.kind ≡ beta) × (number ≡ 0))) }
+    ensures same { IfSome result (λ link. link ≡ number) }
+{
+    if number > links.dimension() as u64 {
+        return None;
+    }
+    if number == 0 && K::inverse(0) != 0 {
+        return None;
+    }
+    Some(number as usize)
+}
