@@ -1,14 +1,14 @@
 -- An edit that makes darts and gives them links 0 and 1.
-use Rattle.std.proofs.Common.{◌≡◌, ◌≢◌, ℕ, zero, suc, ◌+◌, ◌-◌, ◌*◌, ◌<◌, ◌≤◌, List, [], ◌∷◌, ◌++◌, length, get_or, map, replicate, Option, Some, None, is_some, refl, sym, ap, ◌∙◌, arith, append_assoc}
+use Rattle.std.proofs.Common.{◌≡◌, ℕ, zero, suc, ◌+◌, ◌-◌, ◌<◌, ◌≤◌, List, [], ◌∷◌, ◌++◌, length, get_or, map, replicate, Option, Some, None, is_some, refl, sym, ap, ◌∙◌, arith, append_assoc}
 use Rattle.std.specs.Prelude.{All, slice_index}
 use Rattle.std.specs.List.{AllPairs}
 use Rattle.std.proofs.Math.ListN.{set}
 use Rattle.std.proofs.Math.Seq.{set-append_seam, get_or-append_seam}
 use Rattle.std.proofs.lemmas.List.{get_or_past, length-append}
-use Rattle.map_defs.specs.Kind.{Kind, alpha, beta, inverse}
-use Rattle.map_defs.specs.Rows.{Rows, row_at, links_of, entry_of, IsLive, IsSound}
-use Rattle.map_defs.specs.Edits.{Change, Edit, free_row, with_births, with_entry, linked, with_changes, after_edit, Fits}
-use Rattle.map_defs.specs.Polygon.{row_of, side_rows}
+use Rattle.map_defs.specs.Kind.{Kind}
+use Rattle.map_defs.specs.Rows.{Rows, entry_of, IsSound}
+use Rattle.map_defs.specs.Edits.{Change, Edit, free_row, with_births, with_entry, linked, after_edit, Fits}
+use Rattle.map_defs.specs.Polygon.{row_of}
 use Rattle.link_rows.specs.BirthChanges.{birth_changes}
 use Rattle.link_rows.proofs.RowWrites.{births-new}
 

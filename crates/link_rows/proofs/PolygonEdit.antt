@@ -1,12 +1,12 @@
 -- The edit that makes a polygon.
-use Rattle.std.proofs.Common.{◌≡◌, ℕ, ◌+◌, ◌-◌, ◌*◌, ◌<◌, ◌≤◌, List, [], ◌∷◌, ◌++◌, length, get_or, map, Some, refl, sym, ap, ◌∙◌, arith, subst}
+use Rattle.std.proofs.Common.{◌≡◌, ℕ, ◌+◌, ◌*◌, ◌<◌, ◌≤◌, List, [], ◌∷◌, ◌++◌, length, get_or, map, Some, refl, sym, ap, ◌∙◌, arith, subst}
 use Rattle.std.specs.Prelude.{All}
 use Rattle.std.specs.List.{flat_map, range_with_len}
 use Rattle.std.proofs.lemmas.List.{get_or_default}
 use Rattle.map_defs.specs.Kind.{Kind, alpha, beta}
 use Rattle.map_defs.specs.Laws.{Laws}
 use Rattle.map_defs.specs.Rows.{Rows, IsSound, links_of, made, made_max}
-use Rattle.map_defs.specs.Edits.{Change, Edit, after_edit, Fits}
+use Rattle.map_defs.specs.Edits.{Edit, after_edit, Fits}
 use Rattle.map_defs.specs.Polygon.{per_side, polygon_rows, side_rows, row_of}
 use Rattle.link_rows.specs.BirthChanges.{birth_changes}
 use Rattle.link_rows.proofs.PolygonSides.{flat_map-range_more}

@@ -8,7 +8,7 @@ use Rattle.map_defs.specs.Rows.{Rows, IsSound, row_at, links_of, entry_of, made,
 use Rattle.map_defs.specs.Polygon.{row_of}
 use Rattle.link_laws.proofs.Basics.{inverse_own}
 use Rattle.link_rows.proofs.RowWrites.{some_unless, live-within}
-use Rattle.link_rows.proofs.PolygonRing.{IsRing, AreRing}
+use Rattle.link_rows.proofs.PolygonRing.{AreRing}
 
 zero_entry : (m i : ℕ) → get_or (replicate m 0) i 0 ≡ (let z : ℕ = 0 in z)
 zero_entry zero i = refl

@@ -1,6 +1,6 @@
 ghost use Rattle.std.specs.Prelude.{◌≡◌};
 
-use crate::{Change, Edit, Links, ReserveFault};
+use crate::{Change, Edit, Links, ReserveFault, polygon_edit};
 use dart_arena::MADE_MAX;
 use map_kind::{Alpha, Dart};
 use std::test::Fail;
@@ -63,6 +63,19 @@ fn change(dart: Dart, old: u32, new: u32) -> Change
         old,
         new,
     }
+}
+
+#[test]
+fn a_triangle_is_made(rt: HostRuntime) -> Result<(), Fail> {
+    let alloc = rt.alloc();
+    let mut links = Links::<Alpha, 8>::new(alloc);
+    assert!(&rt; links.reserve(6).is_ok());
+    let triangle = polygon_edit(alloc, &links, 3)?;
+    links.apply(&triangle);
+    assert_eq!(&rt; links.made(), 6);
+    assert_eq!(&rt; links.link(Dart::new(6).unwrap(), 1), Dart::new(1));
+    assert_eq!(&rt; links.link(Dart::new(6).unwrap(), 0), Dart::new(5));
+    Ok(())
 }
 
 #[test]

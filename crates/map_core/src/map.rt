@@ -114,6 +114,7 @@ impl<K: Kind, const DIM: usize> Map<K, DIM> {
         ensures made { OnOk result (self.new ≡ bare_state K.kind DIM (after_edit DIM edit.now self.old.present.rows)) }
         ensures err { OnErr result (self.new ≡ self.old) }
     {
+        // There are numbers for the births, so only memory can be wanting.
         if self.links.reserve(edit.births).is_err() {
             return Err(AllocError);
         }
