@@ -1,13 +1,11 @@
 -- The cells without a touched dart keep the value of their one id; and which darts live before a change.
-use Rattle.std.proofs.Common.{◌≡◌, ◌≢◌, ◌⊎◌, ◌↔◌, inl, inr, ℕ, zero, suc, ◌+◌, ◌<◌, ◌≤◌, List, length, slice_index, get_or, Option, Some, None, IsSome, Contains, refl, sym, ◌∙◌, ap, subst, arith}
-use Rattle.std.specs.List.Sorted.{IsStrictlyIncreasing}
+use Rattle.std.proofs.Common.{◌≡◌, ◌⊎◌, ◌↔◌, inl, inr, ℕ, suc, ◌<◌, ◌≤◌, List, slice_index, Option, Some, None, IsSome, Contains, refl, sym, ◌∙◌, ap, subst, arith}
 use Rattle.map_defs.specs.Kind.{Kind}
-use Rattle.map_defs.specs.Links.{Links}
 use Rattle.map_defs.specs.Rows.{Rows, links_of, IsLive, IsSound}
 use Rattle.map_defs.specs.Cells.{InCell}
 use Rattle.map_defs.specs.Values.{Value, Meaning, KeepsWhole}
 use Rattle.map_defs.specs.Touched.{IsAlike, IsWhole, Covers}
-use Rattle.map_defs.specs.Carry.{known, NamesPiece, ArePieces, Gets, IsCarried}
+use Rattle.map_defs.specs.Carry.{known, NamesPiece, ArePieces, IsCarried}
 use Rattle.value_laws.proofs.Rising.{find_least}
 use Rattle.value_laws.proofs.Keeping.{IsKeptCell, without_is_carried, with_is_carried}
 use Rattle.value_laws.proofs.OfRows.{told_live}

@@ -1,4 +1,4 @@
-use Rattle.std.proofs.Common.{◌≡◌, ◌<◌, ◌≤◌, ◌+◌, ℕ, List, length, IsSome, refl, sym, subst, arith}
+use Rattle.std.proofs.Common.{◌<◌, ◌+◌, List, IsSome, refl, sym, subst, arith}
 use Rattle.map_defs.specs.Rows.{IsLive, links_of}
 use Rattle.attr_pool.specs.Labelings.{id_of}
 use Rattle.transport.specs.Groups.{Group}
