@@ -1,14 +1,14 @@
 -- The pieces of the touched cells are the pieces of the definition, and so are the values merged from them.
-use Rattle.std.proofs.Common.{◌≡◌, ◌≢◌, ◌⊎◌, ◌↔◌, inl, inr, ℕ, zero, suc, ◌+◌, ◌-◌, ◌<◌, ◌≤◌, List, [], ◌∷◌, length, slice_index, get_or, Bool, true, false, Option, Some, None, Contains, nat_eq, refl, sym, ◌∙◌, ap, subst, arith}
+use Rattle.std.proofs.Common.{◌≡◌, ◌⊎◌, inl, inr, ℕ, zero, suc, ◌-◌, ◌<◌, ◌≤◌, List, [], ◌∷◌, length, slice_index, get_or, true, Option, Some, None, Contains, refl, sym, ◌∙◌, ap, subst, arith}
 use Rattle.std.proofs.lemmas.Bool.{false≢true}
 use Rattle.map_defs.specs.Kind.{Kind}
 use Rattle.map_defs.specs.Words.{through_second}
 use Rattle.map_defs.specs.Rows.{Rows, links_of, IsLive, IsSound}
 use Rattle.map_defs.specs.Cells.{InCell, here, onward}
 use Rattle.dart_arena.proofs.RowLemmas.{some-within}
-use Rattle.map_defs.specs.Values.{Value, Meaning}
+use Rattle.map_defs.specs.Values.{Meaning}
 use Rattle.map_defs.specs.Touched.{IsAlike, IsWhole}
-use Rattle.map_defs.specs.Carry.{known, NamesPiece, ArePieces, Gets, IsCarried, merged_all}
+use Rattle.map_defs.specs.Carry.{known, NamesPiece, ArePieces, Gets, IsCarried}
 use Rattle.value_laws.proofs.Rising.{held_case, held_first, held_later, held_none}
 use Rattle.attr_pool.specs.Stores.{Store, value_of}
 use Rattle.transport.specs.Groups.{Group, group_at, least_of, labelled_value, worth_of}

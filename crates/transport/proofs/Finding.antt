@@ -1,8 +1,8 @@
 -- The touched cells, as they are found one after the other and sorted by their least darts.
-use Rattle.std.proofs.Common.{◌≡◌, ◌≢◌, ◌⊎◌, ◌↔◌, inl, inr, ℕ, zero, suc, ◌+◌, ◌<◌, ◌≤◌, List, [], ◌∷◌, ◌++◌, length, get_or, slice_index, None, Contains, map, nat_eq, IsPermutation, refl, sym, ◌∙◌, ap, subst, arith, take}
+use Rattle.std.proofs.Common.{◌≡◌, ◌≢◌, ◌⊎◌, ◌↔◌, inl, inr, ℕ, ◌+◌, ◌<◌, ◌≤◌, List, [], ◌∷◌, ◌++◌, length, get_or, slice_index, Contains, IsPermutation, sym, ◌∙◌, ap, subst, arith, take}
 use Rattle.std.proofs.lemmas.List.{take_more}
 use Rattle.std.proofs.lemmas.List.Elements.{Contains-append_left, Contains-push, Contains-push_cases}
-use Rattle.std.specs.List.Sorted.{IsStrictlyIncreasing, IsNonDecreasingBy}
+use Rattle.std.specs.List.Sorted.{IsNonDecreasingBy}
 use Rattle.map_defs.specs.Kind.{Kind}
 use Rattle.map_defs.specs.Words.{IsCellWord}
 use Rattle.map_defs.specs.Rows.{Rows, entry_of, links_of, IsSound}
@@ -11,7 +11,7 @@ use Rattle.link_laws.proofs.CellTurns.{cell_turns}
 use Rattle.link_laws.proofs.Orbits.{orbit_trans}
 use Rattle.transport.specs.Groups.{Group, no_group, group_at, least_of}
 use Rattle.transport.specs.Pieces.{IsBareCell, AreBareCells}
-use Rattle.transport.specs.Found.{AreFound, IsNewCell, IsCellAdded}
+use Rattle.transport.specs.Found.{AreFound, IsCellAdded}
 use Rattle.transport.proofs.Lists.{at_front, at_back, one_more, back_or_front, each_pushed, each_moved, some_moved, rising_by_key, distinct_by_key, held_at, place_of}
 
 -- cells are told by any of their darts

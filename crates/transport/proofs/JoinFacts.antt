@@ -1,16 +1,16 @@
 -- The groups of one dimension after those of the others.
-use Rattle.std.proofs.Common.{◌≡◌, ◌≢◌, ◌⊎◌, ◌↔◌, inl, inr, ℕ, zero, suc, ◌+◌, ◌-◌, ◌<◌, ◌≤◌, List, [], ◌∷◌, ◌++◌, length, get_or, slice_index, Option, Some, None, IsSome, Contains, refl, sym, ◌∙◌, ap, subst, arith, length-append}
+use Rattle.std.proofs.Common.{◌≡◌, ◌⊎◌, ◌↔◌, inl, inr, ℕ, ◌+◌, ◌-◌, ◌<◌, ◌≤◌, List, [], ◌++◌, length, get_or, slice_index, Option, Some, None, IsSome, Contains, refl, sym, ◌∙◌, ap, subst, arith, length-append}
 use Rattle.std.specs.List.Sorted.{IsStrictlyIncreasing}
 use Rattle.std.proofs.lemmas.Bool.{false≢true}
 use Rattle.std.proofs.lemmas.List.{get_or_past, get_or_default, get_or_append_left, get_or-append-add}
 use Rattle.map_defs.specs.Kind.{Kind}
 use Rattle.map_defs.specs.Links.{Links}
 use Rattle.map_defs.specs.Cells.{InCell}
-use Rattle.map_defs.specs.Values.{Value, Rule, Meaning, meaning_of}
+use Rattle.map_defs.specs.Values.{Rule, Meaning, meaning_of}
 use Rattle.map_defs.specs.Touched.{IsAlike, Covers}
 use Rattle.map_defs.specs.Carry.{IsCarried}
 use Rattle.attr_pool.specs.Stores.{Store}
-use Rattle.transport.specs.Groups.{Group, no_group, group_at, least_of, rule_at, worth_of, IsBefore, IsTouchedCell, AreTouchedCells, HasCarriedValue}
+use Rattle.transport.specs.Groups.{Group, no_group, group_at, rule_at, worth_of, IsBefore, IsTouchedCell, AreTouchedCells, HasCarriedValue}
 use Rattle.transport.specs.Pieces.{merged_before, AreBareCells, AreAllPieces, AreMerged}
 use Rattle.transport.specs.Joined.{IsCarriedCell, IsWanted, AreAllOf}
 use Rattle.transport.specs.declared.pieces.Piece.{Piece}

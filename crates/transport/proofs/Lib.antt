@@ -5,3 +5,4 @@ pub mod Picking
 pub mod MergeFacts
 pub mod CarryFacts
 pub mod JoinFacts
+pub mod OtherCells

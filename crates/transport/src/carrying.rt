@@ -1,9 +1,12 @@
-ghost use Rattle.std.specs.Prelude.{◌≡◌, ℕ, ◌+◌, ◌<◌, ◌≤◌, length, Some, IsSome, IfOk, Contains};
+ghost use Rattle.std.specs.Prelude.{◌≡◌, ℕ, ◌+◌, ◌<◌, ◌≤◌, length, Some, IsSome, IfOk, OnOk, Contains};
 ghost use Rattle.map_defs.specs.Rows.{IsLive, links_of, IsSound};
-ghost use Rattle.map_defs.specs.Touched.{Covers};
+ghost use Rattle.map_defs.specs.Touched.{Covers, IsAlike};
+ghost use Rattle.map_defs.specs.Cells.{InCell};
+ghost use Rattle.map_defs.specs.Values.{Rule, meaning_of};
+ghost use Rattle.map_defs.specs.Carry.{IsCarried};
 ghost use Rattle.attr_pool.specs.Stores.{IsLive as IsHeld};
 ghost use Rattle.attr_pool.specs.Labelings.{id_of};
-ghost use Rattle.transport.specs.Groups.{group_at, rule_at, AreTouchedCells, HasCarriedValue};
+ghost use Rattle.transport.specs.Groups.{group_at, rule_at, labelled_value, worth_of, AreTouchedCells, HasCarriedValue};
 ghost use Rattle.transport.specs.Joined.{IsCarriedCell, IsWanted, AreAllOf};
 
 use crate::group::{Group, RuleRow};
@@ -46,6 +49,11 @@ pub fn carry<K: Kind, H: Hook, const DIM: usize>(
     ensures values { IfOk result (λ groups. (n : ℕ) → n < length groups.items
         → HasCarriedValue K.kind (links_of links.now.rows) (IsLive links.now.rows) (id_of labels.now) pool.now
         (H.meaning hook.now) rules.now (group_at groups.items n)) }
+    ensures others { OnOk result ((i d : ℕ) (rule : Rule) → rule_at rules.now i ≡ Some rule → IsLive links.now.rows d
+        → ((x : ℕ) → InCell K.kind (links_of links.now.rows) i d x → Contains touched.now x → ⊥)
+        → IsCarried (meaning_of (H.meaning hook.now) rule) (worth_of pool.now (id_of labels.now i))
+        (IsLive links.now.rows) (IsAlike (id_of labels.now i)) (InCell K.kind (links_of links.now.rows) i) d
+        (labelled_value pool.now (id_of labels.now i d))) }
 {
     let mut groups = Vec::new(alloc);
     for dim in 0..links.dimension() + 1 {

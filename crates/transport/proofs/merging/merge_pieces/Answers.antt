@@ -1,8 +1,7 @@
-use Rattle.std.proofs.Common.{rules, ◌≡◌, ◌<◌, ◌≤◌, ◌+◌, ◌∙◌, ℕ, length, sym, ap, subst, inl, inr, Some, arith, true, get_or}
+use Rattle.std.proofs.Common.{◌≡◌, ◌<◌, ◌∙◌, length, sym, ap, subst, inl, inr, arith, true}
 use Rattle.std.proofs.lemmas.List.{get_or_default}
-use Rattle.attr_pool.specs.Stores.{value_of}
 use Rattle.transport.specs.Groups.{Group, no_group, group_at}
-use Rattle.transport.specs.Pieces.{piece_at, has_id, count_below}
+use Rattle.transport.specs.Pieces.{piece_at, has_id}
 use Rattle.transport.specs.declared.pieces.Piece.{Piece}
 use Rattle.map_defs.specs.Carry.{merged_with}
 use Rattle.transport.specs.Tallies.{count_of}

@@ -1,5 +1,5 @@
-use Rattle.std.proofs.Common.{rules, ◌≡◌, ◌<◌, ◌+◌, ℕ, length, arith}
-use Rattle.transport.specs.Pieces.{has_id, count_below}
+use Rattle.std.proofs.Common.{arith}
+use Rattle.transport.specs.Pieces.{has_id}
 use Rattle.transport.proofs.Picking.{count_at_most}
 use Rattle.transport.proofs.merging.tally_of.Goals as goal
 

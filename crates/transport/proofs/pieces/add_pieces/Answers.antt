@@ -1,4 +1,4 @@
-use Rattle.std.proofs.Common.{◌≡◌, ◌∙◌, sym, ap, subst, length, get_or, List, ℕ, arith}
+use Rattle.std.proofs.Common.{◌≡◌, ◌∙◌, ap}
 use Rattle.transport.specs.Groups.{Group}
 use Rattle.transport.proofs.Gathering.{read_dart, gathered_more}
 use Rattle.transport.proofs.pieces.add_pieces.Goals as goal

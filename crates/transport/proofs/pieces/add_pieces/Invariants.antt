@@ -1,7 +1,6 @@
 use Rattle.attr_pool.specs.Labelings.{id_of}
 use Rattle.transport.specs.Tallies.{met_in}
 use Rattle.transport.specs.Gathered.{AreGathered}
-use Rattle.transport.proofs.Gathering.{gathered_none}
 use Rattle.transport.proofs.pieces.add_pieces.Given as goal
 
 abbrev pub invariant-loop-dart : goal.invariant-loop-dart

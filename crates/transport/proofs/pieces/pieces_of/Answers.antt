@@ -1,7 +1,7 @@
-use Rattle.std.proofs.Common.{rules, ◌≡◌, ◌≤◌, ℕ, length, arith}
+use Rattle.std.proofs.Common.{rules, arith}
 use Rattle.std.proofs.lemmas.List.Sorted.{IsNonDecreasingBy-from_sort_by_key}
 use Rattle.transport.specs.declared.pieces.Piece.{Piece}
-use Rattle.transport.proofs.Gathering.{gathered_none, gathered_sorted}
+use Rattle.transport.proofs.Gathering.{gathered_sorted}
 use Rattle.transport.proofs.pieces.pieces_of.Goals as goal
 
 pub returns : goal.returns

@@ -1,4 +1,4 @@
-use Rattle.std.proofs.Common.{◌≡◌, ℕ, ◌↔◌, ◌⊎◌, inl, inr, refl, sym, subst, ◌∙◌, List, None, Contains, true, rules}
+use Rattle.std.proofs.Common.{ℕ, ◌↔◌, ◌⊎◌, inl, inr, refl, sym, subst, ◌∙◌, List, None, Contains}
 use Rattle.std.proofs.lemmas.Bool.{false≢true}
 use Rattle.map_defs.specs.Rows.{links_of}
 use Rattle.map_defs.specs.Cells.{InCell}

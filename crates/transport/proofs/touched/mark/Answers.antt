@@ -1,4 +1,4 @@
-use Rattle.std.proofs.Common.{◌≡◌, ◌⊎◌, ◌↔◌, ℕ, List, take, length, Contains, subst, arith}
+use Rattle.std.proofs.Common.{◌⊎◌, ◌↔◌, ℕ, List, Contains, subst}
 use Rattle.std.proofs.lemmas.List.{take_all}
 use Rattle.cell_walk.proofs.SeenDarts.{seen-grown}
 use Rattle.transport.proofs.Finding.{marked_more}

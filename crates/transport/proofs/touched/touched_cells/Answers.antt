@@ -1,8 +1,6 @@
-use Rattle.std.proofs.Common.{rules, ◌≡◌, ◌∙◌, ℕ, length, arith}
+use Rattle.std.proofs.Common.{rules, ◌∙◌}
 use Rattle.std.proofs.lemmas.List.{get_or_default}
 use Rattle.std.proofs.lemmas.List.Sorted.{IsNonDecreasingBy-from_sort_by_key}
-use Rattle.map_defs.specs.Rows.{links_of, IsSound}
-use Rattle.map_defs.specs.Cells.{InCell}
 use Rattle.transport.specs.Groups.{least_of}
 use Rattle.transport.proofs.Finding.{sound_classes, found_more, found_sorted}
 use Rattle.transport.proofs.touched.touched_cells.Goals as goal

@@ -1,7 +1,6 @@
 use Rattle.map_defs.specs.Rows.{links_of}
 use Rattle.map_defs.specs.Cells.{InCell}
 use Rattle.transport.specs.Found.{AreFound}
-use Rattle.transport.proofs.Finding.{found_none}
 use Rattle.transport.proofs.touched.touched_cells.Given as goal
 
 abbrev pub invariant-loop-dart : goal.invariant-loop-dart
