@@ -12,6 +12,7 @@ pub mod Refusal
 pub mod State
 pub mod Polygon
 pub mod Listing
+pub mod Off
 pub mod Text
 pub mod Script
 pub mod Relinking

@@ -1,0 +1,5 @@
+pub mod FirstPlaces
+pub mod Cuts
+pub mod Counted
+pub mod Corners
+pub mod Fitting

@@ -1,0 +1,3 @@
+pub mod Meanings
+pub mod Reading
+pub mod Views
