@@ -32,5 +32,6 @@ counts-one k n rows xs ys a b = ext_get_or 0 xs ys (a.long ∙ sym b.long) same
     last (suc i) h (inr below) =
         let e : suc i ≡ i + 1 = omega arith in
         ap (slice_index xs) e ∙ count-one _ _ _ (a.cells i (omega arith)) (b.cells i (omega arith)) ∙ ap (slice_index ys) (sym e)
+
     same : (place : ℕ) → place < length xs → slice_index xs place ≡ slice_index ys place
     same place h = last place h (cases_lt (n + 1) place)

@@ -33,8 +33,15 @@ pub ordered : (s : State) (line : Line) → AreOrdered (checks s line)
 ordered s (says.Polygon sides) = (if-apart _, (lit≤ tt, tt), (if-apart _, tt, tt))
 ordered s says.Dart = (if-apart _, tt, tt)
 ordered s (says.Del d) = (unless-apart _, (lit≤ tt, tt), (unless-apart _, tt, tt))
-ordered s (says.Sew i d e) = (if-apart _, (lit≤ tt, (lit≤ tt, (lit≤ tt, (lit≤ tt, tt)))), (unless-apart _, (lit≤ tt, (lit≤ tt, (lit≤ tt, tt))),
-    (unless-apart _, (lit≤ tt, (lit≤ tt, tt)), (unless-apart _, (lit≤ tt, tt), (unless-apart _, tt, tt)))))
+ordered s (says.Sew i d e) = (
+  if-apart _,
+  (lit≤ tt, (lit≤ tt, (lit≤ tt, (lit≤ tt, tt)))),
+  (
+    unless-apart _,
+    (lit≤ tt, (lit≤ tt, (lit≤ tt, tt))),
+    (unless-apart _, (lit≤ tt, (lit≤ tt, tt)), (unless-apart _, (lit≤ tt, tt), (unless-apart _, tt, tt))),
+  ),
+)
 ordered s (says.Unsew i d) = (if-apart _, (lit≤ tt, (lit≤ tt, tt)), (unless-apart _, (lit≤ tt, tt), (if-apart _, tt, tt)))
 ordered s (says.Cell i d) = (if-apart _, (lit≤ tt, tt), (unless-apart _, tt, tt))
 ordered s (says.Same i d e) = (if-apart _, (lit≤ tt, (lit≤ tt, tt)), (unless-apart _, (lit≤ tt, tt), (unless-apart _, tt, tt)))

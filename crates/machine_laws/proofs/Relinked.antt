@@ -45,5 +45,5 @@ relinked-one c births Ended Becomes one a b p q =
   where
     rows : a.rows ≡ b.rows
     rows = same_rows c.dim a.rows b.rows p.wide q.wide (p.long ∙ sym q.long)
-      (λ d. ((λ h. (q.live d).1 ((p.live d).0 h)), (λ h. (p.live d).1 ((q.live d).0 h))))
-      (λ i d h. one (links_of a.rows) (links_of b.rows) p.links q.links i d)
+        (λ d. ((λ h. (q.live d).1 ((p.live d).0 h)), (λ h. (p.live d).1 ((q.live d).0 h))))
+        (λ i d h. one (links_of a.rows) (links_of b.rows) p.links q.links i d)
