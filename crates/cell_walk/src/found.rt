@@ -44,7 +44,7 @@ impl Found {
     {
         Ok(Found {
             darts: Vec::new(alloc),
-            seen: Seen::Marks(Vec::with_capacity(alloc, made as usize + 1)?),
+            seen: Seen::with_marks(alloc, made)?,
         })
     }
 

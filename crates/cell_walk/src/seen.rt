@@ -2,7 +2,7 @@ ghost use Rattle.std.specs.Prelude.{◌≡◌, ℕ, ◌+◌, ◌<◌, ◌^◌, �
 ghost use Rattle.cell_walk.specs.Marks.{IsMarked, HasSeen};
 
 use map_kind::Dart;
-use std::alloc::AllocError;
+use std::alloc::{AllocError, Global};
 use std::collections::BTreeSet;
 
 /// Which darts were found.
@@ -15,6 +15,15 @@ pub(crate) enum Seen {
 }
 
 impl Seen {
+    /// No dart found yet, with marks for the numbers up to `made`.
+    pub(crate) fn with_marks(alloc: Global, made: u32) -> Result<Self, AllocError>
+        ensures { IfOk result (λ seen. (d : ℕ) → HasSeen seen d → ⊥) }
+    {
+        let mut marks = Vec::new(alloc);
+        make_place(&mut marks, made)?;
+        Ok(Seen::Marks(marks))
+    }
+
     /// Whether a dart was found.
     pub(crate) fn contains(&self, dart: Dart) -> bool
         ensures { IsTrue result ↔ HasSeen self.now dart }

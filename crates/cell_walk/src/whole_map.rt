@@ -1,7 +1,7 @@
 ghost use Rattle.std.specs.Prelude.{◌≡◌, ℕ, ◌+◌, ◌≤◌, ◌↔◌, All, Contains, IfOk, OnOk, map};
 ghost use Rattle.std.specs.List.{range_with_len};
 ghost use Rattle.std.specs.List.Sorted.{IsStrictlyIncreasing};
-ghost use Rattle.map_defs.specs.Rows.{IsLive, links_of};
+ghost use Rattle.map_defs.specs.Rows.{IsLive, IsSound, links_of};
 ghost use Rattle.map_defs.specs.Words.{one_link, IsWithin};
 ghost use Rattle.map_defs.specs.Cells.{Leads, NamesCell, NamesComponent};
 ghost use Rattle.map_defs.specs.Counts.{AreCounts};
@@ -99,6 +99,7 @@ fn take_least<K: Kind, const DIM: usize>(
     found: &mut Found,
     least: &mut Vec<Dart>,
 ) -> Result<(), AllocError>
+    requires sound { IsSound K.kind DIM links.now.rows }
     requires within { All (IsWithin DIM) words.now }
     requires turns { TurnsBack (Leads (links_of links.now.rows) (Contains words.now)) }
     requires before { IsSurveyed (Leads (links_of links.now.rows) (Contains words.now)) (IsLive links.now.rows)
@@ -106,10 +107,10 @@ fn take_least<K: Kind, const DIM: usize>(
     ensures { OnOk result (IsSurveyed (Leads (links_of links.now.rows) (Contains words.now)) (IsLive links.now.rows)
         (dart + 1) found.new least.new.items) }
 {
-    if !links.is_live(dart) {
+    if found.contains(dart) {
         return Ok(());
     }
-    if found.contains(dart) {
+    if !links.is_live(dart) {
         return Ok(());
     }
     least.push(dart)?;
