@@ -6,7 +6,7 @@ ghost use Rattle.attr_pool.specs.Labelings.{id_of, HasPlaces};
 use crate::{Group, RuleRow, carry};
 use attr_pool::{AttrId, Labels, Pool};
 use attr_rules::{FirstCopy, Merge, Split, TableRule};
-use link_rows::Links;
+use link_rows::{Links, polygon_edit};
 use map_kind::{Alpha, Dart, Value};
 use std::alloc::{AllocError, Global};
 use std::test::Fail;
@@ -121,7 +121,9 @@ fn is_vertex(group: Option<&Group>, one: u32, other: u32, value: Value) -> bool 
 fn splits_and_merges_the_values_of_vertices(rt: HostRuntime) -> Result<(), Fail> {
     let alloc = rt.alloc();
     let mut links = Links::<Alpha, 2>::new(alloc);
-    assert!(&rt; links.polygon(3).is_ok());
+    assert!(&rt; links.reserve(6).is_ok());
+    let triangle = polygon_edit(alloc, &links, 3)?;
+    links.apply(&triangle);
     let groups = carried(alloc, &links)?;
     assert_eq!(&rt; groups.len(), 4);
     assert!(&rt; is_vertex(groups.first(), 1, 6, value(4, -3, 0)));
