@@ -13,9 +13,13 @@ pub mod State
 pub mod Polygon
 pub mod Listing
 pub mod Off
+pub mod MeshMap
 pub mod Text
 pub mod Script
 pub mod Relinking
+pub mod Valuing
+pub mod Kept
+pub mod Loading
 pub mod Machine
 pub mod Outside
 pub mod Pairs

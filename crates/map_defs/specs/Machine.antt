@@ -1,5 +1,5 @@
 -- The plain map machine: what each line answers and leaves. Source: this project's.
-use Rattle.std.specs.Prelude.{ℕ, ◌≡◌, ◌<◌, ◌+◌, ◌*◌, ◌⊎◌, ◌↔◌, Bool, IsTrue, List, [], ◌∷◌, ◌++◌, Some, None, Contains}
+use Rattle.std.specs.Prelude.{ℕ, ◌≡◌, ◌<◌, ◌+◌, ◌*◌, ◌⊎◌, ◌↔◌, Bool, IsTrue, List, [], ◌∷◌, ◌++◌, Option, Some, None, IsSome, slice_set, Contains}
 use Rattle.std.specs.List.Sorted.{IsStrictlyIncreasing}
 use Rattle.map_defs.specs.Kind.{beta, inverse, IsDistant}
 use Rattle.map_defs.specs.Links.{Links}
@@ -10,13 +10,17 @@ use Rattle.map_defs.specs.Pairs.{IsGood}
 use Rattle.map_defs.specs.Sewing.{SewnPairs, IsSewable, IsSewn, IsUnsewn}
 use Rattle.map_defs.specs.Edits.{free_row}
 use Rattle.map_defs.specs.Polygon.{per_side, polygon_rows}
-use Rattle.map_defs.specs.State.{State, Content, with_born, without_dart, steps_to}
+use Rattle.map_defs.specs.Values as values
+use Rattle.map_defs.specs.Values.{Meaning}
+use Rattle.map_defs.specs.RuleNames.{named_merge, named_split}
+use Rattle.map_defs.specs.State.{State, Content, value_at, rule_at, with_born, without_dart, steps_to}
 use Rattle.map_defs.specs.Relinking.{IsRelinked, NoDart}
+use Rattle.map_defs.specs.Valuing.{IsValued}
 use Rattle.map_defs.specs.Refusal as why
 use Rattle.map_defs.specs.Refusal.{Refusal}
 use Rattle.map_defs.specs.Listing.{ListValue, ListsValues, listing_with}
-use Rattle.map_defs.specs.Text.{Reply, Done, Truth, Darts, Counts, Shown, Refused}
-use Rattle.map_defs.specs.Script.{Line, Polygon, Dart, Del, Sew, Unsew, Cell, Same, Free, Sewable, Count, Show, words_of, line_of}
+use Rattle.map_defs.specs.Text.{Reply, Done, Truth, Darts, Worth, Counts, Shown, Refused}
+use Rattle.map_defs.specs.Script.{Line, Polygon, Dart, Del, Sew, Unsew, Rule, Set, Clear, Cell, Same, Free, Value, Sewable, Count, Show, words_of, line_of}
 
 -- a refusal with the condition under which a line fails by it, and that under which it passes
 pub record Check : Type 1 where
@@ -47,6 +51,14 @@ live_check c d = refuse_unless (IsLive c.rows d) why.NoDart
 abbrev pub links_in : Content → Links
 links_in c = links_of c.rows
 
+-- the dimension has a rule
+abbrev pub rule_check : Content → ℕ → Check
+rule_check c i = refuse_if (rule_at c i ≡ None) why.NoRule
+
+-- the two names are in the tables of rules
+abbrev pub AreNames : List ℕ → List ℕ → Type 0
+AreNames merge split = IsSome (named_merge merge) × IsSome (named_split split)
+
 -- all links of the dart are free
 abbrev pub IsAlone : Content → ℕ → Type 0
 IsAlone c d = (i : ℕ) → links_in c i d ≡ 0
@@ -67,6 +79,10 @@ checks_on c Dart = full_if c 1 ∷ []
 checks_on c (Del d) = live_check c d ∷ refuse_unless (IsAlone c d) why.Linked ∷ []
 checks_on c (Sew i d e) = link_check c i ∷ live_check c d ∷ live_check c e ∷ refuse_unless (AreFree c i d e) why.NotFree ∷ refuse_unless (ArePaired c i d e) why.Unsewable ∷ []
 checks_on c (Unsew i d) = link_check c i ∷ live_check c d ∷ refuse_if (links_in c i d ≡ 0) why.AlreadyFree ∷ []
+checks_on c (Rule i merge split) = dimension_check c i ∷ refuse_unless (AreNames merge split) why.NoRule ∷ []
+checks_on c (Set i d value) = dimension_check c i ∷ live_check c d ∷ rule_check c i ∷ []
+checks_on c (Clear i d) = dimension_check c i ∷ live_check c d ∷ rule_check c i ∷ []
+checks_on c (Value i d) = dimension_check c i ∷ live_check c d ∷ []
 checks_on c (Cell i d) = dimension_check c i ∷ live_check c d ∷ []
 checks_on c (Same i d e) = dimension_check c i ∷ live_check c d ∷ live_check c e ∷ []
 checks_on c (Free i d) = dimension_check c i ∷ live_check c d ∷ []
@@ -95,27 +111,41 @@ abbrev pub Tells : State → Type 0 → Reply → State → Type 0
 Tells s P reply new = (answer : Bool) × (IsTrue answer ↔ P) × (reply ≡ Truth answer) × (new ≡ s)
 
 -- A change of links by which no dart is born and none ends.
-abbrev pub Relinks : State → (Links → Type 0) → Reply → State → Type 0
-Relinks s Becomes reply new = (next : Content) × IsRelinked s.present 0 NoDart Becomes next × (reply ≡ Done 0 0) × (new ≡ steps_to s next)
+abbrev pub Relinks : Meaning → State → (Links → Type 0) → Reply → State → Type 0
+Relinks hook s Becomes reply new = (next : Content) × IsRelinked hook s.present 0 NoDart Becomes next × (reply ≡ Done 0 0) × (new ≡ steps_to s next)
+
+-- A cell is given a value, or it is taken.
+abbrev pub Values : State → ℕ → ℕ → Option values.Value → Reply → State → Type 0
+Values s i d value reply new = (next : Content) × IsValued s.present i d value next × (reply ≡ Done 0 0) × (new ≡ steps_to s next)
+
+-- the content with this rule for dimension i; the values stay
+abbrev pub with_rule : Content → ℕ → values.Rule → Content
+with_rule c i rule = record c { rules = slice_set c.rules i (Some rule) }
 
 -- what a line that passes its checks answers and leaves
-abbrev pub Effect : State → Line → Reply → State → Type 0
-Effect s (Polygon sides) =
+abbrev pub Effect : Meaning → State → Line → Reply → State → Type 0
+Effect hook s (Polygon sides) =
     Gives (Done (made s.present.rows + 1) (per_side s.present.kind * sides)) (steps_to s (with_polygon s.present sides))
-Effect s Dart = Gives (Done (made s.present.rows + 1) 1) (steps_to s (with_dart s.present))
-Effect s (Del d) = Gives (Done 0 0) (steps_to s (without_dart s.present d))
-Effect s (Sew i d e) = Relinks s (IsSewn s.present.kind i d e (links_in s.present))
-Effect s (Unsew i d) = Relinks s (IsUnsewn s.present.kind i d (links_in s.present))
-Effect s (Cell i d) = λ reply new. (darts : List ℕ) × IsStrictlyIncreasing darts
+Effect hook s Dart = Gives (Done (made s.present.rows + 1) 1) (steps_to s (with_dart s.present))
+Effect hook s (Del d) = Gives (Done 0 0) (steps_to s (without_dart s.present d))
+Effect hook s (Sew i d e) = Relinks hook s (IsSewn s.present.kind i d e (links_in s.present))
+Effect hook s (Unsew i d) = Relinks hook s (IsUnsewn s.present.kind i d (links_in s.present))
+Effect hook s (Rule i merge split) = λ reply new. (m : values.Merge) × (p : values.Split)
+    × (named_merge merge ≡ Some m) × (named_split split ≡ Some p)
+    × Gives (Done 0 0) (steps_to s (with_rule s.present i (record { merge = m; split = p }))) reply new
+Effect hook s (Set i d value) = Values s i d (Some value)
+Effect hook s (Clear i d) = Values s i d None
+Effect hook s (Value i d) = Gives (Worth (value_at s.present i d)) s
+Effect hook s (Cell i d) = λ reply new. (darts : List ℕ) × IsStrictlyIncreasing darts
     × ((e : ℕ) → Contains darts e ↔ InCell s.present.kind (links_in s.present) i d e) × (reply ≡ Darts darts) × (new ≡ s)
-Effect s (Same i d e) = Tells s (InCell s.present.kind (links_in s.present) i d e)
-Effect s (Free i d) = Tells s (links_in s.present i d ≡ 0)
-Effect s (Sewable i d e) = Tells s (IsSewable s.present.kind (links_in s.present) i d e)
-Effect s Count = λ reply new. (counts : List ℕ) × AreCounts s.present.kind s.present.dim s.present.rows counts
+Effect hook s (Same i d e) = Tells s (InCell s.present.kind (links_in s.present) i d e)
+Effect hook s (Free i d) = Tells s (links_in s.present i d ≡ 0)
+Effect hook s (Sewable i d e) = Tells s (IsSewable s.present.kind (links_in s.present) i d e)
+Effect hook s Count = λ reply new. (counts : List ℕ) × AreCounts s.present.kind s.present.dim s.present.rows counts
     × (reply ≡ Counts counts) × (new ≡ s)
-Effect s Show = λ reply new. (values : List ListValue) × ListsValues s.present values
+Effect hook s Show = λ reply new. (values : List ListValue) × ListsValues s.present values
     × (reply ≡ Shown (listing_with s.present values)) × (new ≡ s)
-Effect s line = λ reply new. ⊥
+Effect hook s line = λ reply new. ⊥
 
 -- The first check that fails refuses the line and leaves the state as it was; a check is looked at only after those
 -- before it passed.
@@ -129,21 +159,21 @@ abbrev pub FailsFor : List Check → Refusal → Type 0
 FailsFor [] r = ⊥
 FailsFor (check ∷ more) r = ((check.refusal ≡ r) × check.fails) ⊎ FailsFor more r
 
--- one step of the machine
-abbrev pub Step : State → Line → Reply → State → Type 0
-Step s line reply new = Judged s (checks s line) (Effect s line) reply new
+-- one step of the machine, beside the hook that is handed in
+abbrev pub Step : Meaning → State → Line → Reply → State → Type 0
+Step hook s line reply new = Judged s (checks s line) (Effect hook s line) reply new
 
 -- What one line of a script does: without a word it has no reply, outside the grammar it is refused as Syntax, and else
 -- the machine takes a step.
-pub data Obeys (s : State) (words : List (List ℕ)) (replies : List Reply) (new : State) : Type 0 where
-  blank : words ≡ [] → replies ≡ [] → new ≡ s → Obeys s words replies new
+pub data Obeys (hook : Meaning) (s : State) (words : List (List ℕ)) (replies : List Reply) (new : State) : Type 0 where
+  blank : words ≡ [] → replies ≡ [] → new ≡ s → Obeys hook s words replies new
   unread : (first : List ℕ) (more : List (List ℕ)) → words ≡ first ∷ more → line_of words ≡ None
-      → replies ≡ Refused why.Syntax ∷ [] → new ≡ s → Obeys s words replies new
-  obeyed : (line : Line) (reply : Reply) → line_of words ≡ Some line → Step s line reply new → replies ≡ reply ∷ []
-      → Obeys s words replies new
+      → replies ≡ Refused why.Syntax ∷ [] → new ≡ s → Obeys hook s words replies new
+  obeyed : (line : Line) (reply : Reply) → line_of words ≡ Some line → Step hook s line reply new → replies ≡ reply ∷ []
+      → Obeys hook s words replies new
 
 -- the machine obeys the lines one after another
-abbrev pub Run : State → List (List ℕ) → List Reply → State → Type 0
-Run s [] replies new = (replies ≡ []) × (new ≡ s)
-Run s (line ∷ lines) replies new = (here : List Reply) × (more : List Reply) × (mid : State)
-    × Obeys s (words_of line) here mid × Run mid lines more new × (replies ≡ here ++ more)
+abbrev pub Run : Meaning → State → List (List ℕ) → List Reply → State → Type 0
+Run hook s [] replies new = (replies ≡ []) × (new ≡ s)
+Run hook s (line ∷ lines) replies new = (here : List Reply) × (more : List Reply) × (mid : State)
+    × Obeys hook s (words_of line) here mid × Run hook mid lines more new × (replies ≡ here ++ more)

@@ -1,7 +1,7 @@
 -- The state of the plain map machine, with whole contents. Source: this project's.
-use Rattle.std.specs.Prelude.{ℕ, ◌+◌, List, [], ◌∷◌, ◌++◌, Option, Some, None, map, replicate, slice_index_or, slice_set}
+use Rattle.std.specs.Prelude.{ℕ, ◌≡◌, ◌+◌, ◌<◌, length, List, [], ◌∷◌, ◌++◌, Option, Some, None, map, replicate, slice_index_or, slice_set}
 use Rattle.map_defs.specs.Kind.{Kind}
-use Rattle.map_defs.specs.Rows.{Rows}
+use Rattle.map_defs.specs.Rows.{Rows, IsLive}
 use Rattle.map_defs.specs.Values.{Value, Rule}
 
 -- A map with its values and rules. Place d of `values` has the values that the cells of dart d have, one place for each
@@ -48,6 +48,16 @@ empty_content k n = record { kind = k; dim = n; rows = None ∷ []; values = no_
 -- the machine's first state
 abbrev pub empty_state : Kind → ℕ → State
 empty_state k n = record { present = empty_content k n; past = []; marks = []; undone = [] }
+
+-- the rule of dimension i, if it has one
+abbrev pub rule_at : Content → ℕ → Option Rule
+rule_at c i = slice_index_or c.rules i None
+
+-- The values have a place for each place of the rows, and in it one for each dimension; only live darts have values.
+pub record HasPlaces (c : Content) : Type 0 where
+  pub long : length c.values ≡ length c.rows
+  pub wide : (d : ℕ) → d < length c.rows → length (slice_index_or c.values d []) ≡ c.dim + 1
+  pub none : (i d : ℕ) → (IsLive c.rows d → ⊥) → value_at c i d ≡ None
 
 -- the content with further darts, which have no values yet
 abbrev pub with_born : Content → List (List ℕ) → Content

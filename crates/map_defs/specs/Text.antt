@@ -1,17 +1,19 @@
 -- What the machine answers, and the text of an answer. Source: this project's script and listing formats.
-use Rattle.std.specs.Prelude.{ℕ, ℤ, List, [], ◌∷◌, ◌++◌, length, Bool, true, false, codes, ◌==◌, if◌then◌else◌}
+use Rattle.std.specs.Prelude.{ℕ, ℤ, List, [], ◌∷◌, ◌++◌, length, Option, Some, None, Bool, true, false, codes, ◌==◌, if◌then◌else◌}
 use Rattle.std.specs.Fmt.{decimal, signed_decimal}
 use Rattle.std.specs.List.{flat_map, list_any}
 use Rattle.map_defs.specs.Kind.{Kind, alpha, beta}
 use Rattle.map_defs.specs.Refusal.{Refusal, number, name}
+use Rattle.map_defs.specs.Values.{Value}
 use Rattle.map_defs.specs.Listing.{ListRow, ListValue, Listing}
 
 -- One reply: a changing line's first new dart and how many were made, both 0 if none was; an answer to a question of yes
--- or no; the darts of a cell, ascending; the counts of the map; a listing; or a refusal.
+-- or no; the darts of a cell, ascending; the value of a cell, or none; the counts of the map; a listing; or a refusal.
 pub data Reply : Type 0 where
   Done : ℕ → ℕ → Reply
   Truth : Bool → Reply
   Darts : List ℕ → Reply
+  Worth : Option Value → Reply
   Counts : List ℕ → Reply
   Shown : Listing → Reply
   Refused : Refusal → Reply
@@ -20,6 +22,7 @@ abbrev pub is_refused : Reply → Bool
 is_refused (Done first count) = false
 is_refused (Truth answer) = false
 is_refused (Darts darts) = false
+is_refused (Worth value) = false
 is_refused (Counts counts) = false
 is_refused (Shown listing) = false
 is_refused (Refused r) = true
@@ -70,6 +73,10 @@ truth_text false = ended (codes "false")
 abbrev pub numbers_text : List ℕ → List ℕ → List ℕ
 numbers_text word numbers = ended (word ++ flat_map spaced numbers)
 
+abbrev pub worth_text : Option Value → List ℕ
+worth_text None = ended (codes "value none")
+worth_text (Some v) = ended (codes "value" ++ spaced_signed v.a ++ spaced_signed v.b ++ spaced_signed v.c)
+
 abbrev pub refusal_text : Refusal → List ℕ
 refusal_text r = ended (codes "no" ++ spaced (number r) ++ 32 ∷ name r)
 
@@ -77,6 +84,7 @@ abbrev pub reply_text : Reply → List ℕ
 reply_text (Done first count) = done_text first count
 reply_text (Truth answer) = truth_text answer
 reply_text (Darts darts) = numbers_text (codes "cell") darts
+reply_text (Worth value) = worth_text value
 reply_text (Counts counts) = numbers_text (codes "count") counts
 reply_text (Shown listing) = listing_text listing
 reply_text (Refused r) = refusal_text r

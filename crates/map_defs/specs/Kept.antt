@@ -1,0 +1,28 @@
+-- What the plain map machine keeps in every state: each content is a lawful map with values on its cells. Source: this
+-- project's.
+use Rattle.std.specs.Prelude.{ℕ, ◌≡◌, ◌≤◌, ◌+◌, length, None, All}
+use Rattle.map_defs.specs.Laws.{IsLawful}
+use Rattle.map_defs.specs.Rows.{IsLive, links_of, IsSound}
+use Rattle.map_defs.specs.Carry.{AreEqualOnCells}
+use Rattle.map_defs.specs.State.{Content, State, value_at, rule_at, HasPlaces}
+
+pub record IsKept (c : Content) : Type 0 where
+  pub flat : 2 ≤ c.dim
+  -- entries name live darts, and no more darts were made than may be
+  pub sound : IsSound c.kind c.dim c.rows
+  pub begun : 1 ≤ length c.rows
+  -- the laws of a map
+  pub lawful : IsLawful c.kind (links_of c.rows)
+  -- a place for each value and each rule
+  pub places : HasPlaces c
+  pub ruled : length c.rules ≡ c.dim + 1
+  -- the darts of a cell have one value, or none has one, and a dimension without a rule has no values
+  pub equal : (i : ℕ) → AreEqualOnCells c.kind i (links_of c.rows) (IsLive c.rows) (value_at c i)
+  pub none : (i d : ℕ) → rule_at c i ≡ None → value_at c i d ≡ None
+
+-- of the present content, of the past, of marks and of what was undone
+pub record AreKept (s : State) : Type 0 where
+  pub present : IsKept s.present
+  pub past : All IsKept s.past
+  pub marks : All (λ m. IsKept m.content) s.marks
+  pub undone : All (λ u. IsKept u.present × All IsKept u.past × All (λ m. IsKept m.content) u.marks) s.undone
