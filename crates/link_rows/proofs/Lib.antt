@@ -9,3 +9,4 @@ pub mod EditPlain
 pub mod EditLinks
 pub mod BirthLinks
 pub mod PolygonEdit
+pub mod KeptLaws

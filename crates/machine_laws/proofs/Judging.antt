@@ -1,5 +1,5 @@
 -- Lists of checks: the first that fails has the least number.
-use Rattle.std.proofs.Common.{◌≡◌, ℕ, ◌<◌, ◌≤◌, List, [], ◌∷◌, sym, ap, ◌∙◌, inl, inr, arith, lit≤}
+use Rattle.std.proofs.Common.{◌≡◌, ℕ, ◌≤◌, List, [], ◌∷◌, sym, ap, ◌∙◌, subst, inl, inr, arith, lit≤}
 use Rattle.map_defs.specs.Refusal.{Refusal, number}
 use Rattle.map_defs.specs.State.{State}
 use Rattle.map_defs.specs.Script as says
@@ -55,13 +55,13 @@ ordered s (says.Face darts) = (unless-apart _, tt, tt)
 ordered s (says.Remove i d) = (unless-apart _, tt, tt)
 ordered s (says.Contract i d) = (unless-apart _, tt, tt)
 ordered s says.Dual = (unless-apart _, tt, tt)
-ordered s (says.Rule i merge split) = (unless-apart _, tt, tt)
-ordered s (says.Set i d value) = (unless-apart _, tt, tt)
-ordered s (says.Clear i d) = (unless-apart _, tt, tt)
+ordered s (says.Rule i merge split) = (if-apart _, (lit≤ tt, tt), (unless-apart _, tt, tt))
+ordered s (says.Set i d value) = (if-apart _, (lit≤ tt, (lit≤ tt, tt)), (unless-apart _, (lit≤ tt, tt), (if-apart _, tt, tt)))
+ordered s (says.Clear i d) = (if-apart _, (lit≤ tt, (lit≤ tt, tt)), (unless-apart _, (lit≤ tt, tt), (if-apart _, tt, tt)))
 ordered s (says.Mark name) = (unless-apart _, tt, tt)
 ordered s (says.Undo name) = (unless-apart _, tt, tt)
 ordered s (says.Log name) = (unless-apart _, tt, tt)
-ordered s (says.Value i d) = (unless-apart _, tt, tt)
+ordered s (says.Value i d) = (if-apart _, (lit≤ tt, tt), (unless-apart _, tt, tt))
 ordered s (says.Removable i d) = (unless-apart _, tt, tt)
 ordered s (says.Contractible i d) = (unless-apart _, tt, tt)
 ordered s says.Off = (unless-apart _, tt, tt)
@@ -94,12 +94,25 @@ judged-accepted s effect reply new (check ∷ more) o no_refusal (inl j) q f = n
 judged-accepted s effect reply new (check ∷ more) o no_refusal (inr j) q (inl f) = o.0 j.0 f.1
 judged-accepted s effect reply new (check ∷ more) o no_refusal (inr j) q (inr f) = judged-accepted s effect reply new more o.2 no_refusal j.1 q f
 
+-- all checks pass
+abbrev pub AllPass : List Check → Type 0
+AllPass [] = Unit {0}
+AllPass (check ∷ more) = check.passes × AllPass more
+
 -- where the effect has one reply and one state, so has the judgement
 pub judged-one : (s : State) (effect : Reply → State → Type 0) (one other : Reply) (new new' : State) (list : List Check) → AreOrdered list
-    → (effect one new → effect other new' → (one ≡ other) × (new ≡ new'))
+    → (AllPass list → effect one new → effect other new' → (one ≡ other) × (new ≡ new'))
     → Judged s list effect one new → Judged s list effect other new' → (one ≡ other) × (new ≡ new')
-judged-one s effect one other new new' [] o same j k = same j k
+judged-one s effect one other new new' [] o same j k = same tt j k
 judged-one s effect one other new new' (check ∷ more) o same (inl j) (inl k) = (j.1 ∙ sym k.1, j.2 ∙ sym k.2)
 judged-one s effect one other new new' (check ∷ more) o same (inl j) (inr k) = absurd (o.0 k.0 j.0)
 judged-one s effect one other new new' (check ∷ more) o same (inr j) (inl k) = absurd (o.0 j.0 k.0)
-judged-one s effect one other new new' (check ∷ more) o same (inr j) (inr k) = judged-one s effect one other new new' more o.2 same j.1 k.1
+judged-one s effect one other new new' (check ∷ more) o same (inr j) (inr k) =
+    judged-one s effect one other new new' more o.2 (λ passes. same (j.0, passes)) j.1 k.1
+
+-- what holds of a state holds after the judgement, where the effect keeps it
+pub judged-kept : (s : State) (effect : Reply → State → Type 0) (P : State → Type 0) (reply : Reply) (new : State) (list : List Check) → P s
+    → (AllPass list → effect reply new → P new) → Judged s list effect reply new → P new
+judged-kept s effect P reply new [] h keeps j = keeps tt j
+judged-kept s effect P reply new (check ∷ more) h keeps (inl j) = subst P (sym j.2) h
+judged-kept s effect P reply new (check ∷ more) h keeps (inr j) = judged-kept s effect P reply new more h (λ passes. keeps (j.0, passes)) j.1

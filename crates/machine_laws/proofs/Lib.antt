@@ -1,6 +1,13 @@
 pub mod Judging
 pub mod ValueLists
+pub mod ValueFacts
 pub mod Relinked
+pub mod MeshLinks
+pub mod MeshOne
+pub mod Keeping
+pub mod Born
+pub mod Ended
+pub mod Begun
 pub mod Answers
 pub mod Steps
 pub mod Runs

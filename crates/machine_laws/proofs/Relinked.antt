@@ -1,15 +1,21 @@
--- A change of links leaves one content.
-use Rattle.std.proofs.Common.{◌≡◌, ℕ, ◌+◌, ◌++◌, ◌↔◌, List, length, Option, refl, sym, ap, ◌∙◌, subst}
+-- A change of links, or of a cell's value, leaves one content.
+use Rattle.std.proofs.Common.{◌≡◌, ℕ, ◌≤◌, List, Option, Some, None, refl, sym, ◌∙◌, subst}
 use Rattle.map_defs.specs.Kind.{Kind}
 use Rattle.map_defs.specs.Links.{Links}
+use Rattle.map_defs.specs.Laws.{Laws}
 use Rattle.map_defs.specs.Rows.{Rows, IsLive, links_of}
+use Rattle.map_defs.specs.Cells.{InCell}
 use Rattle.map_defs.specs.Pairs.{IsJoined}
 use Rattle.map_defs.specs.Sewing.{SewnPairs, IsSewn, IsFreed, IsUnsewn}
-use Rattle.map_defs.specs.Values.{Value, Rule}
-use Rattle.map_defs.specs.State.{Content}
-use Rattle.map_defs.specs.Relinking.{IsRelinked}
+use Rattle.map_defs.specs.Values.{Value, Rule, Meaning, meaning_of}
+use Rattle.map_defs.specs.Carry.{AreCarried}
+use Rattle.map_defs.specs.State.{Content, value_at, rule_at}
+use Rattle.map_defs.specs.Relinking.{IsRelinked, AreCarriedBy}
+use Rattle.map_defs.specs.Valuing.{IsValued}
 use Rattle.link_laws.proofs.Basics.{by_cases}
 use Rattle.link_laws.proofs.SameRows.{same_rows}
+use Rattle.value_laws.proofs.MapValues.{carried_alike}
+use Rattle.machine_laws.proofs.ValueFacts.{value-cases, values-one}
 
 -- a relation tells the links
 abbrev pub TellsOne : (Links → Type 0) → Type 0
@@ -31,19 +37,48 @@ unsewn-one k i d L N M b c t x = by_cases (IsFreed k L i d x t) _ _
 content_of : Kind → ℕ → Rows → List (List (Option Value)) → List (Option Rule) → Content
 content_of kind dim rows values rules = record { kind = kind; dim = dim; rows = rows; values = values; rules = rules }
 
-same-content : (a b : Content) → a.kind ≡ b.kind → a.dim ≡ b.dim → a.rows ≡ b.rows → a.values ≡ b.values → a.rules ≡ b.rules → a ≡ b
+pub same-content : (a b : Content) → a.kind ≡ b.kind → a.dim ≡ b.dim → a.rows ≡ b.rows → a.values ≡ b.values → a.rules ≡ b.rules → a ≡ b
 unfolding content_of
 same-content a b kinds dims rows values rules =
     let one : a ≡ content_of a.kind a.dim a.rows a.values a.rules = refl in
     let other : b ≡ content_of b.kind b.dim b.rows b.values b.rules = refl in
     cc
 
-pub relinked-one : (c : Content) (births : ℕ) (Ended : ℕ → Type 0) (Becomes : Links → Type 0) → TellsOne Becomes
-    → (a b : Content) → IsRelinked c births Ended Becomes a → IsRelinked c births Ended Becomes b → a ≡ b
-relinked-one c births Ended Becomes one a b p q =
-    same-content a b (p.kind ∙ sym q.kind) (p.dim ∙ sym q.dim) rows (p.values ∙ sym q.values) (p.rules ∙ sym q.rules)
+module _ (hook : Meaning) (c : Content) (laws : Laws c.kind (links_of c.rows)) where
+  -- the values that are carried to the same rows are the same
+  carried-one : (i : ℕ) (rule : Option Rule) (a b : Content) → Laws c.kind (links_of a.rows) → a.rows ≡ b.rows
+      → AreCarriedBy hook c a i rule → AreCarriedBy hook c b i rule → (d : ℕ) → IsLive a.rows d → value_at a i d ≡ value_at b i d
+  carried-one i None a b lawful rows p q d live = p d ∙ sym (q d)
+  carried-one i (Some rule) a b lawful rows p q d live =
+      carried_alike c.kind i (meaning_of hook rule) (links_of c.rows) (links_of a.rows) (IsLive c.rows) (IsLive a.rows) laws lawful (value_at c i) (value_at a i) (value_at b i) p
+      (subst (λ (r : Rows). AreCarried c.kind i (meaning_of hook rule) (links_of c.rows) (IsLive c.rows) (value_at c i) (links_of r) (IsLive r) (value_at b i)) (sym rows) q) d live
+
+  pub relinked-one : (births : ℕ) (Ended : ℕ → Type 0) (Becomes : Links → Type 0) → TellsOne Becomes
+      → ((N : Links) → Becomes N → Laws c.kind N)
+      → (a b : Content) → IsRelinked hook c births Ended Becomes a → IsRelinked hook c births Ended Becomes b → a ≡ b
+  relinked-one births Ended Becomes one lawful a b p q =
+      same-content a b (p.kind ∙ sym q.kind) dims rows values (p.rules ∙ sym q.rules)
+    where
+      dims : a.dim ≡ b.dim
+      dims = p.dim ∙ sym q.dim
+
+      rows : a.rows ≡ b.rows
+      rows = same_rows c.dim a.rows b.rows p.wide q.wide (p.long ∙ sym q.long)
+          (λ d. ((λ h. (q.live d).1 ((p.live d).0 h)), (λ h. (p.live d).1 ((q.live d).0 h))))
+          (λ i d h. one (links_of a.rows) (links_of b.rows) p.links q.links i d)
+
+      values : a.values ≡ b.values
+      values = values-one a b p.places q.places dims rows
+          (λ i d within live. carried-one i (rule_at c i) a b (lawful (links_of a.rows) p.links) rows (p.values i (subst (λ (n : ℕ). i ≤ n) p.dim within)) (q.values i (subst (λ (n : ℕ). i ≤ n) p.dim within)) d live)
+
+-- a cell that is given a value
+pub valued-one : (c : Content) (i d : ℕ) (value : Option Value) (a b : Content) → IsValued c i d value a → IsValued c i d value b → a ≡ b
+valued-one c i d value a b p q = same-content a b (p.kind ∙ sym q.kind) (p.dim ∙ sym q.dim) (p.rows ∙ sym q.rows) values (p.rules ∙ sym q.rules)
   where
-    rows : a.rows ≡ b.rows
-    rows = same_rows c.dim a.rows b.rows p.wide q.wide (p.long ∙ sym q.long)
-        (λ d. ((λ h. (q.live d).1 ((p.live d).0 h)), (λ h. (p.live d).1 ((q.live d).0 h))))
-        (λ i d h. one (links_of a.rows) (links_of b.rows) p.links q.links i d)
+    at : (j x : ℕ) → value_at a j x ≡ value_at b j x
+    at j x = value-cases ((j ≡ i) × InCell c.kind (links_of c.rows) i d x) _ _
+        (λ h. rw h.0 (p.given x h.1 ∙ sym (q.given x h.1)))
+        (λ other. p.kept j x (λ e h. other (e, h)) ∙ sym (q.kept j x (λ e h. other (e, h))))
+
+    values : a.values ≡ b.values
+    values = values-one a b p.places q.places (p.dim ∙ sym q.dim) (p.rows ∙ sym q.rows) (λ j x within live. at j x)

@@ -1,47 +1,67 @@
--- One step has one reply and one state.
-use Rattle.std.proofs.Common.{◌≡◌, ℕ, List, Bool, sym, ap, ◌∙◌}
+-- One step has one reply and one state, and keeps what every state keeps.
+use Rattle.std.proofs.Common.{◌≡◌, ◌≢◌, ℕ, ◌+◌, ◌*◌, ◌<◌, ◌≤◌, List, [], ◌∷◌, length, Option, Some, None, refl, sym, ap, ◌∙◌, subst, inl, inr, arith}
+use Rattle.std.proofs.lemmas.Bool.{cases_lt}
+use Rattle.std.proofs.lemmas.List.{append-nil}
+use Rattle.std.specs.Prelude.{slice_set}
 use Rattle.map_defs.specs.Links.{Links}
+use Rattle.map_defs.specs.Laws.{Laws}
+use Rattle.map_defs.specs.Rows.{Rows, links_of, made, made_max, IsLive, IsSound}
+use Rattle.map_defs.specs.Edits.{Edit, free_row}
+use Rattle.map_defs.specs.Polygon.{per_side, polygon_rows}
+use Rattle.map_defs.specs.Sewing.{IsSewn, IsUnsewn}
 use Rattle.map_defs.specs.Refusal.{Refusal}
-use Rattle.map_defs.specs.State.{State, Content, steps_to}
+use Rattle.map_defs.specs.RuleNames.{named_merge, named_split}
+use Rattle.map_defs.specs.Values.{Meaning, Value}
+use Rattle.map_defs.specs.State.{State, Content, with_born, without_dart, steps_to}
 use Rattle.map_defs.specs.Script as says
 use Rattle.map_defs.specs.Script.{Line}
 use Rattle.map_defs.specs.Listing.{ListValue, listing_with}
 use Rattle.map_defs.specs.Relinking.{NoDart}
+use Rattle.map_defs.specs.Kept.{IsKept, AreKept}
 use Rattle.map_defs.specs.Text.{Reply, Truth, Darts, Counts, Shown, Refused}
-use Rattle.map_defs.specs.Machine.{Step, Effect, Gives, Tells, Relinks, checks, links_in}
-use Rattle.machine_laws.proofs.Judging.{ordered, judged-one}
+use Rattle.map_defs.specs.Machine.{Step, Effect, Gives, Tells, Relinks, Values, AreFree, ArePaired, checks, links_in, with_polygon, with_dart}
+use Rattle.link_laws.proofs.Sewn.{sewing_keeps}
+use Rattle.link_laws.proofs.Unsewn.{unsewing_keeps}
+use Rattle.link_rows.proofs.EditSound.{after-sound}
+use Rattle.link_rows.proofs.EditPlain.{births_edit, death_edit, births-fit, death-fits}
+use Rattle.link_rows.proofs.KeptLaws.{births-keep}
+use Rattle.link_rows.proofs.PolygonEdit.{sides_edit, polygon-fits, polygon-after, polygon-lawful}
+use Rattle.machine_laws.proofs.Judging.{ordered, AllPass, judged-one, judged-kept}
 use Rattle.machine_laws.proofs.ValueLists.{one-listing}
-use Rattle.machine_laws.proofs.Relinked.{TellsOne, sewn-one, unsewn-one, relinked-one}
+use Rattle.machine_laws.proofs.Relinked.{TellsOne, sewn-one, unsewn-one, relinked-one, valued-one}
+use Rattle.machine_laws.proofs.Keeping.{laws-of, dead-at, kept-step, kept-relinked, kept-valued, kept-ruled}
+use Rattle.machine_laws.proofs.Born.{kept-born}
+use Rattle.machine_laws.proofs.Ended.{kept-ended}
 use Rattle.machine_laws.proofs.Answers.{truth-one, darts-one, counts-one}
 
-pub effect-refuses : (s : State) (line : Line) (r : Refusal) (new : State) → Effect s line (Refused r) new → ⊥
-effect-refuses s (says.Polygon sides) r new e = let f = e.0 in cc
-effect-refuses s says.Dart r new e = let f = e.0 in cc
-effect-refuses s (says.Del d) r new e = let f = e.0 in cc
-effect-refuses s (says.Sew i d e) r new f = let g = f.2 in cc
-effect-refuses s (says.Unsew i d) r new f = let g = f.2 in cc
-effect-refuses s (says.Cell i d) r new f = let g = f.3 in cc
-effect-refuses s (says.Same i d e) r new f = let g = f.2 in cc
-effect-refuses s (says.Free i d) r new f = let g = f.2 in cc
-effect-refuses s (says.Sewable i d e) r new f = let g = f.2 in cc
-effect-refuses s says.Count r new f = let g = f.2 in cc
-effect-refuses s says.Show r new e = let f = e.2 in cc
-effect-refuses s (says.Vertex d) r new f = f
-effect-refuses s (says.Edge d e) r new f = f
-effect-refuses s (says.Face darts) r new f = f
-effect-refuses s (says.Remove i d) r new f = f
-effect-refuses s (says.Contract i d) r new f = f
-effect-refuses s says.Dual r new f = f
-effect-refuses s (says.Rule i merge split) r new f = f
-effect-refuses s (says.Set i d value) r new f = f
-effect-refuses s (says.Clear i d) r new f = f
-effect-refuses s (says.Mark name) r new f = f
-effect-refuses s (says.Undo name) r new f = f
-effect-refuses s (says.Log name) r new f = f
-effect-refuses s (says.Value i d) r new f = f
-effect-refuses s (says.Removable i d) r new f = f
-effect-refuses s (says.Contractible i d) r new f = f
-effect-refuses s says.Off r new f = f
+pub effect-refuses : (hook : Meaning) (s : State) (line : Line) (r : Refusal) (new : State) → Effect hook s line (Refused r) new → ⊥
+effect-refuses hook s (says.Polygon sides) r new e = let f = e.0 in cc
+effect-refuses hook s says.Dart r new e = let f = e.0 in cc
+effect-refuses hook s (says.Del d) r new e = let f = e.0 in cc
+effect-refuses hook s (says.Sew i d e) r new f = let g = f.2 in cc
+effect-refuses hook s (says.Unsew i d) r new f = let g = f.2 in cc
+effect-refuses hook s (says.Cell i d) r new f = let g = f.3 in cc
+effect-refuses hook s (says.Same i d e) r new f = let g = f.2 in cc
+effect-refuses hook s (says.Free i d) r new f = let g = f.2 in cc
+effect-refuses hook s (says.Sewable i d e) r new f = let g = f.2 in cc
+effect-refuses hook s says.Count r new f = let g = f.2 in cc
+effect-refuses hook s says.Show r new e = let f = e.2 in cc
+effect-refuses hook s (says.Vertex d) r new f = f
+effect-refuses hook s (says.Edge d e) r new f = f
+effect-refuses hook s (says.Face darts) r new f = f
+effect-refuses hook s (says.Remove i d) r new f = f
+effect-refuses hook s (says.Contract i d) r new f = f
+effect-refuses hook s says.Dual r new f = f
+effect-refuses hook s (says.Rule i merge split) r new f = let g = f.4.0 in cc
+effect-refuses hook s (says.Set i d value) r new f = let g = f.2 in cc
+effect-refuses hook s (says.Clear i d) r new f = let g = f.2 in cc
+effect-refuses hook s (says.Mark name) r new f = f
+effect-refuses hook s (says.Undo name) r new f = f
+effect-refuses hook s (says.Log name) r new f = f
+effect-refuses hook s (says.Value i d) r new f = let g = f.0 in cc
+effect-refuses hook s (says.Removable i d) r new f = f
+effect-refuses hook s (says.Contractible i d) r new f = f
+effect-refuses hook s says.Off r new f = f
 
 -- what is told and leaves one state
 abbrev IsOne : State → (Reply → State → Type 0) → Type 0
@@ -53,41 +73,140 @@ gives-one s reply next one other new new' e f = (e.0 ∙ sym f.0, e.1 ∙ sym f.
 tells-one : (s : State) (P : Type 0) → IsOne s (Tells s P)
 tells-one s P one other new new' e f = (e.2 ∙ ap Truth (truth-one P e.0 f.0 e.1 f.1) ∙ sym f.2, e.3 ∙ sym f.3)
 
-relinks-one : (s : State) (Becomes : Links → Type 0) → TellsOne Becomes → IsOne s (Relinks s Becomes)
-relinks-one s Becomes tells one other new new' e f =
-    (e.2 ∙ sym f.2, e.3 ∙ ap (steps_to s) (relinked-one s.present 0 NoDart Becomes tells e.0 f.0 e.1 f.1) ∙ sym f.3)
+given-one : (s : State) (i d : ℕ) (value : Option Value) → IsOne s (Values s i d value)
+given-one s i d value one other new new' e f =
+    (e.2 ∙ sym f.2, e.3 ∙ ap (steps_to s) (valued-one s.present i d value e.0 f.0 e.1 f.1) ∙ sym f.3)
 
-effect-one : (s : State) (line : Line) → IsOne s (Effect s line)
-effect-one s (says.Polygon sides) = gives-one s _ _
-effect-one s says.Dart = gives-one s _ _
-effect-one s (says.Del d) = gives-one s _ _
-effect-one s (says.Sew i d e) = relinks-one s _ (sewn-one s.present.kind i d e (links_in s.present))
-effect-one s (says.Unsew i d) = relinks-one s _ (unsewn-one s.present.kind i d (links_in s.present))
-effect-one s (says.Cell i d) = λ one other new new' e f.
-    (e.3 ∙ ap Darts (darts-one _ e.0 f.0 e.1 f.1 e.2 f.2) ∙ sym f.3, e.4 ∙ sym f.4)
-effect-one s (says.Same i d e) = tells-one s _
-effect-one s (says.Free i d) = tells-one s _
-effect-one s (says.Sewable i d e) = tells-one s _
-effect-one s says.Count = λ one other new new' e f.
-    (e.2 ∙ ap Counts (counts-one s.present.kind s.present.dim s.present.rows e.0 f.0 e.1 f.1) ∙ sym f.2, e.3 ∙ sym f.3)
-effect-one s says.Show = λ one other new new' e f.
-    (e.2 ∙ ap (λ (values : List ListValue). Shown (listing_with s.present values)) (one-listing s.present e.0 f.0 e.1 f.1) ∙ sym f.2, e.3 ∙ sym f.3)
-effect-one s (says.Vertex d) = λ one other new new' e f. absurd e
-effect-one s (says.Edge d d') = λ one other new new' e f. absurd e
-effect-one s (says.Face darts) = λ one other new new' e f. absurd e
-effect-one s (says.Remove i d) = λ one other new new' e f. absurd e
-effect-one s (says.Contract i d) = λ one other new new' e f. absurd e
-effect-one s says.Dual = λ one other new new' e f. absurd e
-effect-one s (says.Rule i merge split) = λ one other new new' e f. absurd e
-effect-one s (says.Set i d value) = λ one other new new' e f. absurd e
-effect-one s (says.Clear i d) = λ one other new new' e f. absurd e
-effect-one s (says.Mark name) = λ one other new new' e f. absurd e
-effect-one s (says.Undo name) = λ one other new new' e f. absurd e
-effect-one s (says.Log name) = λ one other new new' e f. absurd e
-effect-one s (says.Value i d) = λ one other new new' e f. absurd e
-effect-one s (says.Removable i d) = λ one other new new' e f. absurd e
-effect-one s (says.Contractible i d) = λ one other new new' e f. absurd e
-effect-one s says.Off = λ one other new new' e f. absurd e
+some-one : {X : Type 0} (o : Option X) (x y : X) → o ≡ Some x → o ≡ Some y → x ≡ y
+some-one o x y e f = cc
 
-pub step-one : (s : State) (line : Line) (one other : Reply) (new new' : State) → Step s line one new → Step s line other new' → (one ≡ other) × (new ≡ new')
-step-one s line one other new new' = judged-one s (Effect s line) one other new new' (checks s line) (ordered s line) (effect-one s line one other new new')
+not-above : {a b : ℕ} → (a < b → ⊥) → b ≤ a
+not-above {a} {b} h = elim (cases_lt a b) [ inl less ↦ absurd (h less) | inr more ↦ more ]
+
+-- links that sewing and unsewing make
+module _ (c : Content) (kept : IsKept c) where
+  dart-some : (d : ℕ) → IsLive c.rows d → d ≢ 0
+  dart-some d live zeroth = dead-at c.rows kept.sound.nothing (subst (IsLive c.rows) zeroth live)
+
+  sewn-lawful : (i d e : ℕ) → IsLive c.rows d → IsLive c.rows e → AreFree c i d e → ArePaired c i d e → (N : Links) → IsSewn c.kind i d e (links_in c) N → Laws c.kind N
+  sewn-lawful i d e live live' free paired N sewn =
+      sewing_keeps c.kind (links_in c) (laws-of c kept) i d e (dart-some d live) (dart-some e live') (record { near = free.0; far = free.1; good = paired }) N sewn
+
+  unsewn-lawful : (i d : ℕ) → (N : Links) → IsUnsewn c.kind i d (links_in c) N → Laws c.kind N
+  unsewn-lawful i d N unsewn = unsewing_keeps c.kind (links_in c) (laws-of c kept) i d N unsewn
+
+  wide : 1 ≤ c.dim
+  wide = let flat = kept.flat in omega arith
+
+  polygon-kept : (sides : ℕ) → made c.rows + per_side c.kind * sides ≤ made_max → IsKept (with_polygon c sides)
+  polygon-kept sides few =
+      let first : made c.rows + 1 ≡ length c.rows = (let begun = kept.begun in omega arith) in
+      let edit : Edit = sides_edit c.kind (length c.rows) sides in
+      let fits = polygon-fits c.kind c.dim c.rows sides wide kept.begun kept.sound few in
+      let after = polygon-after c.kind c.dim c.rows sides wide kept.begun kept.sound few in
+      subst (λ (m : ℕ). IsKept (with_born c (polygon_rows c.kind c.dim m sides))) (sym first)
+      (kept-born c kept (polygon_rows c.kind c.dim (length c.rows) sides)
+      (subst (IsSound c.kind c.dim) after (after-sound c.kind c.dim c.rows edit kept.begun kept.sound fits few))
+      (subst (λ (r : Rows). Laws c.kind (links_of r)) after (polygon-lawful c.kind c.dim c.rows sides wide kept.begun kept.sound few (laws-of c kept))))
+
+  dart-kept : made c.rows + 1 ≤ made_max → IsKept (with_dart c)
+  dart-kept few =
+      let fits = births-fit c.kind c.dim 1 c.rows kept.sound in
+      kept-born c kept (free_row c.dim ∷ [])
+      (after-sound c.kind c.dim c.rows (births_edit 1) kept.begun kept.sound fits few)
+      (births-keep c.kind c.dim 1 c.rows (laws-of c kept))
+
+  ended-kept : (d : ℕ) → IsLive c.rows d → ((t : ℕ) → links_in c t d ≡ 0) → IsKept (without_dart c d)
+  ended-kept d live alone =
+      let fits = death-fits c.kind c.dim c.rows d kept.sound live alone in
+      let few : made c.rows + 0 ≤ made_max = (let f = kept.sound.few in omega arith) in
+      kept-ended c kept d live alone
+      (subst (λ (r : Rows). IsSound c.kind c.dim (slice_set r d None)) (append-nil c.rows) (after-sound c.kind c.dim c.rows (death_edit d) kept.begun kept.sound fits few))
+
+module _ (hook : Meaning) (s : State) (kept : AreKept s) where
+  relinks-one : (Becomes : Links → Type 0) → TellsOne Becomes → ((N : Links) → Becomes N → Laws s.present.kind N) → IsOne s (Relinks hook s Becomes)
+  relinks-one Becomes tells lawful one other new new' e f =
+      (e.2 ∙ sym f.2, e.3 ∙ ap (steps_to s) (relinked-one hook s.present (laws-of s.present kept.present) 0 NoDart Becomes tells lawful e.0 f.0 e.1 f.1) ∙ sym f.3)
+
+  relinks-kept : (Becomes : Links → Type 0) → ((N : Links) → Becomes N → Laws s.present.kind N) → (reply : Reply) (new : State) → Relinks hook s Becomes reply new → AreKept new
+  relinks-kept Becomes lawful reply new e =
+      let few : made s.present.rows + 0 ≤ made_max = (let f = kept.present.sound.few in omega arith) in
+      subst AreKept (sym e.3) (kept-step s e.0 kept (kept-relinked hook s.present kept.present 0 NoDart Becomes e.0 few (lawful (links_of e.0.rows) e.1.links) e.1))
+
+  effect-one : (line : Line) → AllPass (checks s line) → IsOne s (Effect hook s line)
+  effect-one (says.Polygon sides) p = gives-one s _ _
+  effect-one says.Dart p = gives-one s _ _
+  effect-one (says.Del d) p = gives-one s _ _
+  effect-one (says.Sew i d e) p = relinks-one _ (sewn-one s.present.kind i d e (links_in s.present)) (sewn-lawful s.present kept.present i d e p.1.0 p.1.1.0 p.1.1.1.0 p.1.1.1.1.0)
+  effect-one (says.Unsew i d) p = relinks-one _ (unsewn-one s.present.kind i d (links_in s.present)) (unsewn-lawful s.present kept.present i d)
+  effect-one (says.Rule i merge split) p = λ one other new new' e f.
+      let merges = some-one (named_merge merge) e.0 f.0 e.2 f.2 in
+      let splits = some-one (named_split split) e.1 f.1 e.3 f.3 in
+      (e.4.0 ∙ sym f.4.0, e.4.1 ∙ rw (merges, splits) refl ∙ sym f.4.1)
+  effect-one (says.Set i d value) p = given-one s i d _
+  effect-one (says.Clear i d) p = given-one s i d _
+  effect-one (says.Value i d) p = gives-one s _ _
+  effect-one (says.Cell i d) p = λ one other new new' e f.
+      (e.3 ∙ ap Darts (darts-one _ e.0 f.0 e.1 f.1 e.2 f.2) ∙ sym f.3, e.4 ∙ sym f.4)
+  effect-one (says.Same i d e) p = tells-one s _
+  effect-one (says.Free i d) p = tells-one s _
+  effect-one (says.Sewable i d e) p = tells-one s _
+  effect-one says.Count p = λ one other new new' e f.
+      (e.2 ∙ ap Counts (counts-one s.present.kind s.present.dim s.present.rows e.0 f.0 e.1 f.1) ∙ sym f.2, e.3 ∙ sym f.3)
+  effect-one says.Show p = λ one other new new' e f.
+      (e.2 ∙ ap (λ (values : List ListValue). Shown (listing_with s.present values)) (one-listing s.present e.0 f.0 e.1 f.1) ∙ sym f.2, e.3 ∙ sym f.3)
+  effect-one (says.Vertex d) p = λ one other new new' e f. absurd e
+  effect-one (says.Edge d d') p = λ one other new new' e f. absurd e
+  effect-one (says.Face darts) p = λ one other new new' e f. absurd e
+  effect-one (says.Remove i d) p = λ one other new new' e f. absurd e
+  effect-one (says.Contract i d) p = λ one other new new' e f. absurd e
+  effect-one says.Dual p = λ one other new new' e f. absurd e
+  effect-one (says.Mark name) p = λ one other new new' e f. absurd e
+  effect-one (says.Undo name) p = λ one other new new' e f. absurd e
+  effect-one (says.Log name) p = λ one other new new' e f. absurd e
+  effect-one (says.Removable i d) p = λ one other new new' e f. absurd e
+  effect-one (says.Contractible i d) p = λ one other new new' e f. absurd e
+  effect-one says.Off p = λ one other new new' e f. absurd e
+
+  at-next : (next : Content) (new : State) → IsKept next → new ≡ steps_to s next → AreKept new
+  at-next next new is e = subst AreKept (sym e) (kept-step s next kept is)
+
+  stays : (new : State) → new ≡ s → AreKept new
+  stays new e = subst AreKept (sym e) kept
+
+  effect-kept : (line : Line) → AllPass (checks s line) → (reply : Reply) (new : State) → Effect hook s line reply new → AreKept new
+  effect-kept (says.Polygon sides) p reply new e = at-next _ new (polygon-kept s.present kept.present sides (not-above p.1.0)) e.1
+  effect-kept says.Dart p reply new e = at-next _ new (dart-kept s.present kept.present (not-above p.0)) e.1
+  effect-kept (says.Del d) p reply new e = at-next _ new (ended-kept s.present kept.present d p.0 p.1.0) e.1
+  effect-kept (says.Sew i d e) p reply new f = relinks-kept _ (sewn-lawful s.present kept.present i d e p.1.0 p.1.1.0 p.1.1.1.0 p.1.1.1.1.0) reply new f
+  effect-kept (says.Unsew i d) p reply new f = relinks-kept _ (unsewn-lawful s.present kept.present i d) reply new f
+  effect-kept (says.Rule i merge split) p reply new e = at-next _ new (kept-ruled s.present kept.present i _ (not-above p.0)) e.4.1
+  effect-kept (says.Set i d value) p reply new e = at-next _ new (kept-valued s.present kept.present i d p.1.0 (Some value) (λ none. absurd (p.1.1.0 none)) e.0 e.1) e.3
+  effect-kept (says.Clear i d) p reply new e = at-next _ new (kept-valued s.present kept.present i d p.1.0 None (λ none. refl) e.0 e.1) e.3
+  effect-kept (says.Value i d) p reply new e = stays new e.1
+  effect-kept (says.Cell i d) p reply new e = stays new e.4
+  effect-kept (says.Same i d e) p reply new f = stays new f.3
+  effect-kept (says.Free i d) p reply new e = stays new e.3
+  effect-kept (says.Sewable i d e) p reply new f = stays new f.3
+  effect-kept says.Count p reply new e = stays new e.3
+  effect-kept says.Show p reply new e = stays new e.3
+  effect-kept (says.Vertex d) p reply new e = absurd e
+  effect-kept (says.Edge d d') p reply new e = absurd e
+  effect-kept (says.Face darts) p reply new e = absurd e
+  effect-kept (says.Remove i d) p reply new e = absurd e
+  effect-kept (says.Contract i d) p reply new e = absurd e
+  effect-kept says.Dual p reply new e = absurd e
+  effect-kept (says.Mark name) p reply new e = absurd e
+  effect-kept (says.Undo name) p reply new e = absurd e
+  effect-kept (says.Log name) p reply new e = absurd e
+  effect-kept (says.Removable i d) p reply new e = absurd e
+  effect-kept (says.Contractible i d) p reply new e = absurd e
+  effect-kept says.Off p reply new e = absurd e
+
+  pub step-one : (line : Line) (one other : Reply) (new new' : State) → Step hook s line one new → Step hook s line other new' → (one ≡ other) × (new ≡ new')
+  step-one line one other new new' =
+      judged-one s (Effect hook s line) one other new new' (checks s line) (ordered s line) (λ passes. effect-one line passes one other new new')
+
+  pub step-kept : (line : Line) (reply : Reply) (new : State) → Step hook s line reply new → AreKept new
+  step-kept line reply new =
+      judged-kept s (Effect hook s line) AreKept reply new (checks s line) kept (λ passes. effect-kept line passes reply new)

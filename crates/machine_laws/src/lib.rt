@@ -3,7 +3,12 @@
 
 ghost use Rattle.std.specs.Prelude.{◌≡◌, ℕ, ◌≤◌, List};
 ghost use Rattle.map_defs.specs.Refusal.{Refusal, number};
-ghost use Rattle.map_defs.specs.State.{State};
+ghost use Rattle.map_defs.specs.Kind.{Kind};
+ghost use Rattle.map_defs.specs.Values.{Meaning};
+ghost use Rattle.map_defs.specs.State.{State, Content, empty_state};
+ghost use Rattle.map_defs.specs.Off.{Mesh};
+ghost use Rattle.map_defs.specs.Loading.{IsMeshContent, IsLoaded};
+ghost use Rattle.map_defs.specs.Kept.{AreKept};
 ghost use Rattle.map_defs.specs.Script.{Line};
 ghost use Rattle.map_defs.specs.Text.{Reply, Refused};
 ghost use Rattle.map_defs.specs.Machine.{Step, Run, FailsFor, checks};
@@ -13,38 +18,54 @@ ghost use Rattle.map_defs.specs.Program.{Answers, Starts};
 /// The refusal that a line gets is one whose condition holds, with the least number of all whose condition holds; and the
 /// state is as it was. So a user can read the table of refusals line by line.
 pub fn least_refusal()
-    ensures holds { (s : State) (line : Line) (r : Refusal) (new : State) → Step s line (Refused r) new
+    ensures holds { (hook : Meaning) (s : State) (line : Line) (r : Refusal) (new : State) → Step hook s line (Refused r) new
         → FailsFor (checks s line) r }
-    ensures least { (s : State) (line : Line) (r : Refusal) (new : State) → Step s line (Refused r) new →
+    ensures least { (hook : Meaning) (s : State) (line : Line) (r : Refusal) (new : State) → Step hook s line (Refused r) new →
         (q : Refusal) → FailsFor (checks s line) q → number r ≤ number q }
-    ensures unchanged { (s : State) (line : Line) (r : Refusal) (new : State) → Step s line (Refused r) new
+    ensures unchanged { (hook : Meaning) (s : State) (line : Line) (r : Refusal) (new : State) → Step hook s line (Refused r) new
         → new ≡ s }
 {}
 
 /// A line is accepted only where none of its conditions of refusal holds.
 pub fn accepted_without_refusal()
-    ensures { (s : State) (line : Line) (reply : Reply) (new : State) → Step s line reply new →
+    ensures { (hook : Meaning) (s : State) (line : Line) (reply : Reply) (new : State) → Step hook s line reply new →
         ((r : Refusal) → reply ≡ Refused r → ⊥) → (q : Refusal) → FailsFor (checks s line) q → ⊥ }
 {}
 
-/// A line has one reply and leads to one state.
+/// A line has one reply and leads to one state, from each state that keeps what the machine's states keep.
 pub fn one_step()
-    ensures reply { (s : State) (line : Line) (one other : Reply) (new new' : State) → Step s line one new
-        → Step s line other new' → one ≡ other }
-    ensures state { (s : State) (line : Line) (one other : Reply) (new new' : State) → Step s line one new
-        → Step s line other new' → new ≡ new' }
+    ensures reply { (hook : Meaning) (s : State) (line : Line) (one other : Reply) (new new' : State) → AreKept s → Step hook s line one new
+        → Step hook s line other new' → one ≡ other }
+    ensures state { (hook : Meaning) (s : State) (line : Line) (one other : Reply) (new new' : State) → AreKept s → Step hook s line one new
+        → Step hook s line other new' → new ≡ new' }
+{}
+
+/// Every state of a run keeps what the first one keeps: each content is a lawful map, whose entries name live darts, with
+/// equal values on each cell and none in a dimension without a rule. The state without darts keeps it, and so does that of
+/// a mesh.
+pub fn runs_keep_the_laws()
+    ensures first { (k : Kind) (n : ℕ) → 2 ≤ n → AreKept (empty_state k n) }
+    ensures mesh { (k : Kind) (n : ℕ) (text : List ℕ) (start : State) → IsLoaded k n text start → AreKept start }
+    ensures each { (hook : Meaning) (s : State) (lines : List (List ℕ)) (replies : List Reply) (new : State) → AreKept s
+        → Run hook s lines replies new → AreKept new }
+{}
+
+/// A mesh has one map: its sides tell all links, and the points of its vertices all values.
+pub fn one_mesh_map()
+    ensures { (k : Kind) (n : ℕ) (mesh : Mesh) (one other : Content) → IsMeshContent k n mesh one → IsMeshContent k n mesh other
+        → one ≡ other }
 {}
 
 /// The program has one text and one status for its words and files.
 pub fn one_answer()
-    ensures text { (words : List (List ℕ)) (files : Files) (one other : List ℕ) (status status' : ℕ) →
-        Answers words files one status → Answers words files other status' → one ≡ other }
-    ensures status { (words : List (List ℕ)) (files : Files) (one other : List ℕ) (status status' : ℕ) →
-        Answers words files one status → Answers words files other status' → status ≡ status' }
+    ensures text { (hook : Meaning) (words : List (List ℕ)) (files : Files) (one other : List ℕ) (status status' : ℕ) →
+        Answers hook words files one status → Answers hook words files other status' → one ≡ other }
+    ensures status { (hook : Meaning) (words : List (List ℕ)) (files : Files) (one other : List ℕ) (status status' : ℕ) →
+        Answers hook words files one status → Answers hook words files other status' → status ≡ status' }
 {}
 
 /// What a call that was cut short has written is a front of the program's one text.
 pub fn one_front()
-    ensures { (words : List (List ℕ)) (files : Files) (front text : List ℕ) (status : ℕ) →
-        Starts words files front → Answers words files text status → IsFront front text }
+    ensures { (hook : Meaning) (words : List (List ℕ)) (files : Files) (front text : List ℕ) (status : ℕ) →
+        Starts hook words files front → Answers hook words files text status → IsFront front text }
 {}
