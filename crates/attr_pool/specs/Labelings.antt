@@ -1,5 +1,5 @@
 -- What a contract sees of labels: for each dimension, the ids of the darts.
-use Rattle.std.specs.Prelude.{ℕ, zero, suc, ◌≡◌, ◌≢◌, ◌⊎◌, ◌↔◌, ◌<◌, List, [], length, Option, Some, None, slice_index, slice_index_or}
+use Rattle.std.specs.Prelude.{ℕ, zero, suc, ◌≡◌, ◌≢◌, ◌⊎◌, ◌↔◌, ◌<◌, List, [], length, Option, Some, None, slice_index, slice_index_or, ◌==◌, if◌then◌else◌}
 
 -- The labels are for the darts 1 to `made`. List i has the ids of dimension i, that of dart d at place d, and 0 where it
 -- has none; it is empty where no place is made for ids.
@@ -37,6 +37,10 @@ abbrev pub KeepsPlaces : Labeling → Labeling → Type 0
 KeepsPlaces old new = (i : ℕ) → HasPlaces new i ↔ HasPlaces old i
 
 -- dart d has this id in dimension i, or none; no other dart and no other dimension has changed
-pub record IsLabelled (old new : Labeling) (i d : ℕ) (id : Option ℕ) : Type 0 where
+pub record IsRelabelled (old new : Labeling) (i d : ℕ) (id : Option ℕ) : Type 0 where
   pub here : id_of new i d ≡ id
   pub others : (j e : ℕ) → (j ≢ i) ⊎ (e ≢ d) → id_of new j e ≡ id_of old j e
+
+-- the dimension whose ids come to dimension i where those of one and other change places
+abbrev pub exchanged : ℕ → ℕ → ℕ → ℕ
+exchanged one other i = if i == one then other else (if i == other then one else i)

@@ -12,8 +12,8 @@ pub record Store : Type 0 where
 abbrev pub value_of : Store → ℕ → Option Value
 value_of s id = slice_index_or s.slots id None
 
-abbrev pub IsLive : Store → ℕ → Type 0
-IsLive s id = IsSome (value_of s id)
+abbrev pub IsHeld : Store → ℕ → Type 0
+IsHeld s id = IsSome (value_of s id)
 
 -- how many ids are live
 abbrev pub live_count : Store → ℕ

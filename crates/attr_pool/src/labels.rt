@@ -1,5 +1,5 @@
 ghost use Rattle.std.specs.Prelude.{◌≡◌, ◌≢◌, ◌↔◌, ℕ, ◌≤◌, ◌<◌, max, min, None, OnOk, OnErr, IfSome};
-ghost use Rattle.attr_pool.specs.Labelings.{Labeling, id_of, HasPlaces, KeepsIds, KeepsPlaces, IsLabelled};
+ghost use Rattle.attr_pool.specs.Labelings.{Labeling, id_of, HasPlaces, KeepsIds, KeepsPlaces, IsRelabelled, exchanged};
 
 use crate::column::Column;
 use crate::id::AttrId;
@@ -8,7 +8,7 @@ use std::alloc::{AllocError, Global};
 use std::marker::Model;
 
 /// For each dart up to a number, and each dimension, an optional id. A dimension costs memory only once place is made
-/// for its ids: 4 bytes a dart.
+/// for its ids: 4 bytes a dart, and room that is kept for darts to come.
 #[derive(Drop)]
 pub struct Labels<const DIM: usize> {
     made: u32,
@@ -69,6 +69,7 @@ impl<const DIM: usize> Labels<DIM> {
     pub fn grow(&mut self, made: u32) -> Result<(), AllocError>
         ensures made { OnOk result (self.new.made ≡ max self.old.made made) }
         ensures ids { KeepsIds self.old self.new }
+        ensures bare { (i d : ℕ) → self.old.made < d → id_of self.new i d ≡ None }
         ensures places { KeepsPlaces self.old self.new }
         ensures err { OnErr result (self.new.made ≡ self.old.made) }
     {
@@ -95,9 +96,22 @@ impl<const DIM: usize> Labels<DIM> {
         self.made = self.made.min(made);
     }
 
+    /// Exchanges the ids of two dimensions, with their places. It takes no memory, and costs the same for any map.
+    pub fn swap(&mut self, one: usize, other: usize)
+        requires one { one ≤ DIM }
+        requires other { other ≤ DIM }
+        ensures made { self.new.made ≡ self.old.made }
+        ensures ids { (i d : ℕ) → id_of self.new i d ≡ id_of self.old (exchanged one other i) d }
+        ensures places { (i : ℕ) → HasPlaces self.new i ↔ HasPlaces self.old (exchanged one other i) }
+    {
+        let columns = &mut self.columns;
+        columns.swap(one, other);
+    }
+
     /// The id of a dart in a dimension, if it has one. A dart that the labels are not for has none.
     pub fn id(&self, dim: usize, dart: Dart) -> Option<AttrId>
         ensures id { result ≡ id_of self.now dim dart }
+        ensures bare { self.now.made < dart → result ≡ None }
     {
         self.columns.get(dim)?.id(dart.number())
     }
@@ -108,7 +122,7 @@ impl<const DIM: usize> Labels<DIM> {
         requires dart { dart ≤ self.old.made }
         requires places { HasPlaces self.old dim }
         ensures before { result ≡ id_of self.old dim dart }
-        ensures after { IsLabelled self.old self.new dim dart id }
+        ensures after { IsRelabelled self.old self.new dim dart id }
         ensures made { self.new.made ≡ self.old.made }
         ensures places { KeepsPlaces self.old self.new }
     {

@@ -1,12 +1,12 @@
 ghost use Rattle.std.specs.Prelude.{◌≡◌, ℕ, ◌+◌, ◌-◌, ◌^◌, ◌≤◌, ◌<◌, [], ◌∷◌, None, Some, IsOk, OnOk, OnErr};
-ghost use Rattle.attr_pool.specs.Stores.{value_of, IsLive, live_count, IsPut};
+ghost use Rattle.attr_pool.specs.Stores.{value_of, IsHeld, live_count, IsPut};
 
 use crate::id::AttrId;
 use map_kind::Value;
 use std::alloc::{AllocError, Global};
 use std::marker::Model;
 
-/// Values under ids. A live id stands for one value.
+/// Values under ids. A live id stands for one value. It costs about 40 bytes for each id that there is room for.
 #[derive(Drop)]
 pub struct Pool {
     // The value of the id n is at place n - 1.
@@ -107,7 +107,7 @@ impl Pool {
 
     /// Lets a live id stand for another value, and answers the one before. It takes no memory.
     pub fn replace(&mut self, id: AttrId, value: Value) -> Value
-        requires { IsLive self.old id }
+        requires { IsHeld self.old id }
         ensures before { value_of self.old id ≡ Some result }
         ensures replaced { IsPut self.old self.new id (Some value) }
         ensures count { live_count self.new ≡ live_count self.old }
@@ -118,7 +118,7 @@ impl Pool {
 
     /// Ends a live id, which can then be given again, and answers its value. It takes no memory.
     pub fn release(&mut self, id: AttrId) -> Value
-        requires { IsLive self.old id }
+        requires { IsHeld self.old id }
         ensures before { value_of self.old id ≡ Some result }
         ensures released { IsPut self.old self.new id None }
         ensures count { live_count self.new + 1 ≡ live_count self.old }

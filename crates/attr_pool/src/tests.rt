@@ -45,6 +45,8 @@ fn keeps_the_ids_of_darts(rt: HostRuntime) -> Result<(), Fail> {
     assert!(&rt; labels.grow(4).is_ok());
     assert_eq!(&rt; (labels.id(3, dart), labels.id(3, other)), (Some(id), None));
     assert_eq!(&rt; labels.put(3, dart, None), Some(id));
-    assert_eq!(&rt; labels.id(3, dart), None);
+    assert_eq!(&rt; labels.put(0, dart, Some(id)), None);
+    labels.swap(0, 3);
+    assert_eq!(&rt; (labels.id(3, dart), labels.id(0, dart)), (Some(id), None));
     Ok(())
 }

@@ -22,7 +22,7 @@ use Rattle.transport.proofs.Gathering.{told_eq}
 use Rattle.transport.proofs.Picking.{count_passed, place_counted, picked_size, picked_at, picked_has, picked_from, picked_rises}
 
 -- it is told whether a list holds a number
-told_in : (xs : List ℕ) (x : ℕ) → Contains xs x ⊎ (Contains xs x → ⊥)
+pub told_in : (xs : List ℕ) (x : ℕ) → Contains xs x ⊎ (Contains xs x → ⊥)
 told_in [] x = inr (held_none x)
 told_in (y ∷ xs) x = elim (told_eq y x) [
   | inl p ↦ inl (subst (Contains (y ∷ xs)) p.0 (held_first y xs))
@@ -33,7 +33,7 @@ told_in (y ∷ xs) x = elim (told_eq y x) [
 ]
 
 -- some number below b, or none
-find_below : (P : ℕ → Type 0) → ((n : ℕ) → P n ⊎ (P n → ⊥)) → (b : ℕ) → ((n : ℕ) × (n < b) × P n) ⊎ ((n : ℕ) → n < b → P n → ⊥)
+pub find_below : (P : ℕ → Type 0) → ((n : ℕ) → P n ⊎ (P n → ⊥)) → (b : ℕ) → ((n : ℕ) × (n < b) × P n) ⊎ ((n : ℕ) → n < b → P n → ⊥)
 find_below P told zero = inr (λ n h p. omega arith)
 find_below P told (suc b) = on (find_below P told b) (told b)
   where

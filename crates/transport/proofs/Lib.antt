@@ -6,3 +6,4 @@ pub mod MergeFacts
 pub mod CarryFacts
 pub mod JoinFacts
 pub mod OtherCells
+pub mod WholeMap

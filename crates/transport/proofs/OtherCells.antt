@@ -9,7 +9,7 @@ use Rattle.map_defs.specs.Carry.{known, NamesPiece, ArePieces, IsCarried}
 use Rattle.value_laws.proofs.Rising.{find_least}
 use Rattle.value_laws.proofs.Keeping.{IsKeptCell, without_is_carried, with_is_carried}
 use Rattle.value_laws.proofs.OfRows.{told_live}
-use Rattle.attr_pool.specs.Stores.{Store, value_of, IsLive as IsHeld}
+use Rattle.attr_pool.specs.Stores.{Store, value_of, IsHeld}
 use Rattle.transport.specs.Groups.{labelled_value, worth_of}
 use Rattle.transport.proofs.Finding.{AreClasses, sound_classes}
 use Rattle.transport.proofs.Gathering.{told_eq}

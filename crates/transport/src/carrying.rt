@@ -4,7 +4,7 @@ ghost use Rattle.map_defs.specs.Touched.{Covers, IsAlike};
 ghost use Rattle.map_defs.specs.Cells.{InCell};
 ghost use Rattle.map_defs.specs.Values.{Rule, meaning_of};
 ghost use Rattle.map_defs.specs.Carry.{IsCarried};
-ghost use Rattle.attr_pool.specs.Stores.{IsLive as IsHeld};
+ghost use Rattle.attr_pool.specs.Stores.{IsHeld};
 ghost use Rattle.attr_pool.specs.Labelings.{id_of};
 ghost use Rattle.transport.specs.Groups.{group_at, rule_at, labelled_value, worth_of, AreTouchedCells, HasCarriedValue};
 ghost use Rattle.transport.specs.Joined.{IsCarriedCell, IsWanted, AreAllOf};

@@ -3,6 +3,7 @@
 
 mod carrying;
 mod group;
+mod laws;
 mod merging;
 mod pieces;
 mod tally;
@@ -12,3 +13,4 @@ mod touched;
 
 pub use carrying::carry;
 pub use group::{Group, RuleRow};
+pub use laws::groups_carry_the_whole_map;

@@ -1,6 +1,6 @@
 ghost use Rattle.std.specs.Prelude.{◌≡◌, ℕ, ◌<◌, ◌^◌, None, length, IfOk, OnOk};
 ghost use Rattle.map_defs.specs.Carry.{merged_with};
-ghost use Rattle.attr_pool.specs.Stores.{IsLive};
+ghost use Rattle.attr_pool.specs.Stores.{IsHeld};
 ghost use Rattle.transport.specs.Groups.{group_at};
 ghost use Rattle.transport.specs.Tallies.{count_of};
 ghost use Rattle.transport.specs.Pieces.{piece_at, has_id, count_below, AreMerged};
@@ -23,7 +23,7 @@ pub(crate) fn merge_pieces<R: Rule>(
 ) -> Result<(), AllocError>
     requires ready { R.ready rule.now }
     requires placed { (k : ℕ) → k < length pieces.now → (piece_at pieces.now k).cell < length cells.old.items }
-    requires live { (k : ℕ) → k < length pieces.now → IsLive pool.now (piece_at pieces.now k).id }
+    requires live { (k : ℕ) → k < length pieces.now → IsHeld pool.now (piece_at pieces.now k).id }
     requires bare { (n : ℕ) → n < length cells.old.items → (group_at cells.old.items n).value ≡ None }
     requires few { length pieces.now < 2 ^ 32 }
     ensures { OnOk result (AreMerged (R.meaning rule.now) pool.now pieces.now (length pieces.now)

@@ -1,6 +1,6 @@
 ghost use Rattle.std.specs.Prelude.{◌≡◌, ℕ, ◌≤◌, ◌↔◌, ◌⊎◌, Some, length, Contains, IfOk, OnOk};
 ghost use Rattle.map_defs.specs.Rows.{IsLive};
-ghost use Rattle.attr_pool.specs.Stores.{IsLive as IsHeld};
+ghost use Rattle.attr_pool.specs.Stores.{IsHeld};
 ghost use Rattle.attr_pool.specs.Labelings.{id_of, HasPlaces};
 
 use crate::{Group, RuleRow, carry};

@@ -1,7 +1,7 @@
 use Rattle.std.proofs.Common.{◌≡◌, ◌<◌, ℕ, List, length, lit<, sym, refl, subst, Some, IsSome, arith}
 use Rattle.map_defs.specs.Rows.{IsLive, links_of}
 use Rattle.map_defs.specs.Values.{meaning_of}
-use Rattle.attr_pool.specs.Stores.{IsLive as IsHeld}
+use Rattle.attr_pool.specs.Stores.{IsHeld}
 use Rattle.attr_pool.specs.Labelings.{id_of}
 use Rattle.transport.specs.declared.pieces.Piece.{Piece}
 use Rattle.transport.specs.Groups.{Group, rule_at}
