@@ -1,0 +1,16 @@
+pub mod Taking
+pub mod Storing
+pub mod Giving
+pub mod Reliving
+pub mod Relabelling
+pub mod Bearing
+pub mod Setting
+pub mod Showing
+pub mod Same
+pub mod Steps
+pub mod Loops
+pub mod Remaking
+pub mod Making
+pub mod Valued
+pub mod Listed
+pub mod Loading

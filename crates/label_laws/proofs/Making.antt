@@ -1,0 +1,194 @@
+-- What an edit makes of a map, by the parts that the code has.
+use Rattle.std.proofs.Common.{ℕ, zero, suc, ◌≡◌, ◌≢◌, ◌⊎◌, ◌↔◌, ◌+◌, ◌<◌, ◌≤◌, inl, inr, refl, sym, ap, subst, List, [], ◌∷◌, ◌++◌, length, map, slice_set, max, Option, Some, None, IsSome, All, Contains, arith}
+use Rattle.std.proofs.lemmas.Bool.{false≢true, cases_eq}
+use Rattle.std.proofs.lemmas.List.{append-nil}
+use Rattle.map_defs.specs.Kind.{Kind}
+use Rattle.map_defs.specs.Laws.{Laws}
+use Rattle.map_defs.specs.Rows.{Rows, IsLive, links_of, made, made_max, IsSound}
+use Rattle.map_defs.specs.Edits.{Edit, Fits, IsLed, after_edit}
+use Rattle.map_defs.specs.Touched.{IsTouched, Touches, Covers, IsLabelled}
+use Rattle.map_defs.specs.Values.{Rule, Meaning, KeepsWhole}
+use Rattle.map_defs.specs.State.{Content, with_born, without_dart}
+use Rattle.link_laws.proofs.RowFacts.{rows_lead_to_live}
+use Rattle.link_rows.proofs.EditSound.{length-after, after-sound}
+use Rattle.link_rows.proofs.EditLinks.{lives-on}
+use Rattle.link_rows.proofs.EditPlain.{death_edit, death-fits}
+use Rattle.link_rows.proofs.RowWrites.{live-within}
+use Rattle.link_rows.proofs.KeptLaws.{death-keeps}
+use Rattle.value_laws.proofs.OfRows.{told_live}
+use Rattle.value_laws.proofs.Touching.{cell_live, touched_touch}
+use Rattle.value_laws.proofs.Covering.{touching_covers}
+use Rattle.attr_pool.specs.Stores.{Store}
+use Rattle.attr_pool.specs.Labelings.{Labeling, id_of, KeepsIds, KeepsPlaces}
+use Rattle.transport.specs.Groups.{Group, group_at, rule_at, HasCarriedValue}
+use Rattle.label_laws.specs.Stored.{AreStored}
+use Rattle.label_laws.specs.Changing.{AreTaken, AreRelabelled, IsGroupedBelow}
+use Rattle.label_laws.specs.Contents.{content_of, IsCarriedOn}
+use Rattle.label_laws.specs.Maps.{IsStoredMap}
+use Rattle.label_laws.specs.Touching.{CanLabel, AreAllTouched}
+use Rattle.label_laws.proofs.Taking.{taken-as}
+use Rattle.label_laws.proofs.Showing.{ruled-low}
+use Rattle.label_laws.proofs.Same.{content-alike}
+use Rattle.label_laws.proofs.Steps.{stored-grown, born-stored, born-content, ended-stored, ended-content, relinked-stored, relinked-carried}
+use Rattle.label_laws.proofs.Remaking.{not-ended}
+
+out-more : (x : ℕ) (ds : List ℕ) (d : ℕ) → x ≢ d → All (λ (y : ℕ). d ≢ y) ds → All (λ (y : ℕ). d ≢ y) (x ∷ ds)
+out-more x ds d other none zero z h = λ e. other (sym e)
+out-more x ds d other none (suc j) z h = none j z (omega arith)
+
+-- a number stands in a list, or is none of its numbers
+in-or-out : (ds : List ℕ) (d : ℕ) → Contains ds d ⊎ All (λ (x : ℕ). d ≢ x) ds
+in-or-out [] d = inr (λ j z h. absurd (omega arith))
+in-or-out (x ∷ ds) d = elim (cases_eq x d) [
+  | inl here ↦ inl (0, omega arith, here)
+  | inr other ↦ elim (in-or-out ds d) [
+    | inl f ↦ inl (suc f.0, let lt : f.0 < length ds = f.1 in omega arith, f.2)
+    | inr none ↦ inr (out-more x ds d other none)
+  ]
+]
+
+-- A map's rows after an edit that fits.
+module _ (k : Kind) (n : ℕ) (rows : Rows) (e : Edit) (l : Labeling) (p : Store) (rules : List (Option Rule)) (s : IsStoredMap k n rows l p rules)
+    (fits : Fits k n rows e) (few : made rows + e.births ≤ made_max) (laws : Laws k (links_of (after_edit n e rows))) where
+  abbrev New : Rows
+  New = after_edit n e rows
+
+  pub led : IsLed k n e rows New
+  led = record { begun = s.begun; sound = s.sound; fits = fits; few = few; after = refl }
+
+  sound-new : IsSound k n New
+  sound-new = after-sound k n rows e s.begun s.sound fits few
+
+  long-new : length New ≡ length rows + e.births
+  long-new = length-after n e rows
+
+  module _ (m : Labeling) (ids : KeepsIds l m) (places : KeepsPlaces l m) (grown : m.made ≡ max l.made (made rows + e.births)) where
+    -- there are labels for all darts
+    labels-long : made New ≤ m.made
+    labels-long = let more : length New ≡ length rows + e.births = long-new in omega (arith, grown, s.begun, more)
+
+    pub bear-stored : (born : List (List ℕ)) → New ≡ rows ++ map (λ (row : List ℕ). Some row) born → IsStoredMap k n New m p rules
+    bear-stored born is = born-stored k n rows New l m p rules s born is sound-new laws ids places labels-long
+
+    pub bear-content : (born : List (List ℕ)) → New ≡ rows ++ map (λ (row : List ℕ). Some row) born → content_of k n New m p rules ≡ with_born (content_of k n rows l p rules) born
+    bear-content born is = born-content k n rows New l m p rules s born is sound-new laws ids places labels-long
+
+    module _ (q : Store) (slots : q.slots ≡ p.slots) where
+      pub grown-stored : IsStoredMap k n rows m q rules
+      grown-stored = stored-grown k n rows l m p q rules s ids places (omega (arith, grown)) slots
+
+      -- the groups that were touched can be labelled
+      module _ (groups : List Group) (touched : AreAllTouched k rows New rules groups) where
+        group-live : (g d : ℕ) → g < length groups → Contains (group_at groups g).darts d → IsLive New d
+        group-live g d lt here =
+            let cell = touched.2.cells g lt in
+            let some = cell.reached in
+            cell_live k (IsLive rows) (links_of rows) (links_of New) s.laws laws (IsLive New) (rows_lead_to_live k New laws) (group_at groups g).dim some.0 (touched.1 some.0 some.1) ((cell.whole some.0 d some.2).0 here)
+
+        pub ended-within : (d : ℕ) → Contains e.deaths d → d ≤ m.made
+        ended-within d here =
+            let living : IsLive rows d = subst (IsLive rows) here.2 (fits.living here.0 d here.1) in
+            let within = live-within rows d living in
+            omega (arith, grown)
+
+        pub groups-labelled : (g : ℕ) → g < length groups → CanLabel n m (group_at groups g)
+        groups-labelled g lt =
+            let some = (touched.2.cells g lt).ruled in
+            let low = ruled-low n (group_at groups g).dim rules s.ruled some in
+            record {
+              low = omega arith;
+              places = (places (group_at groups g).dim).1 (s.placed (group_at groups g).dim some);
+              darts_in = λ d here. (let within = live-within New d (group-live g d lt here) in let long : made New ≤ m.made = labels-long in omega arith);
+            }
+
+        live-or-ended : (d : ℕ) → IsLive rows d → IsLive New d ⊎ Contains e.deaths d
+        live-or-ended d live = elim (in-or-out e.deaths d) [
+          | inl gone ↦ inr gone
+          | inr stays ↦ inl (lives-on k n rows e s.sound fits d live stays)
+        ]
+
+        gone-for-good : (d : ℕ) → Contains e.deaths d → IsLive New d → ⊥
+        gone-for-good d gone live = not-ended k n rows e s.sound s.begun fits (Contains e.deaths) (λ x. ((λ h. h), λ h. h)) d live gone
+
+        module _ (m' : Labeling) (q' : Store) (r : AreRelabelled (λ i d. ((i < n + 1) × Contains e.deaths d) ⊎ IsGroupedBelow (length groups) groups i d) groups m m' q q') where
+          begun-new : 0 < length New
+          begun-new = let more : length New ≡ length rows + e.births = long-new in omega (arith, s.begun, more)
+
+          pub relink-stored : IsStoredMap k n New m' q' rules
+          relink-stored =
+              relinked-stored k n rows New m m' q q' rules grown-stored laws (Contains e.deaths) gone-for-good live-or-ended touched.0 touched.1 groups touched.2 touched.3 r labels-long begun-new sound-new
+
+          pub relink-carried : (hook : Meaning) → KeepsWhole hook → ((g : ℕ) → g < length groups → HasCarriedValue k (links_of New) (IsLive New) (id_of m) q hook rules (group_at groups g))
+              → IsCarriedOn hook (content_of k n rows l p rules) New (content_of k n New m' q' rules)
+          relink-carried hook whole carried =
+              subst (λ (c : Content). IsCarriedOn hook c New (content_of k n New m' q' rules)) (content-alike k n rows l m p q rules ids slots)
+              (relinked-carried k n rows New m m' q q' rules grown-stored laws (Contains e.deaths) gone-for-good live-or-ended touched.0 touched.1 groups touched.2 touched.3 r labels-long begun-new sound-new hook whole carried)
+
+-- A dart without links ends.
+module _ (k : Kind) (n : ℕ) (rows : Rows) (dart : ℕ) (l m : Labeling) (p q : Store) (rules : List (Option Rule)) (s : IsStoredMap k n rows l p rules)
+    (live : IsLive rows dart) (alone : (t : ℕ) → links_of rows t dart ≡ 0) (taken : AreTaken (λ i d. (i < n + 1) × Contains (dart ∷ []) d) l m p q) where
+  abbrev After : Rows
+  After = after_edit n (death_edit dart) rows
+
+  after-is : After ≡ slice_set rows dart None
+  after-is = ap (λ (r : Rows). slice_set r dart None) (append-nil rows)
+
+  only : (i d : ℕ) → ((i < n + 1) × Contains (dart ∷ []) d) ↔ ((i < n + 1) × (d ≡ dart))
+  only i d = (λ h. (h.0, one h.1), λ h. (h.0, (0, omega arith, sym h.1)))
+    where
+      one : Contains (dart ∷ []) d → d ≡ dart
+      one (zero, lt, is) = sym is
+      one (suc j, lt, is) = absurd (omega arith)
+
+  taken-one : AreTaken (λ i d. (i < n + 1) × (d ≡ dart)) l m p q
+  taken-one = taken-as (λ i d. (i < n + 1) × Contains (dart ∷ []) d) (λ i d. (i < n + 1) × (d ≡ dart)) l m p q only taken
+
+  fits-one : Fits k n rows (death_edit dart)
+  fits-one = death-fits k n rows dart s.sound live alone
+
+  laws-one : Laws k (links_of After)
+  laws-one = death-keeps k n rows dart alone s.laws
+
+  sound-one : IsSound k n After
+  sound-one = after-sound k n rows (death_edit dart) s.begun s.sound fits-one (omega (arith, s.sound.few))
+
+  pub end-stored : IsStoredMap k n After m q rules
+  end-stored = ended-stored k n rows After l m p q rules s dart live alone after-is sound-one laws-one taken-one
+
+  pub end-content : content_of k n After m q rules ≡ without_dart (content_of k n rows l p rules) dart
+  end-content = ended-content k n rows After l m p q rules s dart live alone after-is sound-one laws-one taken-one
+
+-- What the darts that an edit touched are for.
+module _ (k : Kind) (old new : Rows) (lo : Laws k (links_of old)) (laws : Laws k (links_of new)) (touched : List ℕ)
+    (all : (x : ℕ) → IsTouched k (links_of old) (IsLive old) (links_of new) (IsLive new) x → Contains touched x) where
+  pub darts-touch : (i : ℕ) → Touches k i (links_of old) (IsLive old) (links_of new) (IsLive new) (Contains touched)
+  darts-touch i = touched_touch k (IsLive old) (links_of old) (links_of new) lo laws (IsLive new) (Contains touched) (told_live old) (rows_lead_to_live k new laws) all i
+
+  module _ (l : Labeling) (p : Store) (s : AreStored k (links_of old) (IsLive old) l p) where
+    no-label : (i x : ℕ) → IsLive new x → (IsLive old x → ⊥) → id_of l i x ≡ None
+    no-label i x live dead = go (id_of l i x) refl
+      where
+        go : (o : Option ℕ) → id_of l i x ≡ o → id_of l i x ≡ None
+        go None is = is
+        go (Some c) is = absurd (dead (s.live i x c is))
+
+    labelled : (i : ℕ) → IsLabelled k i (links_of old) (IsLive old) (id_of l i)
+    labelled i x y _ _ = (
+      λ a. ((s.apart i x i y a.0 a.1 a.2).1, (a.0, a.1)),
+      λ c. (c.1.0, c.1.1, s.whole i x y c.1.0 c.1.1 c.0),
+    )
+
+    pub darts-cover : (i : ℕ) → Covers k i (links_of new) (IsLive new) (id_of l i) (Contains touched)
+    darts-cover i = touching_covers k (links_of old) (links_of new) lo (IsLive old) (IsLive new) (told_live old) i (id_of l i) (no-label i) (labelled i) (Contains touched) (darts-touch i)
+
+-- without rules no cell is looked for
+pub none-touched : (k : Kind) (old new : Rows) (rules : List (Option Rule)) → rules ≡ [] → AreAllTouched k old new rules []
+none-touched k old new rules none = (
+  [],
+  λ x h. absurd (let lt : h.0 < 0 = h.1 in omega arith),
+  record { cells = λ g lt. absurd (omega arith); all = λ i t some _. absurd (no-rule i some); ascending = λ a b _ lt. absurd (omega arith) },
+  λ i some. absurd (no-rule i some),
+)
+  where
+    no-rule : (i : ℕ) → IsSome (rule_at rules i) → ⊥
+    no-rule i some = false≢true (subst (λ (rs : List (Option Rule)). IsSome (rule_at rs i)) none some)
