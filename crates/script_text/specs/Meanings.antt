@@ -59,4 +59,5 @@ reply_meaning (given.Done births) = text.Done births.first births.count
 reply_meaning (given.Truth answer) = text.Truth answer
 reply_meaning (given.Cell darts) = text.Darts darts.items
 reply_meaning (given.Count counts) = text.Counts counts.items
+reply_meaning (given.Value value) = text.Worth value
 reply_meaning (given.No refusal) = text.Refused (meaning refusal)

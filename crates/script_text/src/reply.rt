@@ -1,11 +1,11 @@
 //! The reply to a line, and its text.
-ghost use Rattle.std.specs.Prelude.{◌≡◌, ◌++◌, IfOk, OnOk, codes};
-ghost use Rattle.map_defs.specs.Text.{is_refused, reply_text, done_text, truth_text, numbers_text, refusal_text};
+ghost use Rattle.std.specs.Prelude.{◌≡◌, ◌++◌, IfOk, OnOk, Some, codes};
+ghost use Rattle.map_defs.specs.Text.{is_refused, reply_text, done_text, truth_text, numbers_text, worth_text, refusal_text};
 ghost use Rattle.map_kind.specs.Refusals.{meaning};
 ghost use Rattle.script_text.specs.Meanings.{reply_meaning};
 
 use list_text::append_spaced;
-use map_kind::{Dart, Refusal};
+use map_kind::{Dart, Refusal, Value};
 use std::alloc::{AllocError, Global};
 
 /// The darts that a changing line made: they are numbered on from the first.
@@ -29,6 +29,8 @@ pub enum Reply {
     /// The counts of a map, as they are written; a map tells its live darts, its cells of dimension 0 and up, and its
     /// components.
     Count(Vec<u64>),
+    /// The value of a cell, if it has one.
+    Value(Option<Value>),
     /// The line was refused, and changed nothing.
     No(Refusal),
 }
@@ -43,7 +45,8 @@ impl Reply {
 }
 
 /// The text of a reply, with the line feed at its end: `ok`, behind it the first new dart and their number where darts were
-/// made; `true` or `false`; `cell` or `count`, and its numbers; or `no`, the refusal's number and its name. The one error is
+/// made; `true` or `false`; `cell` or `count`, and its numbers; `value`, and its three numbers, or
+/// `none`; or `no`, the refusal's number and its name. The one error is
 /// want of memory.
 pub fn reply_text(alloc: Global, reply: &Reply) -> Result<Vec<u8>, AllocError>
     ensures { IfOk result (λ written. written.items ≡ reply_text (reply_meaning reply.now)) }
@@ -54,6 +57,7 @@ pub fn reply_text(alloc: Global, reply: &Reply) -> Result<Vec<u8>, AllocError>
         Reply::Truth(answer) => append_truth(&mut text, *answer)?,
         Reply::Cell(darts) => append_cell(&mut text, darts.as_slice())?,
         Reply::Count(counts) => append_count(&mut text, counts.as_slice())?,
+        Reply::Value(value) => append_worth(&mut text, *value)?,
         Reply::No(refusal) => append_refusal(&mut text, *refusal)?,
     }
     Ok(text)
@@ -100,6 +104,28 @@ fn append_count(text: &mut Vec<u8>, counts: &[u64]) -> Result<(), AllocError>
     for count in counts {
         append_spaced(text, *count)?;
     }
+    text.push(b'\n')?;
+    Ok(())
+}
+
+/// The reply to a question for a value: `value`, and its three numbers, or `none`.
+fn append_worth(text: &mut Vec<u8>, value: Option<Value>) -> Result<(), AllocError>
+    ensures { OnOk result (text.new.items ≡ text.old.items ++ worth_text value) }
+{
+    match value {
+        Some(Value { a, b, c }) => append_numbers(text, a, b, c),
+        None => text.extend_from_slice(b"value none\n"),
+    }
+}
+
+/// The reply where there is a value: `value`, and its three numbers.
+fn append_numbers(text: &mut Vec<u8>, a: i64, b: i64, c: i64) -> Result<(), AllocError>
+    ensures { OnOk result (text.new.items ≡ text.old.items ++ worth_text (Some (record { a = a; b = b; c = c }))) }
+{
+    text.extend_from_slice(b"value")?;
+    append_spaced(text, a)?;
+    append_spaced(text, b)?;
+    append_spaced(text, c)?;
     text.push(b'\n')?;
     Ok(())
 }

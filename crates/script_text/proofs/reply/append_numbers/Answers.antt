@@ -1,0 +1,22 @@
+use Rattle.std.proofs.Common.{◌≡◌, ℤ, ℕ, ◌++◌, ◌∷◌, [], List, codes, w64, ap, ◌∙◌, append_assoc, FitsSigned}
+use Rattle.std.proofs.lemmas.Int.{to_z-of_z}
+use Rattle.map_defs.specs.Text.{spaced_signed}
+use Rattle.script_text.proofs.reply.append_numbers.Goals as goal
+
+-- the pieces of the reply, one behind another
+joined : (before word a b c : List ℕ) → ((((before ++ word) ++ a) ++ b) ++ c) ++ 10 ∷ [] ≡ before ++ ((word ++ a ++ b ++ c) ++ 10 ∷ [])
+joined before word a b c = simp append_assoc
+
+pub returns : goal.returns
+returns c =
+    rw (
+      c.in_ok-push.ensures.items,
+      c.in_ok-append_spaced-3.ensures,
+      c.in_ok-append_spaced-2.ensures,
+      c.in_ok-append_spaced.ensures,
+      c.in_ok-extend_from_slice.ensures.items,
+      to_z-of_z w64 c.args.a c.ranges.a,
+      to_z-of_z w64 c.args.b c.ranges.b,
+      to_z-of_z w64 c.args.c c.ranges.c,
+    )
+    (joined c.args.text.now.items (codes "value") (spaced_signed c.args.a) (spaced_signed c.args.b) (spaced_signed c.args.c))
