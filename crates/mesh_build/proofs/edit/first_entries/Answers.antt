@@ -1,0 +1,11 @@
+use Rattle.std.proofs.Common.{false, arith}
+use Rattle.mesh_build.proofs.Beside.{are_beside}
+use Rattle.mesh_build.proofs.edit.first_entries.Goals as goal
+
+pub overflow_mul-result-2 : goal.overflow_mul-result-2
+overflow_mul-result-2 c =
+    omega (arith, (are_beside false c.args.sewn.now.sides.items c.args.sewn.now.partners.items c.args.number c.index-side.result.now c.requires.sewn c.requires.within c.index-side.ensures).previous, c.requires.few)
+
+pub overflow_add-result-2 : goal.overflow_add-result-2
+overflow_add-result-2 c =
+    omega (arith, (are_beside false c.args.sewn.now.sides.items c.args.sewn.now.partners.items c.args.number c.index-side.result.now c.requires.sewn c.requires.within c.index-side.ensures).previous, c.requires.few)

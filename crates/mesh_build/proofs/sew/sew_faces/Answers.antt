@@ -1,0 +1,112 @@
+use Rattle.std.proofs.Common.{◌≡◌, ℕ, ◌+◌, ◌<◌, ◌≤◌, true, false, List, [], ◌∷◌, ◌++◌, length, get_or, drop, map, Vec, Global, None, Err, replicate, refl, sym, ap, subst, ◌∙◌, arith}
+use Rattle.std.proofs.lemmas.List.{length-map, length-append, append-nil, drop_all, get_or-map, get_or-replicate}
+use Rattle.std.specs.Prelude.{All}
+use Rattle.map_defs.specs.MeshMap.{Side, repeats, face_sides, sides_from, sides_of, sides_fault, faces_fault}
+use Rattle.off_text.specs.Meanings.{items_of, faces_view}
+use Rattle.mesh_build.specs.Sides.{side_view, sides_view, kind_of, IsRing, Fails}
+use Rattle.mesh_build.specs.declared.sew.Sewn.{Sewn}
+use Rattle.mesh_build.proofs.FaceSides.{faces_view-split, length-sides_from, length-face_sides, faces_fault-on, faces_fault-repeated, faces_fault-stop, sides-on}
+use Rattle.mesh_build.proofs.Rings.{is_ring}
+use Rattle.mesh_build.proofs.Partners.{is_sewn}
+use Rattle.mesh_build.proofs.sew.sew_faces.Goals as goal
+
+length-replicate-at : (n k d : ℕ) → k < n → get_or (replicate n 0) k d ≡ 0
+length-replicate-at n k d h = get_or-replicate n k 0 d h
+
+pub loop-face-init : goal.loop-face-init
+loop-face-init c =
+    let none : sides_view c.new-book.result.sides ≡ [] = ap (map side_view) c.new-book.ensures.sides in
+    let marks = c.in_ok-marks.ensures.items_if_clones_equal (λ y e. e) in
+    record {
+      kept = c.new-book.ensures.kept c.args.oriented;
+      sides = rw (none, c.new-book.ensures.sides) refl;
+      fault = rw none refl;
+      long = omega (arith, c.in_ok-marks.ensures.len, c.in_ok-marks.marks.ok.0, c.args.mesh.now.points.ok.0);
+      fresh = λ k d h. rw marks (omega (arith, length-replicate-at c.len.result k d (omega (arith, h, c.in_ok-marks.ensures.len, c.in_ok-marks.marks.ok.0))));
+    }
+
+pub has_repeat-requires-clause-points : goal.has_repeat-requires-clause-points
+has_repeat-requires-clause-points c = λ k d h.
+    let item : List ℕ = c.corners-item.result.items in
+    let P : List (Vec ℕ Global) → Type 0 = λ fs. All (λ (corners : List ℕ). All (λ (v : ℕ). v < length c.args.mesh.now.points.items) corners) (faces_view fs) in
+    let all : P c.deref-corners-items.result.now = subst P (sym c.deref-corners-items.ensures.value) c.requires.faces.points in
+    let within : c.loop-face.face < length (faces_view c.deref-corners-items.result.now) = omega (arith, length-map c.deref-corners-items.result.now items_of, c.loop-face-test.true) in
+    let its : get_or (faces_view c.deref-corners-items.result.now) c.loop-face.face [] ≡ item =
+    get_or-map items_of c.deref-corners-items.result.now c.loop-face.face c.corners-item.result [] c.loop-face-test.true ∙ ap items_of (sym c.corners-item.is) in
+    let each : All (λ (v : ℕ). v < length c.args.mesh.now.points.items) item = subst (All (λ (v : ℕ). v < length c.args.mesh.now.points.items)) its (all c.loop-face.face [] within) in
+    rw (c.deref.ensures.value, c.loop-face.invariant.long) (each k d (rw c.deref.ensures.value at h))
+
+pub returns-then-has_repeat-clause-fault : goal.returns-then-has_repeat-clause-fault
+returns-then-has_repeat-clause-fault c =
+    let split = faces_view-split c.deref-corners-items.result.now c.loop-face.face c.corners-item.result c.loop-face-test.true c.corners-item.is in
+    let twice : repeats [] c.corners-item.result.items ≡ true = ap (repeats []) (sym c.deref.ensures.value) ∙ (sym c.has_repeat.ensures.result ∙ c.if-has_repeat.true) in
+    rw (← c.deref-corners-items.ensures.value)
+    (faces_fault-repeated (kind_of c.args.oriented) c.loop-face.face (sides_view c.loop-face.book.sides) c.corners-item.result.items _ _ _ split twice c.loop-face.invariant.fault)
+
+pub add_face-requires-clause-few : goal.add_face-requires-clause-few
+add_face-requires-clause-few c =
+    let n : ℕ = length c.loop-face.book.sides.items in
+    let rest : List (List ℕ) = faces_view (drop (c.loop-face.face + 1) c.deref-corners-items.result.now) in
+    let split = faces_view-split c.deref-corners-items.result.now c.loop-face.face c.corners-item.result c.loop-face-test.true c.corners-item.is in
+    let whole = ap (λ (fs : List (List ℕ)). sides_view c.loop-face.book.sides ++ sides_from n fs) (sym split) ∙ c.loop-face.invariant.sides in
+    let few : length (sides_of (faces_view c.deref-corners-items.result.now)) ≤ 4194304 = rw c.deref-corners-items.ensures.value c.requires.few in
+    rw c.deref-in-loop-face.ensures.value
+    (omega (
+      arith,
+      few,
+      ap length whole,
+      length-append (sides_view c.loop-face.book.sides) (sides_from n (c.corners-item.result.items ∷ rest)),
+      length-map c.loop-face.book.sides.items side_view,
+      length-sides_from n c.corners-item.result.items rest,
+    ))
+
+pub returns-in-Err-clause-fault : goal.returns-in-Err-clause-fault
+returns-in-Err-clause-fault c =
+    let n : ℕ = length c.loop-face.book.sides.items in
+    let earlier : List Side = sides_view c.loop-face.book.sides in
+    let split = faces_view-split c.deref-corners-items.result.now c.loop-face.face c.corners-item.result c.loop-face-test.true c.corners-item.is in
+    let once : repeats [] c.corners-item.result.items ≡ false = ap (repeats []) (sym c.deref.ensures.value) ∙ (sym c.has_repeat.ensures.result ∙ c.if-has_repeat.false) in
+    let long : n ≡ length earlier = omega (arith, length-map c.loop-face.book.sides.items side_view) in
+    let fails = subst (λ (corners : List ℕ). Fails {A = Unit {0}} (Err c.in-Err.fault) (sides_fault (kind_of c.args.oriented) c.loop-face.face earlier (face_sides n corners))) c.deref-in-loop-face.ensures.value c.in-Err.ensures.fault in
+    let total = subst (λ (fs : List (Vec ℕ Global)). faces_fault (kind_of c.args.oriented) c.loop-face.face earlier (faces_view (drop c.loop-face.face c.deref-corners-items.result.now))
+    ≡ faces_fault (kind_of c.args.oriented) 0 [] (faces_view fs)) c.deref-corners-items.ensures.value c.loop-face.invariant.fault in
+    faces_fault-stop Sewn c.in-Err.fault (kind_of c.args.oriented) c.loop-face.face n earlier c.corners-item.result.items _ _ _ long split once fails total
+
+pub loop-face-preserved : goal.loop-face-preserved
+loop-face-preserved c =
+    let n : ℕ = length c.loop-face.book.sides.items in
+    let earlier : List Side = sides_view c.loop-face.book.sides in
+    let corners : List ℕ = c.corners-item.result.items in
+    let split = faces_view-split c.deref-corners-items.result.now c.loop-face.face c.corners-item.result c.loop-face-test.true c.corners-item.is in
+    let once : repeats [] corners ≡ false = ap (repeats []) (sym c.deref.ensures.value) ∙ (sym c.has_repeat.ensures.result ∙ c.if-has_repeat.false) in
+    let long : n ≡ length earlier = omega (arith, length-map c.loop-face.book.sides.items side_view) in
+    let more : sides_view c.add_face.new.book.sides ≡ earlier ++ face_sides n corners = c.in-Ok.ensures.sides ∙ ap (λ (cs : List ℕ). earlier ++ face_sides n cs) c.deref-in-loop-face.ensures.value in
+    let none : sides_fault (kind_of c.args.oriented) c.loop-face.face earlier (face_sides n corners) ≡ None =
+    ap (λ (cs : List ℕ). sides_fault (kind_of c.args.oriented) c.loop-face.face earlier (face_sides n cs)) (sym c.deref-in-loop-face.ensures.value) ∙ c.in-Ok.ensures.fault in
+    let longer : length c.add_face.new.book.sides.items ≡ n + length corners =
+    omega (arith, ap length more, length-append earlier (face_sides n corners), length-face_sides n corners, length-map c.loop-face.book.sides.items side_view, length-map c.add_face.new.book.sides.items side_view) in
+    record {
+      kept = c.in-Ok.ensures.kept;
+      sides = sides-on n (length c.add_face.new.book.sides.items) earlier (sides_view c.add_face.new.book.sides) corners _ _ _ split more longer c.loop-face.invariant.sides;
+      fault = faces_fault-on (kind_of c.args.oriented) c.loop-face.face n earlier (sides_view c.add_face.new.book.sides) corners _ _ _ long more split once none c.loop-face.invariant.fault;
+      long = c.has_repeat.ensures.long ∙ c.loop-face.invariant.long;
+      fresh = c.has_repeat.ensures.stamped;
+    }
+
+pub returns-clause-sides : goal.returns-clause-sides
+returns-clause-sides c =
+    let none : faces_view (drop c.loop-face.face c.deref-corners-items.result.now) ≡ [] = ap faces_view (drop_all c.loop-face.face c.deref-corners-items.result.now c.loop-face-test.false) in
+    sym (append-nil (sides_view c.loop-face.book.sides))
+    ∙ (ap (λ (fs : List (List ℕ)). sides_view c.loop-face.book.sides ++ sides_from (length c.loop-face.book.sides.items) fs) (sym none)
+    ∙ (c.loop-face.invariant.sides ∙ ap (λ (fs : List (Vec ℕ Global)). sides_of (faces_view fs)) c.deref-corners-items.ensures.value))
+
+pub returns-clause-sewn : goal.returns-clause-sewn
+returns-clause-sewn c =
+    is_sewn c.args.oriented c.loop-face.book.last c.loop-face.book.partners.items (sides_view c.loop-face.book.sides) c.loop-face.invariant.kept
+    (subst (λ (sides : List Side). (s : ℕ) → s < length sides → IsRing sides s) (sym (returns-clause-sides c)) (is_ring (faces_view c.args.mesh.now.faces.items)))
+
+pub returns-clause-fault : goal.returns-clause-fault
+returns-clause-fault c =
+    let none : faces_view (drop c.loop-face.face c.deref-corners-items.result.now) ≡ [] = ap faces_view (drop_all c.loop-face.face c.deref-corners-items.result.now c.loop-face-test.false) in
+    ap (λ (fs : List (Vec ℕ Global)). faces_fault (kind_of c.args.oriented) 0 [] (faces_view fs)) (sym c.deref-corners-items.ensures.value)
+    ∙ (sym c.loop-face.invariant.fault ∙ ap (faces_fault (kind_of c.args.oriented) c.loop-face.face (sides_view c.loop-face.book.sides)) none)

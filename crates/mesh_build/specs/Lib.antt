@@ -1,0 +1,4 @@
+pub mod Sides
+pub mod SideLinks
+pub mod Kept
+pub mod EntriesView
