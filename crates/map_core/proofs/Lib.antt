@@ -1,6 +1,8 @@
-mod BareStates
-mod KeptLaws
-mod ListingRows
-mod LiveDarts
-mod Relinked
-mod SewingSteps
+pub mod ListingRows
+pub mod LiveDarts
+pub mod Labelling
+pub mod Adding
+pub mod SewingSteps
+pub mod KindNames
+pub mod CellIds
+pub mod Loaded

@@ -1,12 +1,13 @@
 -- What the machine does where darts are sewn or unsewn, by what the plans answer.
-use Rattle.std.proofs.Common.{◌≡◌, ◌≢◌, ℕ, ◌<◌, ◌⊎◌, length, [], Result, Err, refl, ap, subst, inl, inr, arith}
+use Rattle.std.proofs.Common.{◌≡◌, ◌≢◌, ℕ, ◌<◌, ◌⊎◌, length, List, [], Option, Result, Err, refl, ap, subst, inl, inr, arith}
 use Rattle.map_kind.specs.declared.refusal.Refusal.TheVariants as told
 use Rattle.map_kind.specs.declared.refusal.Refused.{Refused}
 use Rattle.map_kind.specs.declared.refusal.Refused.TheVariants as why
 use Rattle.map_defs.specs.Kind.{Kind, beta, inverse, IsDistant}
 use Rattle.map_defs.specs.Rows.{Rows, links_of, IsLive, IsSound}
 use Rattle.map_defs.specs.Edits.{Edit, Fits, after_edit}
-use Rattle.map_defs.specs.State.{State}
+use Rattle.map_defs.specs.State.{State, Content, steps_to}
+use Rattle.map_defs.specs.Values.{Rule, Meaning}
 use Rattle.map_defs.specs.Pairs.{IsGood}
 use Rattle.map_defs.specs.Links.{Links}
 use Rattle.map_defs.specs.Relinking.{IsRelinked, NoDart}
@@ -14,12 +15,14 @@ use Rattle.map_defs.specs.Sewing.{SewnPairs, IsSewable, IsSewn, IsUnsewn}
 use Rattle.map_defs.specs.Script.{Sew, Unsew}
 use Rattle.map_defs.specs.Machine.{Step}
 use Rattle.map_defs.specs.Text as text
-use Rattle.map_core.specs.Bare.{bare_content, bare_state}
+use Rattle.attr_pool.specs.Stores.{Store}
+use Rattle.attr_pool.specs.Labelings.{Labeling}
+use Rattle.label_laws.specs.Contents.{content_of, state_of, IsCarriedOn}
 use Rattle.map_core.specs.Calls.{Does}
 use Rattle.map_core.specs.declared.map.Done.{Done}
-use Rattle.map_core.proofs.Relinked.{relinked}
+use Rattle.label_laws.proofs.Remaking.{relinked}
 
-module _ (k : Kind) (n : ℕ) (rows : Rows) (s : State) (view : bare_state k n rows ≡ s) (i d : ℕ)
+module _ (k : Kind) (n : ℕ) (rows : Rows) (l : Labeling) (p : Store) (rules : List (Option Rule)) (hook : Meaning) (s : State) (view : state_of (content_of k n rows l p rules) ≡ s) (i d : ℕ)
     (link : ((n < i) ⊎ ((k ≡ beta) × (i ≡ 0))) → ⊥) (one : IsLive s.present.rows d) where
   -- a sewing that is refused
   pub sew-refused : (e : ℕ) → IsLive s.present.rows e → (x y z : ℕ) → x ≡ i → y ≡ d → z ≡ e
@@ -28,7 +31,7 @@ module _ (k : Kind) (n : ℕ) (rows : Rows) (s : State) (view : bare_state k n r
       → (r ≡ why.Line told.Unsewable → (links_of rows x y ≡ 0) × (links_of rows (inverse k x) z ≡ 0)
       × (IsGood k (links_of rows) (IsDistant k x) (SewnPairs k (links_of rows) x y z) → ⊥))
       → (r ≡ why.NoMemory) ⊎ ((r ≡ why.Line told.NotFree) ⊎ (r ≡ why.Line told.Unsewable))
-      → Does s (Sew i d e) result s
+      → Does hook s (Sew i d e) result s
   sew-refused e other x y z is_x is_y is_z r result is not-free unsewable (inl memory) = rw (is, memory) refl
   sew-refused e other x y z is_x is_y is_z r result is not-free unsewable (inr (inl blocked)) =
       let free : (links_of rows i d ≡ 0) × (links_of rows (inverse k i) e ≡ 0) → ⊥ = λ ends.
@@ -45,7 +48,7 @@ module _ (k : Kind) (n : ℕ) (rows : Rows) (s : State) (view : bare_state k n r
   -- an unsewing that is refused
   pub unsew-refused : (x y : ℕ) → x ≡ i → y ≡ d → (r : Refused) (result : Result Done Refused) → result ≡ Err r
       → (r ≡ why.Line told.AlreadyFree → links_of rows x y ≡ 0)
-      → (r ≡ why.NoMemory) ⊎ (r ≡ why.Line told.AlreadyFree) → Does s (Unsew i d) result s
+      → (r ≡ why.NoMemory) ⊎ (r ≡ why.Line told.AlreadyFree) → Does hook s (Unsew i d) result s
   unsew-refused x y is_x is_y r result is free (inl memory) = rw (is, memory) refl
   unsew-refused x y is_x is_y r result is free (inr already) =
       let none : links_of rows i d ≡ 0 = rw (is_x, is_y) at free already in
@@ -53,17 +56,18 @@ module _ (k : Kind) (n : ℕ) (rows : Rows) (s : State) (view : bare_state k n r
       rw (is, already, ← view) (inr (link, inr (living, inl (none, refl, refl))))
 
   module _ (edit : Edit) (sound : IsSound k n rows) (begun : 0 < length rows) (fits : Fits k n rows edit) (births : edit.births ≡ 0)
-      (deaths : edit.deaths ≡ []) (new : State) (made : new ≡ bare_state k n (after_edit n edit rows)) where
+      (deaths : edit.deaths ≡ []) (new : State) (next : Content) (on : IsCarriedOn hook (content_of k n rows l p rules) (after_edit n edit rows) next)
+      (made : new ≡ steps_to (state_of (content_of k n rows l p rules)) next) where
     -- no dart is born and none ends
     links-alone : (Becomes : Links → Type 0) → Becomes (links_of (after_edit n edit rows))
-        → IsRelinked (bare_content k n rows) 0 NoDart Becomes (bare_content k n (after_edit n edit rows))
+        → IsRelinked hook (content_of k n rows l p rules) 0 NoDart Becomes next
     links-alone Becomes becomes =
-        subst (λ (born : ℕ). IsRelinked (bare_content k n rows) born NoDart Becomes (bare_content k n (after_edit n edit rows))) births
-        (relinked k n rows edit sound begun fits NoDart (λ x. (λ none. absurd none, λ at. absurd (omega (arith, at.1, ap length deaths)))) Becomes becomes)
+        subst (λ (born : ℕ). IsRelinked hook (content_of k n rows l p rules) born NoDart Becomes next) births
+        (relinked k n rows edit sound begun fits NoDart (λ x. (λ none. absurd none, λ at. absurd (omega (arith, at.1, ap length deaths)))) hook l p rules next on Becomes becomes)
 
     -- a sewing that is obeyed
     pub sew-obeyed : (e : ℕ) → IsLive s.present.rows e → (x y z : ℕ) → x ≡ i → y ≡ d → z ≡ e → IsSewable k (links_of rows) x y z
-        → IsSewn k x y z (links_of rows) (links_of (after_edit n edit rows)) → Step s (Sew i d e) (text.Done 0 0) new
+        → IsSewn k x y z (links_of rows) (links_of (after_edit n edit rows)) → Step hook s (Sew i d e) (text.Done 0 0) new
     sew-obeyed e other x y z is_x is_y is_z able sewn =
         let can : IsSewable k (links_of rows) i d e = rw (← is_x, ← is_y, ← is_z) able in
         let done : IsSewn k i d e (links_of rows) (links_of (after_edit n edit rows)) = rw (← is_x, ← is_y, ← is_z) sewn in
@@ -79,7 +83,7 @@ module _ (k : Kind) (n : ℕ) (rows : Rows) (s : State) (view : bare_state k n r
                 (can.near, can.far),
                 inr (
                   can.good,
-                  (bare_content k n (after_edit n edit rows), links-alone (IsSewn k i d e (links_of rows)) done, refl, refl),
+                  (next, links-alone (IsSewn k i d e (links_of rows)) done, refl, refl),
                 ),
               ),
             ),
@@ -88,7 +92,7 @@ module _ (k : Kind) (n : ℕ) (rows : Rows) (s : State) (view : bare_state k n r
 
     -- an unsewing that is obeyed
     pub unsew-obeyed : (x y : ℕ) → x ≡ i → y ≡ d → links_of rows x y ≢ 0
-        → IsUnsewn k x y (links_of rows) (links_of (after_edit n edit rows)) → Step s (Unsew i d) (text.Done 0 0) new
+        → IsUnsewn k x y (links_of rows) (links_of (after_edit n edit rows)) → Step hook s (Unsew i d) (text.Done 0 0) new
     unsew-obeyed x y is_x is_y linked unsewn =
         let there : links_of rows i d ≢ 0 = rw (← is_x, ← is_y) linked in
         let done : IsUnsewn k i d (links_of rows) (links_of (after_edit n edit rows)) = rw (← is_x, ← is_y) unsewn in
@@ -99,7 +103,7 @@ module _ (k : Kind) (n : ℕ) (rows : Rows) (s : State) (view : bare_state k n r
             living,
             inr (
               there,
-              (bare_content k n (after_edit n edit rows), links-alone (IsUnsewn k i d (links_of rows)) done, refl, refl),
+              (next, links-alone (IsUnsewn k i d (links_of rows)) done, refl, refl),
             ),
           ),
         ))

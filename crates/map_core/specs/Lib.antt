@@ -1,2 +1,4 @@
-pub mod Bare
+pub mod Seen
+pub mod Changing
 pub mod Calls
+pub mod Made

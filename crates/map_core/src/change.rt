@@ -5,18 +5,20 @@ ghost use Rattle.map_defs.specs.Script.{Polygon, Dart as MakeDart, Del};
 ghost use Rattle.map_core.specs.Calls.{Does};
 
 use crate::map::{Done, Map};
+use attr_rules::Hook;
 use link_rows::{Edit, Links, polygon_edit};
 use map_kind::{Dart, Kind, Refusal, Refused};
 use std::alloc::Global;
 
-impl<K: Kind, const DIM: usize> Map<K, DIM> {
+impl<'h, K: Kind, H: Hook, const DIM: usize> Map<'h, K, H, DIM> {
     /// Makes a polygon: a face of so many sides in a circle, with two darts a side in a generalized and one in a
     /// combinatorial map.
     ///
     /// Refused as `BadCount` exactly where the number of sides is not from 3 to 65,536, and then as `Full` exactly where
     /// more than 4,194,304 darts would have been made.
     pub fn polygon(&mut self, alloc: Global, sides: u64) -> Result<Done, Refused>
-        ensures { Does self.old (Polygon sides) result self.new }
+        ensures hook { self.new.hook ≡ self.old.hook }
+        ensures does { Does (H.meaning self.old.hook) self.old.state (Polygon sides) result self.new.state }
     {
         if sides < 3 || sides > 65536 {
             return Err(Refused::Line(Refusal::BadCount));
@@ -27,7 +29,7 @@ impl<K: Kind, const DIM: usize> Map<K, DIM> {
         }
         let first = self.links.made() + 1;
         let edit = polygon_edit(alloc, &self.links, sides as u32)?;
-        self.make(&edit)?;
+        self.bear(&edit)?;
         Ok(Done { first, count })
     }
 
@@ -35,7 +37,8 @@ impl<K: Kind, const DIM: usize> Map<K, DIM> {
     ///
     /// Refused as `Full` exactly where 4,194,304 darts were made.
     pub fn dart(&mut self, alloc: Global) -> Result<Done, Refused>
-        ensures { Does self.old MakeDart result self.new }
+        ensures hook { self.new.hook ≡ self.old.hook }
+        ensures does { Does (H.meaning self.old.hook) self.old.state MakeDart result self.new.state }
     {
         if !self.has_numbers(1) {
             return Err(Refused::Line(Refusal::Full));
@@ -46,16 +49,17 @@ impl<K: Kind, const DIM: usize> Map<K, DIM> {
             deaths: Vec::new(alloc),
             changes: Vec::new(alloc),
         };
-        self.make(&edit)?;
+        self.bear(&edit)?;
         Ok(Done { first, count: 1 })
     }
 
-    /// Ends a dart whose links are all free. Its number is not given again.
+    /// Ends a dart whose links are all free, with the values of its cells. Its number is not given again.
     ///
     /// Refused as `NoDart` exactly where no live dart has the number, and then as `Linked` exactly where some link of
     /// the dart is not free.
     pub fn del(&mut self, alloc: Global, dart: u64) -> Result<Done, Refused>
-        ensures { Does self.old (Del dart) result self.new }
+        ensures hook { self.new.hook ≡ self.old.hook }
+        ensures does { Does (H.meaning self.old.hook) self.old.state (Del dart) result self.new.state }
     {
         let Some(dart) = self.live_dart(dart) else {
             return Err(Refused::Line(Refusal::NoDart));
@@ -63,12 +67,7 @@ impl<K: Kind, const DIM: usize> Map<K, DIM> {
         if !is_alone(&self.links, dart) {
             return Err(Refused::Line(Refusal::Linked));
         }
-        let edit = Edit {
-            births: 0,
-            deaths: vec![in alloc; dart]?,
-            changes: Vec::new(alloc),
-        };
-        self.make(&edit)?;
+        self.end(alloc, dart)?;
         Ok(Done::NONE)
     }
 }

@@ -8,10 +8,17 @@
 
 mod change;
 mod list;
+mod load;
+mod make;
 mod map;
 mod question;
+mod relabel;
 mod sew;
 #[cfg(test)]
 mod tests;
+mod touched;
+mod value;
+#[cfg(test)]
+mod whole_map;
 
 pub use map::{Done, Map};

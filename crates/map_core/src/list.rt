@@ -1,29 +1,39 @@
 //! The listing of a map.
-ghost use Rattle.std.specs.Prelude.{◌≡◌, ℕ, ◌+◌, ◌≤◌, IfOk, OnOk, ◌++◌, ◌∷◌, [], map};
+ghost use Rattle.std.specs.Prelude.{◌≡◌, ℕ, ◌+◌, ◌≤◌, ◌<◌, IfOk, OnOk, ◌++◌, ◌∷◌, [], map, None};
 ghost use Rattle.std.specs.List.{range_with_len};
 ghost use Rattle.map_defs.specs.Rows.{row_at, links_of};
 ghost use Rattle.map_defs.specs.Listing.{live_rows_from};
 ghost use Rattle.map_defs.specs.Script.{Show};
 ghost use Rattle.map_defs.specs.Machine.{Step};
 ghost use Rattle.map_defs.specs.Text.{Shown};
+ghost use Rattle.attr_pool.specs.Labelings.{id_of};
+ghost use Rattle.transport.specs.Groups.{rule_at};
+ghost use Rattle.label_laws.specs.Stored.{worth};
+ghost use Rattle.label_laws.specs.Lists.{AreListed, IsNamed, listed};
 
 use crate::map::Map;
+use crate::relabel::worth;
+use crate::value::has_rule;
+use attr_pool::{Labels, Pool};
+use attr_rules::Hook;
 use link_rows::Links;
-use list_text::{ListRow, Listing};
-use map_kind::{Dart, Kind};
+use list_text::{ListRow, ListValue, Listing};
+use map_kind::{Dart, Kind, Place};
 use std::alloc::{AllocError, Global};
+use transport::RuleRow;
 
-impl<K: Kind, const DIM: usize> Map<K, DIM> {
-    /// The listing of the map: its live darts, ascending, with their links.
+impl<'h, K: Kind, H: Hook, const DIM: usize> Map<'h, K, H, DIM> {
+    /// The listing of the map: its live darts, ascending, with their links, and its cells with a value, each by its
+    /// least dart, ascending by dimension, then by dart. It costs the size of the map times a logarithm.
     pub fn listing(&self, alloc: Global) -> Result<Listing, AllocError>
-        ensures { IfOk result (λ listing. Step self.now Show (Shown listing) self.now) }
+        ensures { IfOk result (λ listing. Step (H.meaning self.now.hook) self.now.state Show (Shown listing) self.now.state) }
     {
         Ok(Listing {
             letter: K::letter(),
             dim: self.links.dimension() as u32,
             made: self.links.made(),
             rows: list_rows(alloc, &self.links)?,
-            values: Vec::new(alloc),
+            values: list_values(alloc, &self.links, &self.labels, &self.pool, &self.rules)?,
         })
     }
 }
@@ -84,4 +94,90 @@ fn entry<K: Kind, const DIM: usize>(links: &Links<K, DIM>, dart: Dart, link: usi
         Some(other) => other.number(),
         None => 0,
     }
+}
+
+/// The cells with a value, each by its least dart, ascending by dimension, then by dart.
+fn list_values<K: Kind, const DIM: usize>(
+    alloc: Global,
+    links: &Links<K, DIM>,
+    labels: &Labels<DIM>,
+    pool: &Pool,
+    rules: &RuleRow,
+) -> Result<Vec<ListValue>, AllocError>
+    requires { (i d : ℕ) → rule_at rules.now i ≡ None → id_of labels.now i d ≡ None }
+    ensures { IfOk result (λ values. AreListed labels.now pool.now
+        (λ i d. (i < DIM + 1) × IsNamed K.kind links.now.rows i d) values.items) }
+{
+    let mut values = Vec::new(alloc);
+    for dim in 0..links.dimension() + 1 {
+        list_dimension(alloc, links, labels, pool, rules, dim, &mut values)?;
+    }
+    Ok(values)
+}
+
+/// Lists the cells of a dimension with a value. Without a rule it has none, and is not looked at.
+fn list_dimension<K: Kind, const DIM: usize>(
+    alloc: Global,
+    links: &Links<K, DIM>,
+    labels: &Labels<DIM>,
+    pool: &Pool,
+    rules: &RuleRow,
+    dim: usize,
+    values: &mut Vec<ListValue>,
+) -> Result<(), AllocError>
+    requires high { DIM ≤ 8 }
+    requires dim { dim ≤ DIM }
+    requires bare { (d : ℕ) → rule_at rules.now dim ≡ None → id_of labels.now dim d ≡ None }
+    requires listed { AreListed labels.now pool.now
+        (λ i d. (i < dim) × IsNamed K.kind links.now.rows i d) values.old.items }
+    ensures { OnOk result (AreListed labels.now pool.now
+        (λ i d. (i < dim + 1) × IsNamed K.kind links.now.rows i d) values.new.items) }
+{
+    if !has_rule(rules, dim) {
+        return Ok(());
+    }
+    list_cells(alloc, links, labels, pool, dim, values)
+}
+
+/// Lists the cells of a dimension with a value.
+fn list_cells<K: Kind, const DIM: usize>(
+    alloc: Global,
+    links: &Links<K, DIM>,
+    labels: &Labels<DIM>,
+    pool: &Pool,
+    dim: usize,
+    values: &mut Vec<ListValue>,
+) -> Result<(), AllocError>
+    requires high { DIM ≤ 8 }
+    requires dim { dim ≤ DIM }
+    requires listed { AreListed labels.now pool.now
+        (λ i d. (i < dim) × IsNamed K.kind links.now.rows i d) values.old.items }
+    ensures { OnOk result (AreListed labels.now pool.now
+        (λ i d. (i < dim + 1) × IsNamed K.kind links.now.rows i d) values.new.items) }
+{
+    let cells = cell_walk::cells(alloc, links, dim)?;
+    for dart in &cells {
+        list_value(labels, pool, dim, *dart, values)?;
+    }
+    Ok(())
+}
+
+/// Lists a cell, if it has a value.
+fn list_value<const DIM: usize>(
+    labels: &Labels<DIM>,
+    pool: &Pool,
+    dim: usize,
+    dart: Dart,
+    values: &mut Vec<ListValue>,
+) -> Result<(), AllocError>
+    requires { dim ≤ 8 }
+    ensures { OnOk result (values.new.items ≡ values.old.items ++ listed dim dart (worth pool.now labels.now dim dart)) }
+{
+    let Some(value) = worth(labels, pool, dim, dart) else {
+        return Ok(());
+    };
+    let dim = dim as u32;
+    let place = Place { dart, value };
+    values.push(ListValue { dim, place })?;
+    Ok(())
 }

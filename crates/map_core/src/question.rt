@@ -6,16 +6,17 @@ ghost use Rattle.map_defs.specs.Text.{Darts, Truth, Counts};
 ghost use Rattle.map_core.specs.Calls.{Answers, Tells};
 
 use crate::map::Map;
+use attr_rules::Hook;
 use map_kind::{Dart, Kind, Refusal, Refused};
 use std::alloc::{AllocError, Global};
 
-impl<K: Kind, const DIM: usize> Map<K, DIM> {
+impl<'h, K: Kind, H: Hook, const DIM: usize> Map<'h, K, H, DIM> {
     /// The darts of a dart's cell of a dimension, ascending. It costs the size of the cell times a logarithm.
     ///
     /// Refused as `BadDim` exactly where the dimension is above the map's, and then as `NoDart` exactly where no live
     /// dart has the number.
     pub fn cell(&self, alloc: Global, dim: u64, dart: u64) -> Result<Vec<Dart>, Refused>
-        ensures { Answers self.now (Cell dim dart) (λ darts. Darts darts.items) result }
+        ensures { Answers (H.meaning self.now.hook) self.now.state (Cell dim dart) (λ darts. Darts darts.items) result }
     {
         let Some(dim) = self.dimension(dim) else {
             return Err(Refused::Line(Refusal::BadDim));
@@ -32,7 +33,7 @@ impl<K: Kind, const DIM: usize> Map<K, DIM> {
     /// Refused as `BadDim` exactly where the dimension is above the map's, and then as `NoDart` exactly where no live
     /// dart has one of the numbers.
     pub fn same(&self, alloc: Global, dim: u64, dart: u64, other: u64) -> Result<bool, Refused>
-        ensures { Answers self.now (Same dim dart other) Truth result }
+        ensures { Answers (H.meaning self.now.hook) self.now.state (Same dim dart other) Truth result }
     {
         let Some(dim) = self.dimension(dim) else {
             return Err(Refused::Line(Refusal::BadDim));
@@ -51,7 +52,7 @@ impl<K: Kind, const DIM: usize> Map<K, DIM> {
     /// Refused as `BadDim` exactly where the link is above the map's dimension, and then as `NoDart` exactly where no
     /// live dart has the number.
     pub fn free(&self, link: u64, dart: u64) -> Result<bool, Refusal>
-        ensures { Tells self.now (Free link dart) Truth result }
+        ensures { Tells (H.meaning self.now.hook) self.now.state (Free link dart) Truth result }
     {
         let Some(link) = self.dimension(link) else {
             return Err(Refusal::BadDim);
@@ -64,7 +65,7 @@ impl<K: Kind, const DIM: usize> Map<K, DIM> {
 
     /// How many live darts, cells of dimensions 0 to `DIM`, and components there are, in this order.
     pub fn count(&self, alloc: Global) -> Result<Vec<u64>, AllocError>
-        ensures { IfOk result (λ counts. Step self.now Count (Counts counts.items) self.now) }
+        ensures { IfOk result (λ counts. Step (H.meaning self.now.hook) self.now.state Count (Counts counts.items) self.now.state) }
     {
         cell_walk::counts(alloc, &self.links)
     }

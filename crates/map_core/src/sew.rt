@@ -6,21 +6,25 @@ ghost use Rattle.map_defs.specs.Text.{Truth};
 ghost use Rattle.map_core.specs.Calls.{Does, Answers};
 
 use crate::map::{Done, Map};
+use attr_rules::Hook;
 use link_rows::Links;
 use map_kind::{Kind, Refusal, Refused};
 use sewing::{sew_plan, sewable, unsew_plan};
 use std::alloc::Global;
 
-impl<K: Kind, const DIM: usize> Map<K, DIM> {
+impl<'h, K: Kind, H: Hook, const DIM: usize> Map<'h, K, H, DIM> {
     /// Sews two darts at a link: the link of the first becomes the second, the inverse link of the second becomes the
     /// first, and all darts that must move with them, along the links distant from the link, are joined in the same way.
-    /// It costs the number of darts that it joins times a logarithm.
+    /// The values of the cells are carried to the new cells. It costs the number of darts that it joins, and the cells of
+    /// these darts where a dimension has a rule, times a logarithm.
     ///
     /// Refused as `BadDim` exactly where the link is above the map's dimension, or is link 0 of a combinatorial map, which
     /// follows link 1; then as `NoDart` exactly where no live dart has one of the numbers; then as `NotFree` exactly where
     /// one of the two ends is not free; and then as `Unsewable` exactly where the darts cannot be paired.
     pub fn sew(&mut self, alloc: Global, link: u64, dart: u64, other: u64) -> Result<Done, Refused>
-        ensures { Does self.old (Sew link dart other) result self.new }
+        requires { H.ready self.old.hook }
+        ensures hook { self.new.hook ≡ self.old.hook }
+        ensures does { Does (H.meaning self.old.hook) self.old.state (Sew link dart other) result self.new.state }
     {
         let Some(link) = sewing_link(&self.links, link) else {
             return Err(Refused::Line(Refusal::BadDim));
@@ -32,18 +36,21 @@ impl<K: Kind, const DIM: usize> Map<K, DIM> {
             return Err(Refused::Line(Refusal::NoDart));
         };
         let edit = sew_plan(alloc, &self.links, link, dart, other)?;
-        self.make(&edit)?;
+        self.relink(alloc, &edit)?;
         Ok(Done::NONE)
     }
 
-    /// Frees a link of a dart, with all links of darts that were sewn together with it, both ends of each. It costs the
-    /// number of links that it frees times a logarithm.
+    /// Frees a link of a dart, with all links of darts that were sewn together with it, both ends of each. The
+    /// values of the cells are carried to the new cells. It costs the number of links that it frees, and the cells of
+    /// their darts where a dimension has a rule, times a logarithm.
     ///
     /// Refused as `BadDim` exactly where the link is above the map's dimension, or is link 0 of a combinatorial map, which
     /// follows link 1; then as `NoDart` exactly where no live dart has the number; and then as `AlreadyFree` exactly where
     /// the link is free.
     pub fn unsew(&mut self, alloc: Global, link: u64, dart: u64) -> Result<Done, Refused>
-        ensures { Does self.old (Unsew link dart) result self.new }
+        requires { H.ready self.old.hook }
+        ensures hook { self.new.hook ≡ self.old.hook }
+        ensures does { Does (H.meaning self.old.hook) self.old.state (Unsew link dart) result self.new.state }
     {
         let Some(link) = sewing_link(&self.links, link) else {
             return Err(Refused::Line(Refusal::BadDim));
@@ -52,7 +59,7 @@ impl<K: Kind, const DIM: usize> Map<K, DIM> {
             return Err(Refused::Line(Refusal::NoDart));
         };
         let edit = unsew_plan(alloc, &self.links, link, dart)?;
-        self.make(&edit)?;
+        self.relink(alloc, &edit)?;
         Ok(Done::NONE)
     }
 
@@ -62,7 +69,7 @@ impl<K: Kind, const DIM: usize> Map<K, DIM> {
     /// Refused as `BadDim` exactly where the link is above the map's dimension, or is link 0 of a combinatorial map, which
     /// follows link 1, and then as `NoDart` exactly where no live dart has one of the numbers.
     pub fn sewable(&self, alloc: Global, link: u64, dart: u64, other: u64) -> Result<bool, Refused>
-        ensures { Answers self.now (Sewable link dart other) Truth result }
+        ensures { Answers (H.meaning self.now.hook) self.now.state (Sewable link dart other) Truth result }
     {
         let Some(link) = sewing_link(&self.links, link) else {
             return Err(Refused::Line(Refusal::BadDim));

@@ -1,18 +1,20 @@
-use Rattle.std.proofs.Common.{ℕ, [], refl, ap}
+use Rattle.std.proofs.Common.{ℕ, refl, ap}
 use Rattle.map_defs.specs.Kind.{Kind}
 use Rattle.map_defs.specs.Rows.{Rows, made}
 use Rattle.map_defs.specs.Listing.{live_rows_from}
 use Rattle.map_defs.specs.Text.{Shown}
-use Rattle.map_core.proofs.BareStates.{ListsValues-bare, letter-names}
+use Rattle.label_laws.proofs.Listed.{lists-values}
+use Rattle.map_core.proofs.KindNames.{letter-names}
 use Rattle.map_core.proofs.map.Map.listing.Goals as goal
 
 pub returns : goal.returns
 returns g c =
     let rows : Rows = c.self.inside.links.rows in
     let n : ℕ = g.row.DIM in
-    rw (← c.self.view_is, c.letter.ensures, c.dimension.ensures.dimension, c.made.ensures.made, c.in_ok-list_rows.ensures, c.new.ensures.items) (
-      [],
-      ListsValues-bare g.K.Kind.kind n rows,
-      ap (λ (k : Kind). Shown (record { kind = k; dim = n; made = made rows; rows = live_rows_from 0 rows; values = [] })) (letter-names g.K.Kind.kind),
+    let values = c.in_ok-list_values.field-0.items in
+    rw (← c.self.view_is, c.letter.ensures, c.dimension.ensures.dimension, c.made.ensures.made, c.in_ok-list_rows.ensures) (
+      values,
+      lists-values g.K.Kind.kind n rows c.self.inside.labels c.self.inside.pool c.self.inside.rules c.self.invariant values c.in_ok-list_values.ensures,
+      ap (λ (k : Kind). Shown (record { kind = k; dim = n; made = made rows; rows = live_rows_from 0 rows; values = values })) (letter-names g.K.Kind.kind),
       refl,
     )

@@ -1,38 +1,22 @@
-use Rattle.std.proofs.Common.{◌≡◌, ℕ, lit<, refl, ap, arith, ◌∙◌, ◌⊎◌, ◌<◌, Err}
-use Rattle.std.proofs.lemmas.Result.{err_from_is_err_and}
+use Rattle.std.proofs.Common.{◌≡◌, ℕ, refl, ◌⊎◌, ◌<◌}
 use Rattle.map_defs.specs.Kind.{beta}
 use Rattle.map_defs.specs.Rows.{Rows}
-use Rattle.map_core.proofs.SewingSteps.{unsew-refused, unsew-obeyed}
+use Rattle.label_laws.specs.Contents.{content_of, state_of}
+use Rattle.map_core.proofs.SewingSteps.{unsew-obeyed}
 use Rattle.map_core.proofs.map.Map.unsew.Goals as goal
 
-pub returns-in_err-edit : goal.returns-in_err-edit
-returns-in_err-edit g c =
+pub returns-clause-does : goal.returns-clause-does
+returns-clause-does g c =
     let k = g.K.Kind.kind in
     let n : ℕ = g.row.DIM in
     let rows : Rows = c.self.inside.links.rows in
+    let view : state_of (content_of k n rows c.self.inside.labels c.self.inside.pool c.self.inside.rules) ≡ c.args.self.now.state = rw (← c.self.view_is) refl in
     let link : ((n < c.args.link) ⊎ ((k ≡ beta) × (c.args.link ≡ 0))) → ⊥ = λ out. let none = c.in-Some.ensures.none.1 out in cc in
-    let p = err_from_is_err_and c.from_residual.result c.from_residual.ensures.1 in
-    unsew-refused k n rows c.args.self.now c.self.view_is c.args.link c.args.dart link (c.in-Some-live_dart.ensures.live.0 refl)
-    c.in-Some.link c.in-Some-live_dart.dart c.in-Some.ensures.same c.in-Some-live_dart.ensures.same
-    c.in_err-edit.field-0.0 c.from_residual.result (p.1 ∙ ap Err p.2)
-    (λ is. c.in_err-edit.ensures.already_free.0 (ap Err is))
-    c.in_err-edit.ensures.refusals
-
-pub make-requires : goal.make-requires
-make-requires g c =
-    rw (← c.self.view_is)
-    (lit< tt, (c.in_ok-edit.ensures.fits, (c.in_ok-edit.ensures.laws, omega (arith, c.in_ok-edit.ensures.births, c.self.invariant.1.few))))
-
-pub returns : goal.returns
-returns g c =
-    let k = g.K.Kind.kind in
-    let n : ℕ = g.row.DIM in
-    let rows : Rows = c.self.inside.links.rows in
-    let link : ((n < c.args.link) ⊎ ((k ≡ beta) × (c.args.link ≡ 0))) → ⊥ = λ out. let none = c.in-Some.ensures.none.1 out in cc in
-    let made = rw (← c.self.view_is) at c.in_ok-make.ensures.made in
-    unsew-obeyed k n rows c.args.self.now c.self.view_is c.args.link c.args.dart link (c.in-Some-live_dart.ensures.live.0 refl)
-    c.in_ok-edit.edit c.self.invariant.1 c.self.invariant.0 c.in_ok-edit.ensures.fits c.in_ok-edit.ensures.births c.in_ok-edit.ensures.deaths
-    c.make.new.self made
+    let made = rw (← view) at c.in_ok-relink.ensures.made in
+    unsew-obeyed k n rows c.self.inside.labels c.self.inside.pool c.self.inside.rules (g.H.Rule.meaning c.args.self.now.hook) c.args.self.now.state view
+    c.args.link c.args.dart link (c.in-Some-live_dart.ensures.live.0 refl)
+    c.in_ok-edit.edit c.self.invariant.sound c.self.invariant.begun c.in_ok-edit.ensures.fits c.in_ok-edit.ensures.births c.in_ok-edit.ensures.deaths
+    c.relink.new.self.state made.0 made.1 made.2
     c.in-Some.link c.in-Some-live_dart.dart c.in-Some.ensures.same c.in-Some-live_dart.ensures.same
     (λ none. let refused = c.in_ok-edit.ensures.already_free.1 none in cc)
     c.in_ok-edit.ensures.unsewn

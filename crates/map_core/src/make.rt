@@ -1,0 +1,144 @@
+//! How an edit of the links is made, and the values with it.
+ghost use Rattle.std.specs.Prelude.{◌≡◌, ℕ, ◌+◌, ◌≤◌, ◌++◌, ◌<◌, List, Some, map, length, Contains, OnOk, OnErr, IfOk};
+ghost use Rattle.map_defs.specs.Rows.{Rows, IsLive, links_of, made};
+ghost use Rattle.map_defs.specs.Laws.{Laws};
+ghost use Rattle.map_defs.specs.Edits.{Fits, after_edit, IsLed};
+ghost use Rattle.map_defs.specs.State.{Content, with_born, without_dart, steps_to};
+ghost use Rattle.attr_pool.specs.Labelings.{id_of};
+ghost use Rattle.transport.specs.Groups.{group_at, HasCarriedValue};
+ghost use Rattle.label_laws.specs.Maps.{IsStoredMap};
+ghost use Rattle.label_laws.specs.Contents.{IsCarriedOn};
+ghost use Rattle.label_laws.specs.Touching.{AreAllTouched};
+
+use crate::map::Map;
+use crate::relabel::{end_ids, relabel};
+use crate::touched::touched_darts;
+use crate::value::has_places;
+use attr_pool::{Labels, Pool};
+use attr_rules::Hook;
+use link_rows::{Edit, Links, MADE_MAX};
+use map_kind::{Dart, Kind};
+use std::alloc::{AllocError, Global};
+use transport::{Group, RuleRow, carry};
+
+impl<'h, K: Kind, H: Hook, const DIM: usize> Map<'h, K, H, DIM> {
+    /// Makes an edit that only adds darts, linked among each other alone. They have no values, and no value changes. All
+    /// memory is taken before anything changes.
+    pub(crate) fn bear(&mut self, edit: &Edit) -> Result<(), AllocError>
+        requires fits { Fits K.kind DIM self.old.state.present.rows edit.now }
+        requires laws { Laws K.kind (links_of (after_edit DIM edit.now self.old.state.present.rows)) }
+        requires few { made self.old.state.present.rows + edit.now.births ≤ MADE_MAX }
+        requires born { (born : List (List ℕ)) × (after_edit DIM edit.now self.old.state.present.rows
+            ≡ self.old.state.present.rows ++ map Some born) }
+        ensures hook { self.new.hook ≡ self.old.hook }
+        ensures made { (born : List (List ℕ)) → after_edit DIM edit.now self.old.state.present.rows
+            ≡ self.old.state.present.rows ++ map Some born
+            → OnOk result (self.new.state ≡ steps_to self.old.state (with_born self.old.state.present born)) }
+        ensures err { OnErr result (self.new ≡ self.old) }
+    {
+        if self.links.reserve(edit.births).is_err() {
+            return Err(AllocError);
+        }
+        self.labels.grow(self.links.made() + edit.births)?;
+        self.links.apply(edit);
+        Ok(())
+    }
+
+    /// Makes an edit and carries the values to the new cells. Where memory is wanting, the edit is taken back.
+    pub(crate) fn relink(&mut self, alloc: Global, edit: &Edit) -> Result<(), AllocError>
+        requires ready { H.ready self.old.hook }
+        requires fits { Fits K.kind DIM self.old.state.present.rows edit.now }
+        requires laws { Laws K.kind (links_of (after_edit DIM edit.now self.old.state.present.rows)) }
+        requires few { made self.old.state.present.rows + edit.now.births ≤ MADE_MAX }
+        ensures hook { self.new.hook ≡ self.old.hook }
+        ensures made { OnOk result ((next : Content) × IsCarriedOn (H.meaning self.old.hook) self.old.state.present
+            (after_edit DIM edit.now self.old.state.present.rows) next × (self.new.state ≡ steps_to self.old.state next)) }
+        ensures err { OnErr result (self.new ≡ self.old) }
+    {
+        if self.links.reserve(edit.births).is_err() {
+            return Err(AllocError);
+        }
+        self.labels.grow(self.links.made() + edit.births)?;
+        self.links.apply(edit);
+        match carried(
+            alloc,
+            &self.links,
+            &self.labels,
+            &mut self.pool,
+            &self.rules,
+            self.hook,
+            edit,
+        ) {
+            Ok(groups) => {
+                relabel(&mut self.labels, &mut self.pool, &edit.deaths, &groups);
+                Ok(())
+            }
+            Err(error) => {
+                self.links.reverse(edit);
+                Err(error)
+            }
+        }
+    }
+
+    /// Ends a dart without links, and the values of its cells with it.
+    pub(crate) fn end(&mut self, alloc: Global, dart: Dart) -> Result<(), AllocError>
+        requires live { IsLive self.old.state.present.rows dart }
+        requires alone { (i : ℕ) → links_of self.old.state.present.rows i dart ≡ 0 }
+        ensures hook { self.new.hook ≡ self.old.hook }
+        ensures ended { OnOk result (self.new.state ≡ steps_to self.old.state (without_dart self.old.state.present dart)) }
+        ensures err { OnErr result (self.new ≡ self.old) }
+    {
+        let edit = Edit {
+            births: 0,
+            deaths: vec![in alloc; dart]?,
+            changes: Vec::new(alloc),
+        };
+        self.links.apply(&edit);
+        end_ids(&mut self.labels, &mut self.pool, &edit.deaths);
+        Ok(())
+    }
+}
+
+/// The cells whose darts the edit touched, with the values that are carried to them, and room in the pool for these
+/// values. Where no dimension has a rule there are none, and nothing is looked at.
+fn carried<K: Kind, H: Hook, const DIM: usize>(
+    alloc: Global,
+    links: &Links<K, DIM>,
+    labels: &Labels<DIM>,
+    pool: &mut Pool,
+    rules: &RuleRow,
+    hook: &H,
+    edit: &Edit,
+) -> Result<Vec<Group>, AllocError>
+    requires ready { H.ready hook.now }
+    requires led { (old : Rows) × IsLed K.kind DIM edit.now old links.now.rows
+        × IsStoredMap K.kind DIM old labels.now pool.old rules.now }
+    requires laws { Laws K.kind (links_of links.now.rows) }
+    ensures cells { IfOk result (λ groups. (old : Rows) → IsLed K.kind DIM edit.now old links.now.rows
+        → Laws K.kind (links_of old) → AreAllTouched K.kind old links.now.rows rules.now groups.items) }
+    ensures values { IfOk result (λ groups. (n : ℕ) → n < length groups.items
+        → HasCarriedValue K.kind (links_of links.now.rows) (IsLive links.now.rows) (id_of labels.now) pool.old
+        (H.meaning hook.now) rules.now (group_at groups.items n)) }
+    ensures room { IfOk result (λ groups. length groups.items ≤ pool.new.spare) }
+    ensures slots { pool.new.slots ≡ pool.old.slots }
+{
+    if !has_places(rules) {
+        return Ok(Vec::new(alloc));
+    }
+    let touched = touched_darts(alloc, links, edit)?;
+    let groups = carry(alloc, links, labels, pool, rules, hook, &touched)?;
+    make_room(pool, groups.len())?;
+    Ok(groups)
+}
+
+/// Makes room for so many further values.
+pub(crate) fn make_room(pool: &mut Pool, values: usize) -> Result<(), AllocError>
+    ensures slots { pool.new.slots ≡ pool.old.slots }
+    ensures room { OnOk result (values ≤ pool.new.spare) }
+{
+    let most = u32::MAX - pool.live_count();
+    if values > most as usize {
+        return Err(AllocError);
+    }
+    pool.reserve(values as u32)
+}

@@ -1,0 +1,206 @@
+//! The lines that set rules and values.
+ghost use Rattle.std.specs.Prelude.{◌≡◌, ◌==◌, ◌≤◌, ◌<◌, ◌↔◌, cond, length, replicate, slice_set, Some, None, IsSome, IsTrue, OnOk, OnErr};
+ghost use Rattle.map_defs.specs.Rows.{IsLive};
+ghost use Rattle.map_defs.specs.State.{Content, steps_to, rule_at};
+ghost use Rattle.map_defs.specs.Valuing.{IsValued};
+ghost use Rattle.map_defs.specs.Machine.{with_rule};
+ghost use Rattle.map_defs.specs.Script.{Rule as SetRule, Set, Clear, Value as AskValue};
+ghost use Rattle.map_defs.specs.Text.{Worth};
+ghost use Rattle.transport.specs.Groups.{rule_at as rule_of};
+ghost use Rattle.map_core.specs.Calls.{Does, Tells};
+
+use crate::make::make_room;
+use crate::map::{Done, Map};
+use crate::relabel::{give_id, take_ids, worth};
+use attr_rules::{Hook, TableRule, merge_named, split_named};
+use cell_walk::cell;
+use map_kind::{Dart, Kind, Refusal, Refused, Value};
+use std::alloc::{AllocError, Global};
+use transport::RuleRow;
+
+impl<'h, K: Kind, H: Hook, const DIM: usize> Map<'h, K, H, DIM> {
+    /// Gives a dimension a rule, by the names of its merge and its split, in place of the one that it had. The values
+    /// stay.
+    ///
+    /// Refused as `BadDim` exactly where the dimension is above the map's, and then as `NoRule` exactly where one of the
+    /// names is not in its table.
+    pub fn rule(
+        &mut self,
+        alloc: Global,
+        dim: u64,
+        merge: &str,
+        split: &str,
+    ) -> Result<Done, Refused>
+        ensures hook { self.new.hook ≡ self.old.hook }
+        ensures does { Does (H.meaning self.old.hook) self.old.state (SetRule dim merge.now split.now) result self.new.state }
+    {
+        let Some(dim) = self.dimension(dim) else {
+            return Err(Refused::Line(Refusal::BadDim));
+        };
+        let Some(merge) = merge_named(merge) else {
+            return Err(Refused::Line(Refusal::NoRule));
+        };
+        let Some(split) = split_named(split) else {
+            return Err(Refused::Line(Refusal::NoRule));
+        };
+        self.set_rule(alloc, dim, TableRule { merge, split })?;
+        Ok(Done::NONE)
+    }
+
+    /// Gives the cell of a dart in a dimension a value, in place of the one that it had. Where the cell has a value, it
+    /// takes no memory; else it costs the size of the cell times a logarithm.
+    ///
+    /// Refused as `BadDim` exactly where the dimension is above the map's, then as `NoDart` exactly where no live dart
+    /// has the number, and then as `NoRule` exactly where the dimension has no rule.
+    pub fn set(&mut self, alloc: Global, dim: u64, dart: u64, value: Value) -> Result<Done, Refused>
+        ensures hook { self.new.hook ≡ self.old.hook }
+        ensures does { Does (H.meaning self.old.hook) self.old.state (Set dim dart value) result self.new.state }
+    {
+        let Some(dim) = self.dimension(dim) else {
+            return Err(Refused::Line(Refusal::BadDim));
+        };
+        let Some(dart) = self.live_dart(dart) else {
+            return Err(Refused::Line(Refusal::NoDart));
+        };
+        if !has_rule(&self.rules, dim) {
+            return Err(Refused::Line(Refusal::NoRule));
+        }
+        self.set_value(alloc, dim, dart, value)?;
+        Ok(Done::NONE)
+    }
+
+    /// Takes the value of the cell of a dart in a dimension away; where it has none, nothing changes. Where it has one,
+    /// it costs the size of the cell times a logarithm.
+    ///
+    /// Refused as `BadDim` exactly where the dimension is above the map's, then as `NoDart` exactly where no live dart
+    /// has the number, and then as `NoRule` exactly where the dimension has no rule.
+    pub fn clear(&mut self, alloc: Global, dim: u64, dart: u64) -> Result<Done, Refused>
+        ensures hook { self.new.hook ≡ self.old.hook }
+        ensures does { Does (H.meaning self.old.hook) self.old.state (Clear dim dart) result self.new.state }
+    {
+        let Some(dim) = self.dimension(dim) else {
+            return Err(Refused::Line(Refusal::BadDim));
+        };
+        let Some(dart) = self.live_dart(dart) else {
+            return Err(Refused::Line(Refusal::NoDart));
+        };
+        if !has_rule(&self.rules, dim) {
+            return Err(Refused::Line(Refusal::NoRule));
+        }
+        self.clear_value(alloc, dim, dart)?;
+        Ok(Done::NONE)
+    }
+
+    /// The value of the cell of a dart in a dimension, if it has one. It takes no memory.
+    ///
+    /// Refused as `BadDim` exactly where the dimension is above the map's, and then as `NoDart` exactly where no live
+    /// dart has the number.
+    pub fn value(&self, dim: u64, dart: u64) -> Result<Option<Value>, Refusal>
+        ensures { Tells (H.meaning self.now.hook) self.now.state (AskValue dim dart) Worth result }
+    {
+        let Some(dim) = self.dimension(dim) else {
+            return Err(Refusal::BadDim);
+        };
+        let Some(dart) = self.live_dart(dart) else {
+            return Err(Refusal::NoDart);
+        };
+        Ok(worth(&self.labels, &self.pool, dim, dart))
+    }
+
+    /// Gives a dimension a rule. All memory is taken before anything changes.
+    fn set_rule(&mut self, alloc: Global, dim: usize, rule: TableRule) -> Result<(), AllocError>
+        requires { dim ≤ DIM }
+        ensures hook { self.new.hook ≡ self.old.hook }
+        ensures set { OnOk result (self.new.state ≡ steps_to self.old.state (with_rule self.old.state.present dim rule)) }
+        ensures err { OnErr result (self.new ≡ self.old) }
+    {
+        let dimension = self.links.dimension();
+        self.labels.open(dim)?;
+        make_places(alloc, &mut self.rules, dimension + 1)?;
+        put_rule(&mut self.rules, dim, rule);
+        Ok(())
+    }
+
+    /// Gives the cell of a live dart a value.
+    fn set_value(
+        &mut self,
+        alloc: Global,
+        dim: usize,
+        dart: Dart,
+        value: Value,
+    ) -> Result<(), AllocError>
+        requires dim { dim ≤ DIM }
+        requires live { IsLive self.old.state.present.rows dart }
+        requires ruled { IsSome (rule_at self.old.state.present dim) }
+        ensures hook { self.new.hook ≡ self.old.hook }
+        ensures set { OnOk result ((next : Content) × IsValued self.old.state.present dim dart (Some value) next
+            × (self.new.state ≡ steps_to self.old.state next)) }
+        ensures err { OnErr result (self.new ≡ self.old) }
+    {
+        if let Some(id) = self.labels.id(dim, dart) {
+            self.pool.replace(id, value);
+            return Ok(());
+        }
+        let darts = cell(alloc, &self.links, dim, dart)?;
+        make_room(&mut self.pool, 1)?;
+        give_id(&mut self.labels, &mut self.pool, dim, &darts, value);
+        Ok(())
+    }
+
+    /// Takes the value of the cell of a live dart away.
+    fn clear_value(&mut self, alloc: Global, dim: usize, dart: Dart) -> Result<(), AllocError>
+        requires dim { dim ≤ DIM }
+        requires live { IsLive self.old.state.present.rows dart }
+        ensures hook { self.new.hook ≡ self.old.hook }
+        ensures cleared { OnOk result ((next : Content) × IsValued self.old.state.present dim dart None next
+            × (self.new.state ≡ steps_to self.old.state next)) }
+        ensures err { OnErr result (self.new ≡ self.old) }
+    {
+        if self.labels.id(dim, dart).is_none() {
+            return Ok(());
+        }
+        let darts = cell(alloc, &self.links, dim, dart)?;
+        take_ids(&mut self.labels, &mut self.pool, dim, &darts);
+        Ok(())
+    }
+}
+
+/// Whether a dimension has a rule.
+pub(crate) fn has_rule(rules: &RuleRow, dim: usize) -> bool
+    ensures { IsTrue result ↔ IsSome (rule_of rules.now dim) }
+{
+    match rules.rules.get(dim) {
+        Some(rule) => rule.is_some(),
+        None => false,
+    }
+}
+
+/// Whether there are places for rules.
+pub(crate) fn has_places(rules: &RuleRow) -> bool
+    ensures { IsTrue result ↔ (0 < length rules.now) }
+{
+    !rules.rules.is_empty()
+}
+
+/// Gives a dimension a rule.
+pub(crate) fn put_rule(rules: &mut RuleRow, dim: usize, rule: TableRule)
+    requires { dim < length rules.old }
+    ensures { rules.new ≡ slice_set rules.old dim (Some rule) }
+{
+    rules.rules[dim] = Some(rule);
+}
+
+/// Makes a place for the rule of each dimension, if there are none.
+pub(crate) fn make_places(
+    alloc: Global,
+    rules: &mut RuleRow,
+    places: usize,
+) -> Result<(), AllocError>
+    ensures made { OnOk result (rules.new ≡ cond (length rules.old == 0) (replicate places None) rules.old) }
+    ensures err { OnErr result (rules.new ≡ rules.old) }
+{
+    if rules.rules.is_empty() {
+        rules.rules = vec![in alloc; None; places]?;
+    }
+    Ok(())
+}
