@@ -4,6 +4,7 @@
 //! is the one that this call answers.
 #![tactic(auto)]
 
+use attr_rules::FirstCopy;
 use map_io::{FileShelf, StdSink};
 use std::alloc::AllocError;
 use std::env;
@@ -35,5 +36,11 @@ fn main(rt: HostRuntime) -> ExitCode {
     };
     let mut shelf = FileShelf::new(&rt);
     let mut out = StdSink::new(rt.alloc(), &rt);
-    ExitCode::from(map_run::run(rt.alloc(), words.as_slice(), &mut shelf, &mut out))
+    ExitCode::from(map_run::run(
+        rt.alloc(),
+        words.as_slice(),
+        &mut shelf,
+        &mut out,
+        &FirstCopy,
+    ))
 }

@@ -1,6 +1,7 @@
 //! Words that are no command, and what fails outside.
 ghost use Rattle.std.specs.Prelude.{◌≡◌, ℕ, ◌+◌, ◌-◌, ◌^◌, None, min};
 
+use attr_rules::FirstCopy;
 use map_io::{FetchFault, PutFault, Shelf, Sink};
 use std::alloc::{AllocError, Global};
 use std::process::Abort;
@@ -68,8 +69,8 @@ impl Sink for Narrow {
 }
 
 /// Words that are no command: none, an unknown one, one too few, one too many, the other kind, dimensions below and above
-/// those offered, a dimension with a leading zero, and a mesh file.
-const NO_COMMANDS: [&[&str]; 9] = [
+/// those offered, and a dimension with a leading zero.
+const NO_COMMANDS: [&[&str]; 8] = [
     &[],
     &["fly"],
     &["run", "g", "2", "-"],
@@ -78,7 +79,6 @@ const NO_COMMANDS: [&[&str]; 9] = [
     &["run", "g", "1", "-", "s"],
     &["run", "g", "5", "-", "s"],
     &["run", "g", "02", "-", "s"],
-    &["run", "g", "2", "s", "s"],
 ];
 
 /// A sink or a shelf that fails, what is written nevertheless, and the status.
@@ -147,7 +147,7 @@ fn check(rt: &impl Abort, alloc: Global, words: &[&str], fault: &Fault) -> Resul
         flushes: fault.flushes,
         faults: 0,
     };
-    let status = map_run::run(alloc, owned.as_slice(), &mut shelf, &mut out);
+    let status = map_run::run(alloc, owned.as_slice(), &mut shelf, &mut out, &FirstCopy);
     assert_eq!(rt; out.text.as_slice(), fault.text.as_bytes());
     assert_eq!(rt; status, fault.status);
     Ok(())
@@ -170,6 +170,30 @@ fn words_that_are_no_command(rt: HostRuntime) -> Result<(), AllocError> {
 fn what_fails_outside(rt: HostRuntime) -> Result<(), AllocError> {
     for fault in &[NO_FILE, NO_ROOM, CUT_SHORT, ROOM_ENOUGH, NO_FLUSH] {
         check(&rt, rt.alloc(), &["run", "g", "2", "-", "s"], fault)?;
+    }
+    Ok(())
+}
+
+const NO_MESH: Fault = Fault {
+    file: Some(b"polygon 3\n"),
+    room: 1,
+    flushes: true,
+    text: "off line 1 NoHeader\n",
+    status: 3,
+};
+
+const NO_ROOM_FOR_IT: Fault = Fault {
+    room: 0,
+    text: "",
+    status: 6,
+    ..NO_MESH
+};
+
+/// A mesh that cannot be fetched, one that is refused, and one whose refusal cannot be written.
+#[test]
+fn what_fails_with_a_mesh(rt: HostRuntime) -> Result<(), AllocError> {
+    for fault in &[NO_FILE, NO_MESH, NO_ROOM_FOR_IT] {
+        check(&rt, rt.alloc(), &["run", "g", "2", "m", "s"], fault)?;
     }
     Ok(())
 }

@@ -4,6 +4,7 @@ ghost use Rattle.map_defs.specs.Outside.{held};
 ghost use Rattle.map_defs.specs.Program.{Needs};
 ghost use Rattle.map_io.specs.Held.{files_of};
 
+use attr_rules::FirstCopy;
 use map_io::{Held, SureShelf, SureSink};
 use std::alloc::{AllocError, Global};
 use std::process::Abort;
@@ -29,7 +30,7 @@ pub fn run_over(alloc: Global, words: &[String], files: Vec<Held>) -> Result<Ans
 {
     let mut shelf = SureShelf::new(files);
     let mut out = SureSink::new(alloc);
-    let status = map_run::run(alloc, words, &mut shelf, &mut out);
+    let status = map_run::run(alloc, words, &mut shelf, &mut out, &FirstCopy);
     let text = out.written().to_vec(alloc)?;
     Ok(Answer { text, status })
 }

@@ -8,6 +8,10 @@ mod harness;
 #[cfg(test)]
 mod lines;
 #[cfg(test)]
+mod meshes;
+#[cfg(test)]
 mod polygons;
+#[cfg(test)]
+mod values;
 #[cfg(test)]
 mod words;

@@ -1,8 +1,8 @@
 -- Words that are a command, and words that are none.
-use Rattle.std.proofs.Common.{◌≡◌, ◌≢◌, ◌≤◌, ℕ, List, [], ◌∷◌, length, get_or, refl, sym, ap, ◌∙◌, arith, codes}
+use Rattle.std.proofs.Common.{◌≡◌, ◌≢◌, ◌≤◌, ℕ, List, [], ◌∷◌, length, get_or, Option, Some, refl, sym, ap, ◌∙◌, arith, codes}
 use Rattle.std.specs.Fmt.{decimal}
 use Rattle.map_defs.specs.Kind.{alpha}
-use Rattle.map_defs.specs.Program.{Command, RunScript, Tells, IsNoCommand}
+use Rattle.map_defs.specs.Program.{Command, RunScript, Tells, IsNoCommand, mesh_word, no_mesh}
 
 -- a list of five elements
 pub five : {X : Type 0} (xs : List X) (a b c d e : X) → length xs ≡ 5 → a ≡ get_or xs 0 a → b ≡ get_or xs 1 b → c ≡ get_or xs 2 c
@@ -15,31 +15,31 @@ five (x ∷ y ∷ z ∷ v ∷ []) a b c d e len p q r s t = absurd (omega arith)
 five (x ∷ y ∷ z ∷ v ∷ w ∷ []) a b c d e len p q r s t = cc
 five (x ∷ y ∷ z ∷ v ∷ w ∷ u ∷ xs) a b c d e len p q r s t = absurd (omega arith)
 
--- the words of a command are five, of which three are always the same
+-- the words of a command are five, of which two are always the same
 pub told : (words : List (List ℕ)) (command : Command) → Tells words command
-    → (n : ℕ) × (2 ≤ n) × (n ≤ 4) × (script : List ℕ) × (words ≡ codes "run" ∷ codes "g" ∷ decimal n ∷ codes "-" ∷ script ∷ [])
-told words (RunScript kind dim script) t = let k = t.0.0 in (dim, t.0.1, t.0.2, script, t.1 ∙ rw k refl)
+    → (n : ℕ) × (2 ≤ n) × (n ≤ 4) × (mesh : List ℕ) × (script : List ℕ) × (words ≡ codes "run" ∷ codes "g" ∷ decimal n ∷ mesh ∷ script ∷ [])
+told words (RunScript kind dim mesh script) t = let k = t.0.0 in (dim, t.0.1, t.0.2, mesh_word mesh, script, t.1 ∙ rw k refl)
 
 pub no_command : (words : List (List ℕ))
-    → ((n : ℕ) (script : List ℕ) → 2 ≤ n → n ≤ 4 → words ≡ codes "run" ∷ codes "g" ∷ decimal n ∷ codes "-" ∷ script ∷ [] → ⊥) → IsNoCommand words
-no_command words other command t = let found = told words command t in other found.0 found.3 found.1 found.2 found.4
+    → ((n : ℕ) (mesh script : List ℕ) → 2 ≤ n → n ≤ 4 → words ≡ codes "run" ∷ codes "g" ∷ decimal n ∷ mesh ∷ script ∷ [] → ⊥) → IsNoCommand words
+no_command words other command t = let found = told words command t in other found.0 found.3 found.4 found.1 found.2 found.5
 
 -- these words are those of the command
-pub as_told : (words : List (List ℕ)) (run kind dim mesh script : List ℕ) (n : ℕ) → words ≡ run ∷ kind ∷ dim ∷ mesh ∷ script ∷ []
-    → (run ≡ codes "run") × (kind ≡ codes "g") × (mesh ≡ codes "-") → dim ≡ decimal n → 2 ≤ n → n ≤ 4 → Tells words (RunScript alpha n script)
-as_told words run kind dim mesh script n are same dims low high =
-    ((refl, low, high), are ∙ rw (same.0, same.1, same.2, dims) refl)
+pub as_told : (words : List (List ℕ)) (run kind dim mesh script : List ℕ) (n : ℕ) (name : Option (List ℕ)) → words ≡ run ∷ kind ∷ dim ∷ mesh ∷ script ∷ []
+    → (run ≡ codes "run") × (kind ≡ codes "g") → (mesh_word name ≡ mesh) × (name ≢ Some no_mesh) → dim ≡ decimal n → 2 ≤ n → n ≤ 4 → Tells words (RunScript alpha n name script)
+as_told words run kind dim mesh script n name are same named dims low high =
+    ((refl, low, high, named.1), are ∙ rw (same.0, same.1, dims, named.0) refl)
 
 pub not_told : (words : List (List ℕ)) (run kind dim mesh script : List ℕ) → words ≡ run ∷ kind ∷ dim ∷ mesh ∷ script ∷ []
-    → ((run ≡ codes "run") × (kind ≡ codes "g") × (mesh ≡ codes "-") → ⊥) → IsNoCommand words
+    → ((run ≡ codes "run") × (kind ≡ codes "g") → ⊥) → IsNoCommand words
 not_told words run kind dim mesh script are differ =
-    no_command words (λ n other low high e. let same = sym are ∙ e in differ (cc, cc, cc))
+    no_command words (λ n other file low high e. let same = sym are ∙ e in differ (cc, cc))
 
 pub not_numbered : (words : List (List ℕ)) (run kind dim mesh script : List ℕ) → words ≡ run ∷ kind ∷ dim ∷ mesh ∷ script ∷ []
     → ((n : ℕ) → 2 ≤ n → n ≤ 4 → dim ≡ decimal n → ⊥) → IsNoCommand words
 not_numbered words run kind dim mesh script are differ =
-    no_command words (λ n other low high e. let same = sym are ∙ e in differ n low high (cc))
+    no_command words (λ n other file low high e. let same = sym are ∙ e in differ n low high (cc))
 
 -- fewer or more words are no command
 pub not_five : (words : List (List ℕ)) → length words ≢ 5 → IsNoCommand words
-not_five words differ = no_command words (λ n other low high e. differ (ap length e))
+not_five words differ = no_command words (λ n other file low high e. differ (ap length e))

@@ -6,3 +6,4 @@ pub mod LineFacts
 pub mod RunFacts
 pub mod Rest
 pub mod EndingFacts
+pub mod MeshFacts

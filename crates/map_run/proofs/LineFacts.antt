@@ -4,6 +4,7 @@ use Rattle.std.proofs.lemmas.List.{append-nil}
 use Rattle.map_io.specs.declared.sink.PutFault.{PutFault}
 use Rattle.map_io.specs.declared.sink.PutFault.TheVariants.{Failed, NoMemory}
 use Rattle.map_defs.specs.Outside.{IsFront}
+use Rattle.map_defs.specs.Values.{Meaning}
 use Rattle.map_defs.specs.State.{State}
 use Rattle.map_defs.specs.Script.{Line, line_of}
 use Rattle.map_defs.specs.Text.{Reply, Refused, reply_text, replies_text, is_refused, any_refused}
@@ -40,40 +41,40 @@ one-refused reply = or_false (is_refused reply)
     or_false false = refl
 
 -- what a line answers, where it has one reply
-answer-is : (s new : State) (words : List (List ℕ)) (reply : Reply) (result : Result Bool PutFault) (piece : List ℕ)
-    → Obeys s words (reply ∷ []) new → IsSaid reply result piece → IsAnswered s new words result piece
-answer-is s new words reply (Ok refused) piece obeys p =
+answer-is : (hook : Meaning) (s new : State) (words : List (List ℕ)) (reply : Reply) (result : Result Bool PutFault) (piece : List ℕ)
+    → Obeys hook s words (reply ∷ []) new → IsSaid reply result piece → IsAnswered hook s new words result piece
+answer-is hook s new words reply (Ok refused) piece obeys p =
     (reply ∷ [], obeys, p.0 ∙ one-reply reply, p.1 ∙ one-refused reply)
-answer-is s new words reply (Err Failed) piece obeys p =
+answer-is hook s new words reply (Err Failed) piece obeys p =
     (reply ∷ [], new, obeys, subst (IsFront piece) (one-reply reply) p)
-answer-is s new words reply (Err NoMemory) piece obeys p =
+answer-is hook s new words reply (Err NoMemory) piece obeys p =
     (p.0, inr (reply ∷ [], new, obeys, subst (IsFront piece) (one-reply reply) p.1))
 
-said-line : (before after : Option (List ℕ)) (s new : State) (words : List (List ℕ)) (reply : Reply) (result : Result Bool PutFault)
-    → Obeys s words (reply ∷ []) new → Says before after reply result → AnswersLine before after s new words result
-said-line before after s new words reply result obeys p = record {
+said-line : (hook : Meaning) (before after : Option (List ℕ)) (s new : State) (words : List (List ℕ)) (reply : Reply) (result : Result Bool PutFault)
+    → Obeys hook s words (reply ∷ []) new → Says before after reply result → AnswersLine hook before after s new words result
+said-line hook before after s new words reply result obeys p = record {
   piece = p.piece;
   appended = p.appended;
-  is = answer-is s new words reply result p.piece obeys p.is;
+  is = answer-is hook s new words reply result p.piece obeys p.is;
 }
 
 -- a line that was read and obeyed
-pub AnswersLine-told : (before after : Option (List ℕ)) (s new : State) (words : List (List ℕ)) (line : Line) (reply : Reply) (result : Result Bool PutFault)
-    → line_of words ≡ Some line → Step s line reply new → Says before after reply result → AnswersLine before after s new words result
-AnswersLine-told before after s new words line reply result told step said =
-    said-line before after s new words reply result (obeyed line reply told step refl) said
+pub AnswersLine-told : (hook : Meaning) (before after : Option (List ℕ)) (s new : State) (words : List (List ℕ)) (line : Line) (reply : Reply) (result : Result Bool PutFault)
+    → line_of words ≡ Some line → Step hook s line reply new → Says before after reply result → AnswersLine hook before after s new words result
+AnswersLine-told hook before after s new words line reply result told step said =
+    said-line hook before after s new words reply result (obeyed line reply told step refl) said
 
 -- a line outside the grammar
-pub AnswersLine-unread : (before after : Option (List ℕ)) (s : State) (words : List (List ℕ)) (result : Result Bool PutFault)
-    → words ≢ [] → line_of words ≡ None → Says before after (Refused Syntax) result → AnswersLine before after s s words result
-AnswersLine-unread before after s [] result some none said = absurd (some refl)
-AnswersLine-unread before after s (first ∷ more) result some none said =
-    said-line before after s s (first ∷ more) (Refused Syntax) result (unread first more refl none refl refl) said
+pub AnswersLine-unread : (hook : Meaning) (before after : Option (List ℕ)) (s : State) (words : List (List ℕ)) (result : Result Bool PutFault)
+    → words ≢ [] → line_of words ≡ None → Says before after (Refused Syntax) result → AnswersLine hook before after s s words result
+AnswersLine-unread hook before after s [] result some none said = absurd (some refl)
+AnswersLine-unread hook before after s (first ∷ more) result some none said =
+    said-line hook before after s s (first ∷ more) (Refused Syntax) result (unread first more refl none refl refl) said
 
 -- nothing is written, for want of memory
-pub AnswersLine-nothing : (o : Option (List ℕ)) (s new : State) (words : List (List ℕ)) → AnswersLine o o s new words (Err NoMemory)
-AnswersLine-nothing o s new words = record { piece = []; appended = Appended-nothing o; is = (inl refl, inl refl) }
+pub AnswersLine-nothing : (hook : Meaning) (o : Option (List ℕ)) (s new : State) (words : List (List ℕ)) → AnswersLine hook o o s new words (Err NoMemory)
+AnswersLine-nothing hook o s new words = record { piece = []; appended = Appended-nothing o; is = (inl refl, inl refl) }
 
 -- a line without a word has no reply
-pub AnswersLine-blank : (o : Option (List ℕ)) (s : State) (words : List (List ℕ)) → words ≡ [] → AnswersLine o o s s words (Ok false)
-AnswersLine-blank o s words none = record { piece = []; appended = Appended-nothing o; is = ([], blank none refl refl, refl, refl) }
+pub AnswersLine-blank : (hook : Meaning) (o : Option (List ℕ)) (s : State) (words : List (List ℕ)) → words ≡ [] → AnswersLine hook o o s s words (Ok false)
+AnswersLine-blank hook o s words none = record { piece = []; appended = Appended-nothing o; is = ([], blank none refl refl, refl, refl) }

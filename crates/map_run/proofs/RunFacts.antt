@@ -1,14 +1,15 @@
 -- Runs that go on by one line, and what is written of them.
-use Rattle.std.proofs.Common.{◌≡◌, ℕ, List, [], ◌∷◌, ◌++◌, Option, Ok, Err, Bool, true, false, ◌||◌, ◌==◌, cond, codes, refl, sym, ap, ◌∙◌, subst, append_assoc, inl, inr}
+use Rattle.std.proofs.Common.{◌≡◌, ℕ, List, [], ◌∷◌, ◌++◌, Option, Ok, Err, Bool, true, false, ◌||◌, ◌==◌, cond, codes, refl, sym, ap, ◌∙◌, subst, append_assoc, inl, inr, Some, None}
 use Rattle.std.specs.List.{flat_map}
 use Rattle.std.proofs.lemmas.Grind.{flat_map-append}
 use Rattle.std.proofs.lemmas.List.{append-nil}
 use Rattle.map_io.specs.declared.sink.PutFault.{PutFault}
 use Rattle.map_io.specs.declared.sink.PutFault.TheVariants.{Failed, NoMemory}
 use Rattle.map_defs.specs.Outside.{Appended, IsFront}
+use Rattle.map_defs.specs.Values.{Meaning}
 use Rattle.map_defs.specs.State.{State}
 use Rattle.map_defs.specs.Script.{words_of, lines_of}
-use Rattle.map_defs.specs.Text.{Reply, Done, Truth, Darts, Counts, Shown, Refused, reply_text, replies_text, is_refused, any_refused, ended, spaced, header_text, row_text, value_text}
+use Rattle.map_defs.specs.Text.{Reply, Done, Truth, Darts, Worth, Counts, Shown, Refused, reply_text, replies_text, is_refused, any_refused, ended, spaced, spaced_signed, header_text, row_text, value_text}
 use Rattle.map_defs.specs.Refusal.{number, name}
 use Rattle.map_defs.specs.Machine.{Obeys, Run}
 use Rattle.map_defs.specs.Program.{EndsLine, Begins, run_status}
@@ -26,6 +27,8 @@ reply_ends (Done first count) = done_ends (count == 0) (codes "ok" ++ spaced fir
 reply_ends (Truth true) = inr (codes "true", refl)
 reply_ends (Truth false) = inr (codes "false", refl)
 reply_ends (Darts darts) = inr (codes "cell" ++ flat_map spaced darts, refl)
+reply_ends (Worth None) = inr (codes "value none", refl)
+reply_ends (Worth (Some v)) = inr (codes "value" ++ spaced_signed v.a ++ spaced_signed v.b ++ spaced_signed v.c, refl)
 reply_ends (Counts counts) = inr (codes "count" ++ flat_map spaced counts, refl)
 reply_ends (Shown l) =
     let front : List ℕ = header_text l ++ flat_map row_text l.rows ++ flat_map value_text l.values in
@@ -37,17 +40,17 @@ replies_end [] = inl refl
 replies_end (reply ∷ replies) = EndsLine-then (reply_text reply) (replies_text replies) (reply_ends reply) (replies_end replies)
 
 -- one more line
-pub Run-more : (s mid new : State) (done : List (List ℕ)) (line : List ℕ) (replies here : List Reply)
-    → Run s done replies mid → Obeys mid (words_of line) here new → Run s (done ++ line ∷ []) (replies ++ here) new
-Run-more s mid new [] line replies here run last =
-    let at : Obeys s (words_of line) here new = subst (λ (t : State). Obeys t (words_of line) here new) run.1 last in
+pub Run-more : (hook : Meaning) (s mid new : State) (done : List (List ℕ)) (line : List ℕ) (replies here : List Reply)
+    → Run hook s done replies mid → Obeys hook mid (words_of line) here new → Run hook s (done ++ line ∷ []) (replies ++ here) new
+Run-more hook s mid new [] line replies here run last =
+    let at : Obeys hook s (words_of line) here new = subst (λ (t : State). Obeys hook t (words_of line) here new) run.1 last in
     (here, [], new, at, (refl, refl), ap (λ (rs : List Reply). rs ++ here) run.0 ∙ sym (append-nil here))
-Run-more s mid new (first ∷ done) line replies here run last = (
+Run-more hook s mid new (first ∷ done) line replies here run last = (
   run.0,
   run.1 ++ here,
   run.2,
   run.3,
-  Run-more run.2 mid new done line run.1 here run.4 last,
+  Run-more hook run.2 mid new done line run.1 here run.4 last,
   ap (λ (rs : List Reply). rs ++ here) run.5 ∙ append_assoc run.0 run.1 here,
 )
 
@@ -63,44 +66,44 @@ any-append (reply ∷ replies) here =
 text-append : (replies here : List Reply) → replies_text (replies ++ here) ≡ replies_text replies ++ replies_text here
 text-append replies here = flat_map-append reply_text replies here
 
-pub Going-start : (s : State) (o : Option (List ℕ)) → IsGoing s s [] false o o
-Going-start s o = record { replies = []; run = (refl, refl); any = refl; appended = Appended-nothing o }
+pub Going-start : (hook : Meaning) (s : State) (o : Option (List ℕ)) → IsGoing hook s s [] false o o
+Going-start hook s o = record { replies = []; run = (refl, refl); any = refl; appended = Appended-nothing o }
 
-pub Going-more : (start mid new : State) (done : List (List ℕ)) (line : List ℕ) (refused here : Bool) (before middle after : Option (List ℕ))
-    → IsGoing start mid done refused before middle → AnswersLine middle after mid new (words_of line) (Ok here)
-    → IsGoing start new (done ++ line ∷ []) (refused || here) before after
-Going-more start mid new done line refused here before middle after going answer =
+pub Going-more : (hook : Meaning) (start mid new : State) (done : List (List ℕ)) (line : List ℕ) (refused here : Bool) (before middle after : Option (List ℕ))
+    → IsGoing hook start mid done refused before middle → AnswersLine hook middle after mid new (words_of line) (Ok here)
+    → IsGoing hook start new (done ++ line ∷ []) (refused || here) before after
+Going-more hook start mid new done line refused here before middle after going answer =
     let replies : List Reply = going.replies in
     let own : List Reply = answer.is.0 in
     let a = going.any in
     let b = answer.is.3 in
     record {
       replies = replies ++ own;
-      run = Run-more start mid new done line replies own going.run answer.is.1;
+      run = Run-more hook start mid new done line replies own going.run answer.is.1;
       any = rw (a, b) (sym (any-append replies own));
       appended = subst (Appended before after) (sym (text-append replies own))
           (Appended-then before middle after (replies_text replies) (replies_text own) going.appended (subst (Appended middle after) answer.is.2 answer.appended));
     }
 
-begins-here : (start mid : State) (done after : List (List ℕ)) (line : List ℕ) (lines : List (List ℕ)) (replies : List Reply) (piece : List ℕ)
-    → lines ≡ done ++ line ∷ after → Run start done replies mid → IsFrontOfLine mid (words_of line) piece → Begins start lines (replies_text replies ++ piece)
-begins-here start mid done after line lines replies piece are run front = record {
+begins-here : (hook : Meaning) (start mid : State) (done after : List (List ℕ)) (line : List ℕ) (lines : List (List ℕ)) (replies : List Reply) (piece : List ℕ)
+    → lines ≡ done ++ line ∷ after → Run hook start done replies mid → IsFrontOfLine hook mid (words_of line) piece → Begins hook start lines (replies_text replies ++ piece)
+begins-here hook start mid done after line lines replies piece are run front = record {
   done = done ++ line ∷ [];
   left = after;
   all = are ∙ sym (append_assoc done (line ∷ []) after);
   replies = replies ++ front.0;
   new = front.1;
-  run = Run-more start mid front.1 done line replies front.0 run front.2;
+  run = Run-more hook start mid front.1 done line replies front.0 run front.2;
   begins = subst (IsFront (replies_text replies ++ piece)) (sym (text-append replies front.0)) (IsFront-then (replies_text replies) piece (replies_text front.0) front.3);
 }
 
-cut-is : (start mid new : State) (script : List ℕ) (done after : List (List ℕ)) (line : List ℕ) (fault : PutFault) (replies : List Reply) (piece : List ℕ)
-    → lines_of script ≡ done ++ line ∷ after → Run start done replies mid → IsAnswered mid new (words_of line) (Err fault) piece
-    → IsObeyed start script (Err fault) (replies_text replies ++ piece)
-cut-is start mid new script done after line Failed replies piece are run p = begins-here start mid done after line (lines_of script) replies piece are run p
-cut-is start mid new script done after line NoMemory replies piece are run (ends, inr p) =
-    (EndsLine-then (replies_text replies) piece (replies_end replies) ends, begins-here start mid done after line (lines_of script) replies piece are run p)
-cut-is start mid new script done after line NoMemory replies piece are run (ends, inl none) = (
+cut-is : (hook : Meaning) (start mid new : State) (script : List ℕ) (done after : List (List ℕ)) (line : List ℕ) (fault : PutFault) (replies : List Reply) (piece : List ℕ)
+    → lines_of script ≡ done ++ line ∷ after → Run hook start done replies mid → IsAnswered hook mid new (words_of line) (Err fault) piece
+    → IsObeyed hook start script (Err fault) (replies_text replies ++ piece)
+cut-is hook start mid new script done after line Failed replies piece are run p = begins-here hook start mid done after line (lines_of script) replies piece are run p
+cut-is hook start mid new script done after line NoMemory replies piece are run (ends, inr p) =
+    (EndsLine-then (replies_text replies) piece (replies_end replies) ends, begins-here hook start mid done after line (lines_of script) replies piece are run p)
+cut-is hook start mid new script done after line NoMemory replies piece are run (ends, inl none) = (
   EndsLine-then (replies_text replies) piece (replies_end replies) ends,
   record {
     done = done;
@@ -114,23 +117,23 @@ cut-is start mid new script done after line NoMemory replies piece are run (ends
 )
 
 -- the script is cut short at a line
-pub Going-cut : (start mid new : State) (script : List ℕ) (done after : List (List ℕ)) (line : List ℕ) (refused : Bool) (fault : PutFault) (before middle end : Option (List ℕ))
-    → lines_of script ≡ done ++ line ∷ after → IsGoing start mid done refused before middle → AnswersLine middle end mid new (words_of line) (Err fault)
-    → ObeysScript before end start script (Err fault)
-Going-cut start mid new script done after line refused fault before middle end are going answer = record {
+pub Going-cut : (hook : Meaning) (start mid new : State) (script : List ℕ) (done after : List (List ℕ)) (line : List ℕ) (refused : Bool) (fault : PutFault) (before middle end : Option (List ℕ))
+    → lines_of script ≡ done ++ line ∷ after → IsGoing hook start mid done refused before middle → AnswersLine hook middle end mid new (words_of line) (Err fault)
+    → ObeysScript hook before end start script (Err fault)
+Going-cut hook start mid new script done after line refused fault before middle end are going answer = record {
   piece = replies_text going.replies ++ answer.piece;
   appended = Appended-then before middle end (replies_text going.replies) answer.piece going.appended answer.appended;
-  is = cut-is start mid new script done after line fault going.replies answer.piece are going.run answer.is;
+  is = cut-is hook start mid new script done after line fault going.replies answer.piece are going.run answer.is;
 }
 
 -- the script is obeyed to its end
-pub Going-end : (start new : State) (script : List ℕ) (done : List (List ℕ)) (refused : Bool) (before after : Option (List ℕ))
-    → lines_of script ≡ done ++ [] → IsGoing start new done refused before after → ObeysScript before after start script (Ok refused)
-Going-end start new script done refused before after are going =
+pub Going-end : (hook : Meaning) (start new : State) (script : List ℕ) (done : List (List ℕ)) (refused : Bool) (before after : Option (List ℕ))
+    → lines_of script ≡ done ++ [] → IsGoing hook start new done refused before after → ObeysScript hook before after start script (Ok refused)
+Going-end hook start new script done refused before after are going =
     let all : lines_of script ≡ done = are ∙ append-nil done in
     let a = going.any in
     record {
       piece = replies_text going.replies;
       appended = going.appended;
-      is = (going.replies, new, subst (λ (ls : List (List ℕ)). Run start ls going.replies new) (sym all) going.run, refl, ap run_status a);
+      is = (going.replies, new, subst (λ (ls : List (List ℕ)). Run hook start ls going.replies new) (sym all) going.run, refl, ap run_status a);
     }

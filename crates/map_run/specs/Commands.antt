@@ -1,5 +1,6 @@
 -- What the program's commands stand for.
-use Rattle.std.specs.Prelude.{ℕ, ◌≡◌, ◌≤◌, List, Option, Some, None}
+use Rattle.std.specs.Prelude.{ℕ, ◌≡◌, ◌≢◌, ◌≤◌, List, Option, Some, None}
+use Rattle.std.specs.Borrow.{Bor}
 use Rattle.std.specs.Fmt.{decimal}
 use Rattle.map_defs.specs.Kind.{alpha}
 use Rattle.map_defs.specs.Program as told
@@ -17,5 +18,14 @@ abbrev pub IsNumbered : Option Dimension → List ℕ → Type 0
 IsNumbered (Some dimension) word = word ≡ decimal (number dimension)
 IsNumbered None word = (n : ℕ) → 2 ≤ n → n ≤ 4 → word ≡ decimal n → ⊥
 
+-- the name of a mesh, if there is one
+abbrev pub mesh_name : Option (Bor (List ℕ)) → Option (List ℕ)
+mesh_name None = None
+mesh_name (Some name) = Some name.now
+
+-- the word stands for this choice of a mesh
+abbrev pub IsMeshNamed : Option (Bor (List ℕ)) → List ℕ → Type 0
+IsMeshNamed mesh word = (told.mesh_word (mesh_name mesh) ≡ word) × (mesh_name mesh ≢ Some told.no_mesh)
+
 abbrev pub command_of : RunScript → told.Command
-command_of command = told.RunScript alpha (number command.dimension) command.script.now
+command_of command = told.RunScript alpha (number command.dimension) (mesh_name command.mesh) command.script.now

@@ -2,6 +2,7 @@
 use Rattle.std.specs.Prelude.{ℕ, ◌≡◌, ◌⊎◌, List, [], Option, Result, Ok, Err, Bool, true, false}
 use Rattle.map_io.specs.declared.sink.PutFault.{PutFault}
 use Rattle.map_io.specs.declared.sink.PutFault.TheVariants.{Failed, NoMemory}
+use Rattle.map_defs.specs.Values.{Meaning}
 use Rattle.map_defs.specs.Outside.{Files, Appended, IsFront}
 use Rattle.map_defs.specs.Program.{Outcome, Answers}
 
@@ -25,13 +26,13 @@ status_of (Err NoMemory) = 7
 
 -- What a call appended, with its outcome. Where the sink does not tell what was written, the outcome still tells of the
 -- status.
-pub record Ends (before after : Option (List ℕ)) (words : List (List ℕ)) (files : Files) (shelf_rose sink_rose : Type 0) (status : ℕ) : Type 0 where
+pub record Ends (hook : Meaning) (before after : Option (List ℕ)) (words : List (List ℕ)) (files : Files) (shelf_rose sink_rose : Type 0) (status : ℕ) : Type 0 where
   pub text : List ℕ
   pub appended : Appended before after text
-  pub outcome : Outcome words files shelf_rose sink_rose status text
+  pub outcome : Outcome hook words files shelf_rose sink_rose status text
 
 -- What a call appended is the whole text, and the status is that of the text.
-pub record EndsWhole (before after : Option (List ℕ)) (words : List (List ℕ)) (files : Files) (status : ℕ) : Type 0 where
+pub record EndsWhole (hook : Meaning) (before after : Option (List ℕ)) (words : List (List ℕ)) (files : Files) (status : ℕ) : Type 0 where
   pub text : List ℕ
   pub appended : Appended before after text
-  pub answers : Answers words files text status
+  pub answers : Answers hook words files text status

@@ -3,5 +3,7 @@ pub mod Lines
 pub mod Writing
 pub mod Going
 pub mod Ending
+pub mod Loads
+pub mod Texts
 pub use Rattle.map_defs.specs.Program
 pub use Rattle.map_defs.specs.Outside

@@ -4,6 +4,7 @@ use Rattle.map_io.specs.declared.sink.PutFault.{PutFault}
 use Rattle.map_io.specs.declared.sink.PutFault.TheVariants.{Failed, NoMemory}
 use Rattle.map_defs.specs.Outside.{Appended, IsFront}
 use Rattle.map_defs.specs.Program.{EndsLine}
+use Rattle.map_defs.specs.Values.{Meaning}
 use Rattle.map_defs.specs.State.{State}
 use Rattle.map_defs.specs.Text.{Reply, reply_text, replies_text, is_refused, any_refused}
 use Rattle.map_defs.specs.Machine.{Obeys}
@@ -20,20 +21,20 @@ pub record Writes (before after : Option (List ℕ)) (result : Result (Unit {0})
   pub is : IsWritten text result piece
 
 -- a front of what a line answers
-abbrev pub IsFrontOfLine : State → List (List ℕ) → List ℕ → Type 0
-IsFrontOfLine s words piece = (replies : List Reply) × (new : State) × Obeys s words replies new × IsFront piece (replies_text replies)
+abbrev pub IsFrontOfLine : Meaning → State → List (List ℕ) → List ℕ → Type 0
+IsFrontOfLine hook s words piece = (replies : List Reply) × (new : State) × Obeys hook s words replies new × IsFront piece (replies_text replies)
 
 -- The answer to one line: whether it was refused. Want of memory may come before the reply is known.
-abbrev pub IsAnswered : State → State → List (List ℕ) → Result Bool PutFault → List ℕ → Type 0
-IsAnswered s new words (Ok refused) piece =
-    (replies : List Reply) × Obeys s words replies new × (piece ≡ replies_text replies) × (refused ≡ any_refused replies)
-IsAnswered s new words (Err Failed) piece = IsFrontOfLine s words piece
-IsAnswered s new words (Err NoMemory) piece = EndsLine piece × ((piece ≡ []) ⊎ IsFrontOfLine s words piece)
+abbrev pub IsAnswered : Meaning → State → State → List (List ℕ) → Result Bool PutFault → List ℕ → Type 0
+IsAnswered hook s new words (Ok refused) piece =
+    (replies : List Reply) × Obeys hook s words replies new × (piece ≡ replies_text replies) × (refused ≡ any_refused replies)
+IsAnswered hook s new words (Err Failed) piece = IsFrontOfLine hook s words piece
+IsAnswered hook s new words (Err NoMemory) piece = EndsLine piece × ((piece ≡ []) ⊎ IsFrontOfLine hook s words piece)
 
-pub record AnswersLine (before after : Option (List ℕ)) (s new : State) (words : List (List ℕ)) (result : Result Bool PutFault) : Type 0 where
+pub record AnswersLine (hook : Meaning) (before after : Option (List ℕ)) (s new : State) (words : List (List ℕ)) (result : Result Bool PutFault) : Type 0 where
   pub piece : List ℕ
   pub appended : Appended before after piece
-  pub is : IsAnswered s new words result piece
+  pub is : IsAnswered hook s new words result piece
 
 -- The reply was written whole, and it is told whether it is a refusal; or a front of it was written.
 abbrev pub IsSaid : Reply → Result Bool PutFault → List ℕ → Type 0

@@ -1,15 +1,16 @@
 //! What the map answers, as the program says it.
 ghost use Rattle.std.specs.Prelude.{◌≡◌, IfOk, OnOk};
+ghost use Rattle.map_defs.specs.Values.{Meaning};
 ghost use Rattle.map_defs.specs.State.{State};
 ghost use Rattle.map_defs.specs.Script.{Line as MapLine};
 ghost use Rattle.map_defs.specs.Machine.{Step};
-ghost use Rattle.map_defs.specs.Text.{Truth, Darts, Counts, is_refused};
+ghost use Rattle.map_defs.specs.Text.{Truth, Darts, Worth, Counts, is_refused};
 ghost use Rattle.map_core.specs.Calls.{Does, Answers, Tells};
 ghost use Rattle.map_run.specs.Lines.{answer_meaning};
 
 use list_text::Listing;
 use map_core::Done;
-use map_kind::{Dart, Refusal, Refused};
+use map_kind::{Dart, Refusal, Refused, Value};
 use script_text::{Births, Reply};
 use std::alloc::AllocError;
 
@@ -34,7 +35,7 @@ impl Answer {
 
 /// What is said of a changing line.
 pub fn done(done: Result<Done, Refused>) -> Result<Answer, AllocError>
-    ensures { (s : State) (new : State) (line : MapLine) → Does s line done new → IfOk result (λ answer. Step s line (answer_meaning answer) new) }
+    ensures { (hook : Meaning) (s : State) (new : State) (line : MapLine) → Does hook s line done new → IfOk result (λ answer. Step hook s line (answer_meaning answer) new) }
 {
     match done {
         Ok(Done { first, count }) => Ok(Answer::Line(Reply::Done(Births { first, count }))),
@@ -45,7 +46,7 @@ pub fn done(done: Result<Done, Refused>) -> Result<Answer, AllocError>
 
 /// What is said of a question of yes or no.
 pub fn truth(answer: Result<bool, Refused>) -> Result<Answer, AllocError>
-    ensures { (s : State) (line : MapLine) → Answers s line Truth answer → IfOk result (λ said. Step s line (answer_meaning said) s) }
+    ensures { (hook : Meaning) (s : State) (line : MapLine) → Answers hook s line Truth answer → IfOk result (λ said. Step hook s line (answer_meaning said) s) }
 {
     match answer {
         Ok(answer) => Ok(Answer::Line(Reply::Truth(answer))),
@@ -56,7 +57,7 @@ pub fn truth(answer: Result<bool, Refused>) -> Result<Answer, AllocError>
 
 /// What is said of a question of yes or no that takes no memory.
 pub fn told(answer: Result<bool, Refusal>) -> Result<Answer, AllocError>
-    ensures { (s : State) (line : MapLine) → Tells s line Truth answer → IfOk result (λ said. Step s line (answer_meaning said) s) }
+    ensures { (hook : Meaning) (s : State) (line : MapLine) → Tells hook s line Truth answer → IfOk result (λ said. Step hook s line (answer_meaning said) s) }
 {
     match answer {
         Ok(answer) => Ok(Answer::Line(Reply::Truth(answer))),
@@ -64,9 +65,19 @@ pub fn told(answer: Result<bool, Refusal>) -> Result<Answer, AllocError>
     }
 }
 
+/// What is said of the value of a cell.
+pub fn worth(value: Result<Option<Value>, Refusal>) -> Result<Answer, AllocError>
+    ensures { (hook : Meaning) (s : State) (line : MapLine) → Tells hook s line Worth value → IfOk result (λ said. Step hook s line (answer_meaning said) s) }
+{
+    match value {
+        Ok(value) => Ok(Answer::Line(Reply::Value(value))),
+        Err(refusal) => Ok(Answer::Line(Reply::No(refusal))),
+    }
+}
+
 /// What is said of the darts of a cell.
 pub fn darts(darts: Result<Vec<Dart>, Refused>) -> Result<Answer, AllocError>
-    ensures { (s : State) (line : MapLine) → Answers s line (λ found. Darts found.items) darts → IfOk result (λ said. Step s line (answer_meaning said) s) }
+    ensures { (hook : Meaning) (s : State) (line : MapLine) → Answers hook s line (λ found. Darts found.items) darts → IfOk result (λ said. Step hook s line (answer_meaning said) s) }
 {
     match darts {
         Ok(darts) => Ok(Answer::Line(Reply::Cell(darts))),
@@ -77,7 +88,7 @@ pub fn darts(darts: Result<Vec<Dart>, Refused>) -> Result<Answer, AllocError>
 
 /// What is said of the counts of a map.
 pub fn counts(counts: Result<Vec<u64>, AllocError>) -> Result<Answer, AllocError>
-    ensures { (s : State) (line : MapLine) → IfOk counts (λ found. Step s line (Counts found.items) s) → IfOk result (λ said. Step s line (answer_meaning said) s) }
+    ensures { (hook : Meaning) (s : State) (line : MapLine) → IfOk counts (λ found. Step hook s line (Counts found.items) s) → IfOk result (λ said. Step hook s line (answer_meaning said) s) }
 {
     Ok(Answer::Line(Reply::Count(counts?)))
 }

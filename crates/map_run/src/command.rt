@@ -2,7 +2,7 @@
 ghost use Rattle.std.specs.Prelude.{◌≡◌, ℕ, map, IsNone, IfSome, string_bytes, codes, IsTrue, ◌↔◌, ◌≤◌, None, Some};
 ghost use Rattle.map_defs.specs.Kind.{alpha};
 ghost use Rattle.map_defs.specs.Program.{RunScript, Tells, IsNoCommand};
-ghost use Rattle.map_run.specs.Commands.{number, IsNumbered, command_of};
+ghost use Rattle.map_run.specs.Commands.{number, IsNumbered, IsMeshNamed, command_of};
 
 /// The dimensions that the program offers.
 #[derive(Clone, Copy, Debug, PartialEq, Eq)]
@@ -12,10 +12,12 @@ pub enum Dimension {
     Four,
 }
 
-/// The command `run g DIM - SCRIPT`: run a script over the empty generalized map of a dimension.
+/// The command `run g DIM MESH SCRIPT`: run a script over a generalized map of a dimension.
 #[derive(Clone, Copy, Debug, PartialEq, Eq)]
 pub struct RunScript<'a> {
     pub dimension: Dimension,
+    /// The name of the mesh that makes the map; none for the empty map.
+    pub mesh: Option<&'a str>,
     /// The name of the script.
     pub script: &'a str,
 }
@@ -28,20 +30,28 @@ pub fn read_command(words: &[String]) -> Option<RunScript<'_>>
     let [run, kind, dimension, mesh, script] = words else {
         return None;
     };
-    if !is_run_of_empty_map(run.as_str(), kind.as_str(), mesh.as_str()) {
+    if !is_run(run.as_str(), kind.as_str()) {
         return None;
     }
     let dimension = read_dimension(dimension.as_str())?;
     Some(RunScript {
         dimension,
+        mesh: read_mesh(mesh.as_str()),
         script: script.as_str(),
     })
 }
 
-fn is_run_of_empty_map(run: &str, kind: &str, mesh: &str) -> bool
-    ensures { IsTrue result ↔ ((run.now ≡ codes "run") × (kind.now ≡ codes "g") × (mesh.now ≡ codes "-")) }
+fn is_run(run: &str, kind: &str) -> bool
+    ensures { IsTrue result ↔ ((run.now ≡ codes "run") × (kind.now ≡ codes "g")) }
 {
-    run == "run" && kind == "g" && mesh == "-"
+    run == "run" && kind == "g"
+}
+
+/// The name of a mesh; none for `-`.
+fn read_mesh(word: &str) -> Option<&str>
+    ensures { IsMeshNamed result word.now }
+{
+    if word == "-" { None } else { Some(word) }
 }
 
 fn read_dimension(word: &str) -> Option<Dimension>

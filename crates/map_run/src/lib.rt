@@ -3,7 +3,11 @@
 
 mod answer;
 mod command;
+mod files;
+mod last;
 mod machine;
+mod mesh;
+mod obey;
 mod program;
 mod reply;
 mod script;

@@ -7,8 +7,9 @@ ghost use Rattle.script_text.specs.Meanings.{line_meaning};
 ghost use Rattle.map_run.specs.Lines.{answer_meaning};
 ghost use Rattle.map_run.specs.Writing.{AnswersLine, Says};
 
-use crate::answer::{Answer, counts, darts, done, told, truth};
+use crate::answer::{Answer, counts, darts, done, told, truth, worth};
 use crate::reply;
+use attr_rules::Hook;
 use map_core::Map;
 use map_io::{PutFault, Sink};
 use map_kind::{Kind, Refusal, Refused};
@@ -16,13 +17,15 @@ use script_text::{Line, Reply, read_line};
 use std::alloc::{AllocError, Global};
 
 /// Obeys one line, writes its reply, and answers whether it was refused.
-pub fn obey_line<K: Kind, const DIM: usize, S: Sink>(
+pub fn obey_line<K: Kind, H: Hook, const DIM: usize, S: Sink>(
     alloc: Global,
     line: &[u8],
-    map: &mut Map<K, DIM>,
+    map: &mut Map<'_, K, H, DIM>,
     out: &mut S,
 ) -> Result<bool, PutFault>
-    ensures answered { AnswersLine (S.written out.old) (S.written out.new) map.old map.new (words_of line.now) result }
+    requires { H.ready map.old.hook }
+    ensures answered { AnswersLine (H.meaning map.old.hook) (S.written out.old) (S.written out.new) map.old.state map.new.state (words_of line.now) result }
+    ensures hook { map.new.hook ≡ map.old.hook }
     ensures cause { HasCause (S.faults out.old) (S.faults out.new) (IsErrOf result PutFault.Failed) }
 {
     match read_line(alloc, line) {
@@ -48,12 +51,14 @@ fn say<S: Sink>(alloc: Global, out: &mut S, answer: &Answer) -> Result<bool, Put
 }
 
 /// Has the map obey a line that was read, and answers what it answers.
-fn step<K: Kind, const DIM: usize>(
+fn step<K: Kind, H: Hook, const DIM: usize>(
     alloc: Global,
     line: &Line,
-    map: &mut Map<K, DIM>,
+    map: &mut Map<'_, K, H, DIM>,
 ) -> Result<Answer, AllocError>
-    ensures { IfOk result (λ answer. Step map.old (line_meaning line.now) (answer_meaning answer) map.new) }
+    requires { H.ready map.old.hook }
+    ensures hook { map.new.hook ≡ map.old.hook }
+    ensures step { IfOk result (λ answer. Step (H.meaning map.old.hook) map.old.state (line_meaning line.now) (answer_meaning answer) map.new.state) }
 {
     match line {
         Line::Polygon(sides) => done(map.polygon(alloc, *sides)),
@@ -61,6 +66,12 @@ fn step<K: Kind, const DIM: usize>(
         Line::Del(dart) => done(map.del(alloc, *dart)),
         Line::Sew(link, one, other) => done(map.sew(alloc, *link, *one, *other)),
         Line::Unsew(link, dart) => done(map.unsew(alloc, *link, *dart)),
+        Line::Rule(dim, merge, split) => {
+            done(map.rule(alloc, *dim, merge.as_str(), split.as_str()))
+        }
+        Line::Set(dim, dart, value) => done(map.set(alloc, *dim, *dart, *value)),
+        Line::Clear(dim, dart) => done(map.clear(alloc, *dim, *dart)),
+        Line::Value(dim, dart) => worth(map.value(*dim, *dart)),
         Line::Cell(dim, dart) => darts(map.cell(alloc, *dim, *dart)),
         Line::Same(dim, one, other) => truth(map.same(alloc, *dim, *one, *other)),
         Line::Free(link, dart) => told(map.free(*link, *dart)),
@@ -73,13 +84,9 @@ fn step<K: Kind, const DIM: usize>(
         | Line::Remove(_, _)
         | Line::Contract(_, _)
         | Line::Dual
-        | Line::Rule(_, _, _)
-        | Line::Set(_, _, _)
-        | Line::Clear(_, _)
         | Line::Mark(_)
         | Line::Undo(_)
         | Line::Log(_)
-        | Line::Value(_, _)
         | Line::Removable(_, _)
         | Line::Contractible(_, _)
         | Line::Off => Ok(Answer::Line(Reply::No(Refusal::Syntax))),

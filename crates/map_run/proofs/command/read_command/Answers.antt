@@ -3,7 +3,7 @@ use Rattle.std.specs.declared.alloc.Global.{Global}
 use Rattle.std.proofs.lemmas.Bool.{true≢false}
 use Rattle.map_defs.specs.Kind.{alpha}
 use Rattle.map_defs.specs.Program.{RunScript}
-use Rattle.map_run.specs.Commands.{number}
+use Rattle.map_run.specs.Commands.{number, mesh_name}
 use Rattle.map_run.specs.declared.command.Dimension.{Dimension}
 use Rattle.map_run.specs.declared.command.Dimension.TheVariants.{Two, Three, Four}
 use Rattle.map_run.proofs.Commands.{five, as_told, not_numbered}
@@ -31,7 +31,7 @@ returns-in_err-dimension-clause-none c =
     (five ws c.run-item.result c.kind-item.result c.dimension-item.result c.mesh-item.result c.script-item.result len c.run-item.is c.kind-item.is c.dimension-item.is c.mesh-item.is c.script-item.is) in
     let none = rw c.in_err-dimension.was at c.read_dimension.ensures in (
       λ _. not_numbered (map string_bytes ws) (string_bytes c.run-item.result) (string_bytes c.kind-item.result) (string_bytes c.dimension-item.result) (string_bytes c.mesh-item.result) (string_bytes c.script-item.result) are
-          (λ n least most is. none n least most (c.as_str-4.ensures.value ∙ is)),
+          (λ n least most is. none n least most (c.as_str-3.ensures.value ∙ is)),
       λ _. rw c.from_residual.ensures refl,
     )
 
@@ -41,9 +41,24 @@ returns-clause-none c =
     let len : length ws ≡ 5 = omega arith in
     let are = bytes ws c.run-item.result c.kind-item.result c.dimension-item.result c.mesh-item.result c.script-item.result
     (five ws c.run-item.result c.kind-item.result c.dimension-item.result c.mesh-item.result c.script-item.result len c.run-item.is c.kind-item.is c.dimension-item.is c.mesh-item.is c.script-item.is) in
-    let same = c.is_run_of_empty_map.ensures.0 c.if-not-is_run_of_empty_map.false in
+    let same = c.is_run.ensures.0 c.if-not-is_run.false in
     let n : Dimension = c.in_ok-dimension.dimension in
     let is = rw c.in_ok-dimension.was at c.read_dimension.ensures in
-    let told = as_told (map string_bytes ws) (string_bytes c.run-item.result) (string_bytes c.kind-item.result) (string_bytes c.dimension-item.result) (string_bytes c.mesh-item.result) (string_bytes c.script-item.result) (number n) are
-    (sym c.as_str.ensures.value ∙ same.0, sym c.as_str-2.ensures.value ∙ same.1, sym c.as_str-3.ensures.value ∙ same.2) (sym c.as_str-4.ensures.value ∙ is) (low n) (high n) in
-    (λ e. absurd (true≢false e), λ nothing. absurd (nothing (RunScript alpha (number n) (string_bytes c.script-item.result)) told))
+    let named = c.read_mesh.ensures in
+    let told = as_told (map string_bytes ws) (string_bytes c.run-item.result) (string_bytes c.kind-item.result) (string_bytes c.dimension-item.result) (string_bytes c.mesh-item.result) (string_bytes c.script-item.result) (number n) (mesh_name c.read_mesh.result) are
+    (sym c.as_str.ensures.value ∙ same.0, sym c.as_str-2.ensures.value ∙ same.1) (named.0 ∙ c.as_str-4.ensures.value, named.1) (sym c.as_str-3.ensures.value ∙ is) (low n) (high n) in
+    (λ e. absurd (true≢false e), λ nothing. absurd (nothing (RunScript alpha (number n) (mesh_name c.read_mesh.result) (string_bytes c.script-item.result)) told))
+
+pub returns-clause-told : goal.returns-clause-told
+returns-clause-told c =
+    let ws = c.args.words.now in
+    let len : length ws ≡ 5 = omega arith in
+    let are = bytes ws c.run-item.result c.kind-item.result c.dimension-item.result c.mesh-item.result c.script-item.result
+    (five ws c.run-item.result c.kind-item.result c.dimension-item.result c.mesh-item.result c.script-item.result len c.run-item.is c.kind-item.is c.dimension-item.is c.mesh-item.is c.script-item.is) in
+    let same = c.is_run.ensures.0 c.if-not-is_run.false in
+    let n : Dimension = c.in_ok-dimension.dimension in
+    let is = rw c.in_ok-dimension.was at c.read_dimension.ensures in
+    let named = c.read_mesh.ensures in
+    let told = as_told (map string_bytes ws) (string_bytes c.run-item.result) (string_bytes c.kind-item.result) (string_bytes c.dimension-item.result) (string_bytes c.mesh-item.result) (string_bytes c.script-item.result) (number n) (mesh_name c.read_mesh.result) are
+    (sym c.as_str.ensures.value ∙ same.0, sym c.as_str-2.ensures.value ∙ same.1) (named.0 ∙ c.as_str-4.ensures.value, named.1) (sym c.as_str-3.ensures.value ∙ is) (low n) (high n) in
+    rw c.as_str-5.ensures.value told

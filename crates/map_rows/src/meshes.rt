@@ -1,0 +1,179 @@
+//! Scripts over meshes, and meshes that are refused.
+ghost use Rattle.std.specs.Prelude.{None};
+
+use attr_rules::FirstCopy;
+use map_io::{FetchFault, Shelf, SureSink};
+use std::alloc::{AllocError, Global};
+use std::process::Abort;
+
+/// A mesh, a script, what the program writes for them, and its status.
+struct MeshRow {
+    mesh: &'static str,
+    script: &'static str,
+    text: &'static str,
+    status: u8,
+}
+
+/// The files `m` and `s`.
+#[derive(Drop)]
+struct TwoFiles {
+    mesh: &'static str,
+    script: &'static str,
+    faults: u64,
+}
+
+impl Shelf for TwoFiles {
+    ghost holds = { λ _. None };
+
+    ghost faults = { λ shelf. shelf.faults };
+
+    ghost may_ask = { λ _ _. Unit {0} };
+
+    fn fetch(&mut self, alloc: Global, name: &str, limit: u64) -> Result<Vec<u8>, FetchFault> {
+        let text = if name == "m" { self.mesh } else { self.script };
+        if text.len() as u64 > limit {
+            self.faults = self.faults.saturating_add(1);
+            return Err(FetchFault::Failed);
+        }
+        Vec::from_slice(alloc, text.as_bytes()).map_err(|_| FetchFault::NoMemory)
+    }
+}
+
+/// Runs each row in a dimension, and compares the text and the status.
+fn check_meshes(
+    rt: &impl Abort,
+    alloc: Global,
+    dim: &str,
+    rows: &[MeshRow],
+) -> Result<(), AllocError> {
+    for row in rows {
+        let mut words = Vec::new(alloc);
+        for word in ["run", "g", dim, "m", "s"] {
+            words.push(String::from_str(alloc, word)?)?;
+        }
+        let mut shelf = TwoFiles {
+            mesh: row.mesh,
+            script: row.script,
+            faults: 0,
+        };
+        let mut out = SureSink::new(alloc);
+        let status = map_run::run(alloc, words.as_slice(), &mut shelf, &mut out, &FirstCopy);
+        assert_eq!(rt; out.written(), row.text.as_bytes(), "{}", row.mesh);
+        assert_eq!(rt; status, row.status, "{}", row.mesh);
+    }
+    Ok(())
+}
+
+const MESHES: [MeshRow; 14] = [
+    // a cube, with a point that no face has
+    MeshRow {
+        mesh: "OFF  # a cube of side two\n9 6 0\n\n0 0 0\n2.000 0 0\n2 2 0\n0 2.0 0\n0 0 2\n2 0 2\n2 2 2\n0 2 2\n9 9 9   # used by no face\n4  0 3 2 1  255 0 0\n4  4 5 6 7  0 255 0\n4  0 1 5 4\n4  1 2 6 5\n4  2 3 7 6\n4  3 0 4 7\n",
+        script: "count\ncell 0 1\nvalue 0 1\n",
+        text: "count 48 8 12 6 1\ncell 1 8 17 24 42 43\nvalue 0 0 0\n",
+        status: 0,
+    },
+    // three sides at one edge
+    MeshRow {
+        mesh: "OFF\n5 3 0\n0 0 0\n1 0 0\n0 1 0\n0 0 1\n0 2 2\n3 0 1 2\n3 1 0 3\n3 0 1 4\n",
+        script: "",
+        text: "off face 2 ThreeSides\n",
+        status: 3,
+    },
+    // two sides that lead the same way can be sewn in a generalized map
+    MeshRow {
+        mesh: "OFF\n4 2 0\n0 0 0\n1 0 0\n0 1 0\n0 0 1\n3 0 1 2\n3 0 1 3\n",
+        script: "",
+        text: "",
+        status: 0,
+    },
+    // a face that is cut off
+    MeshRow {
+        mesh: "OFF\n3 1 0\n0 0 0\n4 0 0\n0 3 0\n3 0 1\n",
+        script: "polygon 3\n",
+        text: "off line 6 Short\n",
+        status: 3,
+    },
+    // the first line
+    MeshRow {
+        mesh: "COFF\n",
+        script: "",
+        text: "off line 1 NoHeader\n",
+        status: 3,
+    },
+    MeshRow {
+        mesh: "",
+        script: "",
+        text: "off line 1 NoHeader\n",
+        status: 3,
+    },
+    MeshRow {
+        mesh: "OFF\n",
+        script: "",
+        text: "off line 2 Short\n",
+        status: 3,
+    },
+    MeshRow {
+        mesh: "OFF\n3 1\n0 0 0\n4 0 0\n0 3 0\n3 0 1 2\n",
+        script: "",
+        text: "off line 2 BadCounts\n",
+        status: 3,
+    },
+    // points
+    MeshRow {
+        mesh: "OFF\n3 1 0\n0 0 0.5\n4 0 0\n0 3 0\n3 0 1 2\n",
+        script: "",
+        text: "off line 3 NotInteger\n",
+        status: 3,
+    },
+    MeshRow {
+        mesh: "OFF\n3 1 0\n9223372036854775808 0 0\n4 0 0\n0 3 0\n3 0 1 2\n",
+        script: "",
+        text: "off line 3 OutOfRange\n",
+        status: 3,
+    },
+    // faces
+    MeshRow {
+        mesh: "OFF\n3 1 0\n0 0 0\n4 0 0\n0 3 0\n2 0 1\n",
+        script: "",
+        text: "off line 6 BadFace\n",
+        status: 3,
+    },
+    MeshRow {
+        mesh: "OFF\n3 1 0\n0 0 0\n4 0 0\n0 3 0\n3 0 1 3\n",
+        script: "",
+        text: "off line 6 BadIndex\n",
+        status: 3,
+    },
+    MeshRow {
+        mesh: "OFF\n3 1 0\n0 0 0\n4 0 0\n0 3 0\n3 0 1 1\n",
+        script: "",
+        text: "off face 0 Repeated\n",
+        status: 3,
+    },
+    MeshRow {
+        mesh: "OFF\n3 1 0\n0 0 0\n4 0 0\n0 3 0\n3 0 1 2\n0 0 0\n",
+        script: "",
+        text: "off line 7 Extra\n",
+        status: 3,
+    },
+];
+
+const BOXES: [MeshRow; 1] = [
+    // two cubes, whose tops are sewn
+    MeshRow {
+        mesh: "OFF\n16 12 0\n0 0 0\n2 0 0\n2 2 0\n0 2 0\n0 0 2\n2 0 2\n2 2 2\n0 2 2\n0 0 2\n2 0 2\n2 2 2\n0 2 2\n0 0 4\n2 0 4\n2 2 4\n0 2 4\n4 0 3 2 1\n4 4 5 6 7\n4 0 1 5 4\n4 1 2 6 5\n4 2 3 7 6\n4 3 0 4 7\n4 8 11 10 9\n4 12 13 14 15\n4 8 9 13 12\n4 9 10 14 13\n4 10 11 15 14\n4 11 8 12 15\n",
+        script: "count\nvalue 0 54\nsew 3 9 54\ncount\nvalue 0 54\nunsew 3 9\nvalue 0 54\ncount\n",
+        text: "count 96 16 24 12 2 2\nvalue 2 0 2\nok\ncount 96 12 20 11 2 1\nvalue 0 0 2\nok\nvalue 0 0 2\ncount 96 16 24 12 2 2\n",
+        status: 0,
+    },
+];
+
+#[test]
+fn meshes_in_dimension_2(rt: HostRuntime) -> Result<(), AllocError> {
+    check_meshes(&rt, rt.alloc(), "2", &MESHES)
+}
+
+#[test]
+fn meshes_in_dimension_3(rt: HostRuntime) -> Result<(), AllocError> {
+    check_meshes(&rt, rt.alloc(), "3", &BOXES)
+}
