@@ -1,5 +1,8 @@
-ghost use Rattle.std.specs.Prelude.{◌≡◌, ℕ, ◌+◌, ◌≤◌, ◌<◌, ◌↔◌, [], ◌∷◌, None, Some, option_copied, IsNone, IsSome, IfSome, IfNone, IsOk, OnOk, OnErr, IsErrOf};
-ghost use Rattle.dart_arena.specs.Stock.{made, row_at, IsLive, live_count, IsKept, born, unborn, buried, revived, replaced, IsNextLive};
+ghost use Rattle.std.specs.Prelude.{◌≡◌, ℕ, ◌+◌, ◌*◌, ◌^◌, ◌≤◌, ◌<◌, ◌↔◌, ◌++◌, [], ◌∷◌, None, length, replicate, slice_index_or, false, vec_len, vec_capacity, IsTrue, IfSome, IfNone, IsOk, OnOk, OnErr, IsErrOf};
+ghost use Rattle.map_defs.specs.Rows.{links_of};
+ghost use Rattle.map_defs.specs.Edits.{free_row, with_entry};
+ghost use Rattle.dart_arena.specs.Stock.{made, row_at, IsLive, live_count, IsKept, born, unborn, buried, revived, IsNextLive};
+ghost use Rattle.dart_arena.specs.Table.{zeroed};
 
 use map_kind::Dart;
 use std::alloc::Global;
@@ -7,6 +10,9 @@ use std::marker::Model;
 
 /// How many darts are ever made at most.
 pub const MADE_MAX: u32 = 4_194_304;
+
+/// The greatest dimension of a map.
+pub const DIM_MAX: usize = 8;
 
 /// Why no room is made.
 #[derive(Clone, Copy, Debug, PartialEq, Eq)]
@@ -17,43 +23,58 @@ pub enum ReserveFault {
     NoMemory,
 }
 
-/// A row for each live dart, under the dart's number. A dart dies when its row is taken away, and its number is not
-/// given again; only the last birth can be taken back with its number.
+/// A row for each live dart of a map of dimension `DIM`, under the dart's number: its entries 0 to `DIM`, each a number,
+/// 0 where nothing stands. A dart dies when its row is taken away, and its number is not given again; only the last
+/// birth can be taken back with its number.
+///
+/// A dart takes 4 bytes for each entry and one more.
 #[derive(Drop)]
-pub struct Arena<R> {
-    // The row of dart d is at place d - 1.
-    rows: Vec<Option<R>>,
-    live: usize,
+pub struct Arena<const DIM: usize> {
+    // Entry i of dart d is at place (d - 1) * (DIM + 1) + i. All entries of a dart that is not live are 0.
+    entries: Vec<u32>,
+    // Whether dart d is live stands at place d - 1.
+    live: Vec<bool>,
+    // How many darts are live.
+    count: usize,
+    // So many births need no further memory.
+    spare: usize,
 }
 
-impl<R> Model for Arena<R> {
-    ghost use Rattle.std.specs.Prelude.{◌≡◌, ◌≤◌, ◌-◌, ◌∷◌, None, length, filter, is_some, vec_len, vec_capacity};
+impl<const DIM: usize> Model for Arena<DIM> {
+    ghost use Rattle.std.specs.Prelude.{ℕ, ◌≤◌, ◌+◌, ◌-◌, ◌*◌, List, ◌∷◌, None, length, vec_len, vec_capacity};
+    ghost use Rattle.std.specs.Coded.{coded_ℕ, coded_list};
     ghost use Rattle.dart_arena.specs.Stock.{Stock, stock_code};
+    ghost use Rattle.dart_arena.specs.Table.{rows_of, IsTable};
 
-    ghost Value = { Stock R };
+    ghost Value = { Stock (List ℕ) };
 
-    ghost coded = { stock_code R.code };
+    ghost coded = { stock_code (coded_list coded_ℕ) };
 
     ghost view = { λ arena. record {
-      rows = None ∷ arena.rows.items;
-      spare = vec_capacity arena.rows - vec_len arena.rows;
-      room = vec_capacity arena.rows - arena.live;
+      rows = None ∷ rows_of (DIM + 1) arena.entries.items arena.live.items;
+      spare = arena.spare;
+      room = arena.spare + (vec_len arena.live - arena.count);
     } };
 
     ghost invariant = { λ arena.
-        (length arena.rows.items ≤ 4194304) × (arena.live ≡ length (filter is_some arena.rows.items)) };
+        (DIM ≤ 8) × IsTable (DIM + 1) arena.entries.items arena.live.items arena.count
+        × (vec_len arena.live + arena.spare ≤ vec_capacity arena.live)
+        × (vec_len arena.entries + arena.spare * (DIM + 1) ≤ vec_capacity arena.entries) };
 }
 
-impl<R> Arena<R> {
+impl<const DIM: usize> Arena<DIM> {
     /// The arena without darts. It takes no memory.
     pub fn new(alloc: Global) -> Self
+        requires { DIM ≤ DIM_MAX }
         ensures rows { result.rows ≡ None ∷ [] }
         ensures spare { result.spare ≡ 0 }
         ensures room { result.room ≡ 0 }
     {
         Arena {
-            rows: Vec::new(alloc),
-            live: 0,
+            entries: Vec::new(alloc),
+            live: Vec::new(alloc),
+            count: 0,
+            spare: 0,
         }
     }
 
@@ -62,22 +83,31 @@ impl<R> Arena<R> {
         ensures made { result ≡ made self.now }
         ensures kept { IsKept MADE_MAX self.now }
     {
-        self.rows.len() as u32
+        self.live.len() as u32
     }
 
     /// How many darts are live.
     pub fn live_count(&self) -> u32
         ensures { result ≡ live_count self.now }
     {
-        self.live as u32
+        self.count as u32
     }
 
-    /// The row of a dart; none exactly where the dart is not live.
-    pub fn get(&self, dart: Dart) -> Option<&R>
-        ensures row { option_copied result ≡ row_at self.now dart }
-        ensures live { IsSome result ↔ IsLive self.now dart }
+    /// Whether a dart is live.
+    pub fn is_live(&self, dart: Dart) -> bool
+        ensures { IsTrue result ↔ IsLive self.now dart }
     {
-        self.rows.get(place(dart))?.as_ref()
+        flag_at(&self.live, place(dart))
+    }
+
+    /// The entry at a link of a dart, 0 also where the dart is not live.
+    pub fn entry(&self, dart: Dart, link: usize) -> u32
+        requires { link ≤ DIM }
+        ensures { result ≡ links_of self.now.rows link dart }
+    {
+        let entries = &self.entries;
+        let at = entries_of::<DIM>(place(dart)) + link;
+        entry_at(entries, at)
     }
 
     /// The least live dart above a number; none exactly where no dart above it is live. It costs the darts that it
@@ -86,8 +116,8 @@ impl<R> Arena<R> {
         ensures next { IfSome result (λ dart. IsNextLive self.now after dart) }
         ensures none { IfNone result ((e : ℕ) → after < e → IsLive self.now e → ⊥) }
     {
-        for place in after as usize..self.rows.len() {
-            if self.rows[place].is_some() {
+        for place in after as usize..self.live.len() {
+            if self.live[place] {
                 return Dart::new(place as u32 + 1);
             }
         }
@@ -113,73 +143,131 @@ impl<R> Arena<R> {
         if births > MADE_MAX - self.made() {
             return Err(ReserveFault::Full);
         }
-        if self.rows.reserve(births as usize).is_err() {
+        let births = births as usize;
+        if births <= self.spare {
+            return Ok(());
+        }
+        if self.live.reserve(births).is_err() {
             return Err(ReserveFault::NoMemory);
         }
+        if self.entries.reserve(entries_of::<DIM>(births)).is_err() {
+            return Err(ReserveFault::NoMemory);
+        }
+        self.spare = births;
         Ok(())
     }
 
-    /// Makes a dart with this row. Its number is one more than that of the dart made before it.
-    pub fn birth(&mut self, row: R) -> Dart
+    /// Makes a dart whose entries are all 0. Its number is one more than that of the dart made before it.
+    pub fn birth(&mut self) -> Dart
         requires spare { 1 ≤ self.old.spare }
-        requires room { 1 ≤ self.old.room }
         requires few { made self.old < MADE_MAX }
         ensures dart { result ≡ made self.old + 1 }
-        ensures born { self.new ≡ born self.old row }
+        ensures born { self.new ≡ born self.old (free_row DIM) }
     {
-        self.rows.push_reserved(Some(row));
-        self.live += 1;
-        Dart::new(self.rows.len() as u32).unwrap()
+        push_zeros(&mut self.entries, DIM + 1);
+        self.live.push_reserved(true);
+        self.count += 1;
+        self.spare -= 1;
+        Dart::new(self.live.len() as u32).unwrap()
     }
 
-    /// Takes the last birth back and hands out the row: the number of dart `made`, which must live, can be given again.
-    pub fn unbirth(&mut self) -> R
+    /// Takes the last birth back: the number of dart `made`, which must live, can be given again.
+    pub fn unbirth(&mut self)
         requires { IsLive self.old (made self.old) }
-        ensures row { row_at self.old (made self.old) ≡ Some result }
-        ensures unborn { self.new ≡ unborn self.old }
+        ensures { self.new ≡ unborn self.old }
     {
-        let row = self.rows.pop().unwrap().unwrap();
-        self.live -= 1;
-        row
+        let made = self.live.len() - 1;
+        self.live.truncate(made);
+        self.entries.truncate(entries_of::<DIM>(made));
+        self.count -= 1;
+        self.spare += 1;
     }
 
-    /// Ends a live dart and hands out its row. Its number is not given again.
-    pub fn bury(&mut self, dart: Dart) -> R
+    /// Ends a live dart. Its number is not given again.
+    pub fn bury(&mut self, dart: Dart)
         requires { IsLive self.old dart }
-        ensures row { row_at self.old dart ≡ Some result }
-        ensures buried { self.new ≡ buried self.old dart }
+        ensures { self.new ≡ buried self.old dart }
     {
-        let row = self.rows[place(dart)].take().unwrap();
-        self.live -= 1;
-        row
+        let place = place(dart);
+        self.live[place] = false;
+        put_zeros(&mut self.entries, entries_of::<DIM>(place), DIM + 1);
+        self.count -= 1;
     }
 
-    /// Brings a dart that was made and is not live back, with this row.
-    pub fn revive(&mut self, dart: Dart, row: R)
-    where
-        R: Drop,
+    /// Brings a dart that was made and is not live back. Its entries are all 0.
+    pub fn revive(&mut self, dart: Dart)
         requires made { dart ≤ made self.old }
         requires dead { row_at self.old dart ≡ None }
-        requires room { 1 ≤ self.old.room }
-        ensures { self.new ≡ revived self.old dart row }
+        ensures { self.new ≡ revived self.old dart (free_row DIM) }
     {
-        self.rows[place(dart)] = Some(row);
-        self.live += 1;
+        self.live[place(dart)] = true;
+        self.count += 1;
     }
 
-    /// Gives a live dart this row and hands out the one before it.
-    pub fn set(&mut self, dart: Dart, row: R) -> R
-        requires { IsLive self.old dart }
-        ensures row { row_at self.old dart ≡ Some result }
-        ensures replaced { self.new ≡ replaced self.old dart row }
+    /// Puts an entry at a link of a dart, if the dart is live: one that is not has no row.
+    pub fn set_entry(&mut self, dart: Dart, link: usize, to: u32)
+        requires { link ≤ DIM }
+        ensures rows { self.new.rows ≡ with_entry self.old.rows dart link to }
+        ensures spare { self.new.spare ≡ self.old.spare }
+        ensures room { self.new.room ≡ self.old.room }
     {
-        self.rows[place(dart)].replace(row).unwrap()
+        if self.is_live(dart) {
+            let at = entries_of::<DIM>(place(dart)) + link;
+            self.entries[at] = to;
+        }
     }
 }
 
-/// Where the row of a dart is kept.
+/// Where it stands whether a dart is live.
 fn place(dart: Dart) -> usize
-    ensures { result + 1 ≡ dart }
+    ensures place { result + 1 ≡ dart }
+    ensures within { result < 2 ^ 32 }
 {
     dart.number() as usize - 1
+}
+
+/// How many entries so many darts have.
+fn entries_of<const DIM: usize>(darts: usize) -> usize
+    requires dimension { DIM ≤ DIM_MAX }
+    requires darts { darts < 2 ^ 32 }
+    ensures entries { result ≡ darts * (DIM + 1) }
+    ensures within { result < 2 ^ 36 }
+{
+    darts * (DIM + 1)
+}
+
+/// Whether a flag stands at a place; past the end none does.
+fn flag_at(flags: &[bool], at: usize) -> bool
+    ensures { result ≡ slice_index_or flags.now at false }
+{
+    if at < flags.len() { flags[at] } else { false }
+}
+
+/// The entry at a place, 0 past the end.
+fn entry_at(entries: &[u32], at: usize) -> u32
+    ensures { result ≡ slice_index_or entries.now at 0 }
+{
+    if at < entries.len() { entries[at] } else { 0 }
+}
+
+/// Appends so many zeros. It takes no memory: room for them was reserved.
+fn push_zeros(entries: &mut Vec<u32>, count: usize)
+    requires { vec_len entries.old + count ≤ vec_capacity entries.old }
+    ensures items { entries.new.items ≡ entries.old.items ++ replicate count 0 }
+    ensures capacity { vec_capacity entries.new ≡ vec_capacity entries.old }
+{
+    for _pushed in 0..count {
+        entries.push_reserved(0);
+    }
+}
+
+/// Puts so many zeros from a place on.
+fn put_zeros(entries: &mut Vec<u32>, from: usize, count: usize)
+    requires { from + count ≤ length entries.old.items }
+    ensures items { entries.new.items ≡ zeroed entries.old.items from count }
+    ensures capacity { vec_capacity entries.new ≡ vec_capacity entries.old }
+{
+    for offset in 0..count {
+        entries[from + offset] = 0;
+    }
 }

@@ -6,4 +6,4 @@ mod arena;
 #[cfg(test)]
 mod tests;
 
-pub use arena::{Arena, MADE_MAX, ReserveFault};
+pub use arena::{Arena, DIM_MAX, MADE_MAX, ReserveFault};

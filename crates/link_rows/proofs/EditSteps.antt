@@ -1,5 +1,5 @@
 -- The steps of an edit: what each leaves as it was.
-use Rattle.std.proofs.Common.{◌≡◌, ◌≢◌, ℕ, zero, suc, List, [], ◌∷◌, length, get_or, set, take, Some, None, is_some, refl, sym, ap, ◌∙◌, arith}
+use Rattle.std.proofs.Common.{◌≡◌, ◌≢◌, ℕ, zero, suc, List, [], ◌∷◌, ◌++◌, length, get_or, set, take, Some, None, is_some, refl, sym, ap, ◌∙◌, arith}
 use Rattle.std.specs.Prelude.{All}
 use Rattle.std.specs.List.{AllPairs}
 use Rattle.std.proofs.lemmas.List.{get_or-set_other, set-set, set-get_or, length-set}
@@ -11,6 +11,11 @@ use Rattle.link_rows.proofs.RowWrites.{IsWide, links-untouched, live-entry, wide
 pub linked-length : (cs : List Change) (rows : Rows) → length (linked cs rows) ≡ length rows
 linked-length [] rows = refl
 linked-length (c ∷ cs) rows = linked-length cs (with_entry rows c.dart c.link c.new) ∙ length-set rows c.dart _
+
+-- changes one after another
+pub linked-append : (bs cs : List Change) (rows : Rows) → linked (bs ++ cs) rows ≡ linked cs (linked bs rows)
+linked-append [] cs rows = refl
+linked-append (b ∷ bs) cs rows = linked-append bs cs (with_entry rows b.dart b.link b.new)
 
 pub linked-live : (cs : List Change) (rows : Rows) (e : ℕ) → is_some (row_at (linked cs rows) e) ≡ is_some (row_at rows e)
 linked-live [] rows e = refl

@@ -1,14 +1,15 @@
 //! The links of a map, kept as rows of plain numbers, and edits of them.
 #![tactic(auto)]
 
+mod builder;
 mod edit;
 mod links;
 mod polygon;
-mod row;
 mod steps;
 #[cfg(test)]
 mod tests;
 
+pub use builder::LinkBuilder;
 pub use dart_arena::{MADE_MAX, ReserveFault};
 pub use edit::{Change, Edit};
 pub use links::Links;

@@ -4,7 +4,6 @@ ghost use Rattle.map_defs.specs.Edits.{after_edit, before_edit, Fits, IsLed};
 ghost use Rattle.dart_arena.specs.Stock.{IsNextLive};
 
 use crate::edit::Edit;
-use crate::row::Row;
 use crate::steps;
 use dart_arena::{Arena, MADE_MAX, ReserveFault};
 use map_kind::{Dart, Kind};
@@ -16,7 +15,7 @@ use std::marker::{Model, PhantomData};
 /// stock of its rows.
 #[derive(Drop)]
 pub struct Links<K: Kind, const DIM: usize> {
-    pub(crate) rows: Arena<Row<DIM>>,
+    pub(crate) rows: Arena<DIM>,
     pub(crate) kind: PhantomData<K>,
 }
 
@@ -81,7 +80,7 @@ impl<K: Kind, const DIM: usize> Links<K, DIM> {
         ensures live { IsTrue result ↔ IsLive self.now.rows dart }
         ensures sound { IsSound K.kind DIM self.now.rows }
     {
-        self.rows.get(dart).is_some()
+        self.rows.is_live(dart)
     }
 
     /// The least live dart above a number; none exactly where no dart above it is live. It costs the darts that it
@@ -101,8 +100,7 @@ impl<K: Kind, const DIM: usize> Links<K, DIM> {
         ensures low { 2 ≤ DIM }
         ensures sound { IsSound K.kind DIM self.now.rows }
     {
-        let row = self.rows.get(dart)?;
-        Dart::new(row.entry(link))
+        Dart::new(self.rows.entry(dart, link))
     }
 
     /// Whether a link of a live dart is free.

@@ -2,16 +2,14 @@
 ghost use Rattle.std.specs.Prelude.{◌≡◌, ◌≢◌, ℕ, ◌+◌, ◌-◌, ◌≤◌, ◌<◌, None, All, length, take};
 ghost use Rattle.std.specs.List.{AllPairs};
 ghost use Rattle.dart_arena.specs.Stock.{Stock, made, row_at, IsLive};
-ghost use Rattle.map_defs.specs.Edits.{with_births, with_entry, linked, unlinked, buried, revived};
+ghost use Rattle.map_defs.specs.Edits.{with_births, linked, unlinked, buried, revived};
 
 use crate::edit::Change;
-use crate::row::{DIM_MAX, Row};
 use dart_arena::{Arena, MADE_MAX};
 use map_kind::Dart;
 
 /// Makes so many darts without links.
-pub fn bear<const DIM: usize>(rows: &mut Arena<Row<DIM>>, births: u32)
-    requires high { DIM ≤ DIM_MAX }
+pub fn bear<const DIM: usize>(rows: &mut Arena<DIM>, births: u32)
     requires spare { births ≤ rows.old.spare }
     requires room { births ≤ rows.old.room }
     requires few { made rows.old + births ≤ MADE_MAX }
@@ -20,12 +18,12 @@ pub fn bear<const DIM: usize>(rows: &mut Arena<Row<DIM>>, births: u32)
     ensures room { rows.new.room ≡ rows.old.room - births }
 {
     for _birth in 0..births {
-        rows.birth(Row::free());
+        rows.birth();
     }
 }
 
 /// Takes the last births back.
-pub fn unbear<const DIM: usize>(rows: &mut Arena<Row<DIM>>, births: u32)
+pub fn unbear<const DIM: usize>(rows: &mut Arena<DIM>, births: u32)
     requires many { births < length rows.old.rows }
     requires live { (d : ℕ) → length rows.old.rows - births ≤ d → d < length rows.old.rows → IsLive rows.old d }
     ensures rows { rows.new.rows ≡ take (length rows.old.rows - births) rows.old.rows }
@@ -38,7 +36,7 @@ pub fn unbear<const DIM: usize>(rows: &mut Arena<Row<DIM>>, births: u32)
 }
 
 /// Ends these darts.
-pub fn bury<const DIM: usize>(rows: &mut Arena<Row<DIM>>, darts: &[Dart])
+pub fn bury<const DIM: usize>(rows: &mut Arena<DIM>, darts: &[Dart])
     requires live { All (IsLive rows.old) darts.now }
     requires once { AllPairs (λ d e. d ≢ e) darts.now }
     ensures rows { rows.new.rows ≡ buried darts.now rows.old.rows }
@@ -51,8 +49,7 @@ pub fn bury<const DIM: usize>(rows: &mut Arena<Row<DIM>>, darts: &[Dart])
 }
 
 /// Brings these darts back, without links, the last one first.
-pub fn revive<const DIM: usize>(rows: &mut Arena<Row<DIM>>, darts: &[Dart])
-    requires high { DIM ≤ DIM_MAX }
+pub fn revive<const DIM: usize>(rows: &mut Arena<DIM>, darts: &[Dart])
     requires dead { All (λ d. row_at rows.old d ≡ None) darts.now }
     requires made { All (λ d. d < length rows.old.rows) darts.now }
     requires once { AllPairs (λ d e. d ≢ e) darts.now }
@@ -62,26 +59,24 @@ pub fn revive<const DIM: usize>(rows: &mut Arena<Row<DIM>>, darts: &[Dart])
     ensures room { rows.new.room ≡ rows.old.room - length darts.now }
 {
     for index in (0..darts.len()).rev() {
-        rows.revive(darts[index], Row::free());
+        rows.revive(darts[index]);
     }
 }
 
 /// Puts each new entry in its place.
-pub fn link<const DIM: usize>(rows: &mut Arena<Row<DIM>>, changes: &[Change])
-    requires high { DIM ≤ DIM_MAX }
+pub fn link<const DIM: usize>(rows: &mut Arena<DIM>, changes: &[Change])
     requires links { All (λ c. c.link ≤ DIM) changes.now }
     ensures rows { rows.new.rows ≡ linked changes.now rows.old.rows }
     ensures spare { rows.new.spare ≡ rows.old.spare }
     ensures room { rows.new.room ≡ rows.old.room }
 {
     for change in changes {
-        put(rows, change.dart, change.link, change.new);
+        rows.set_entry(change.dart, change.link, change.new);
     }
 }
 
 /// Puts each old entry back in its place, the last one first.
-pub fn unlink<const DIM: usize>(rows: &mut Arena<Row<DIM>>, changes: &[Change])
-    requires high { DIM ≤ DIM_MAX }
+pub fn unlink<const DIM: usize>(rows: &mut Arena<DIM>, changes: &[Change])
     requires links { All (λ c. c.link ≤ DIM) changes.now }
     ensures rows { rows.new.rows ≡ unlinked changes.now rows.old.rows }
     ensures spare { rows.new.spare ≡ rows.old.spare }
@@ -89,20 +84,6 @@ pub fn unlink<const DIM: usize>(rows: &mut Arena<Row<DIM>>, changes: &[Change])
 {
     for index in (0..changes.len()).rev() {
         let change = &changes[index];
-        put(rows, change.dart, change.link, change.old);
-    }
-}
-
-/// Puts an entry at a link of a dart, if the dart is live: one that is not has no row.
-fn put<const DIM: usize>(rows: &mut Arena<Row<DIM>>, dart: Dart, link: usize, to: u32)
-    requires high { DIM ≤ DIM_MAX }
-    requires link { link ≤ DIM }
-    ensures rows { rows.new.rows ≡ with_entry rows.old.rows dart link to }
-    ensures spare { rows.new.spare ≡ rows.old.spare }
-    ensures room { rows.new.room ≡ rows.old.room }
-{
-    if let Some(row) = rows.get(dart) {
-        let row = row.with_entry(link, to);
-        rows.set(dart, row);
+        rows.set_entry(change.dart, change.link, change.old);
     }
 }

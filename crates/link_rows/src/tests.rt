@@ -1,6 +1,6 @@
 ghost use Rattle.std.specs.Prelude.{◌≡◌};
 
-use crate::{Change, Edit, Links, ReserveFault, polygon_edit};
+use crate::{Change, Edit, LinkBuilder, Links, ReserveFault, polygon_edit};
 use dart_arena::MADE_MAX;
 use map_kind::{Alpha, Dart};
 use std::test::Fail;
@@ -18,6 +18,7 @@ fn darts_are_born_and_taken_back(rt: HostRuntime) -> Result<(), Fail> {
     links.apply(&births);
     assert_eq!(&rt; (links.made(), links.live_count()), (2, 2));
     assert_eq!(&rt; links.next_live(1).map(Dart::number), Some(2));
+    assert!(&rt; links.is_free(Dart::new(2).unwrap(), 7));
     links.reverse(&births);
     assert_eq!(&rt; (links.made(), links.live_count()), (0, 0));
     Ok(())
@@ -37,8 +38,6 @@ fn links_are_changed_and_taken_back(rt: HostRuntime) -> Result<(), Fail> {
         changes: Vec::from_slice(alloc, &[change(one, 0, 2), change(two, 0, 1)])?,
     };
     links.apply(&sewn);
-    assert_eq!(&rt; links.link(one, 8), Some(two));
-    assert!(&rt; links.is_free(two, 7));
     let ended = Edit {
         births: 0,
         deaths: Vec::from_slice(alloc, &[one])?,
@@ -51,6 +50,7 @@ fn links_are_changed_and_taken_back(rt: HostRuntime) -> Result<(), Fail> {
         (links.link(one, 8), links.link(two, 8)),
         (Some(two), Some(one))
     );
+    assert_eq!(&rt; links.link(two, 7), None);
     Ok(())
 }
 
@@ -82,4 +82,17 @@ fn a_triangle_is_made(rt: HostRuntime) -> Result<(), Fail> {
 fn no_more_darts_are_made_than_may_be(rt: HostRuntime) {
     let mut links = Links::<Alpha, 2>::new(rt.alloc());
     assert_eq!(&rt; links.reserve(MADE_MAX + 1), Err(ReserveFault::Full));
+}
+
+#[test]
+fn links_are_set_one_by_one(rt: HostRuntime) -> Result<(), Fail> {
+    let one = Dart::new(1).unwrap();
+    let mut builder = LinkBuilder::<Alpha, 8>::new(rt.alloc(), 2)
+        .ok()
+        .ok_or("no memory")?;
+    builder.set(one, 8, 2);
+    builder.set(one, 8, 0);
+    let links = builder.finish();
+    assert_eq!(&rt; (links.made(), links.link(one, 8)), (2, None));
+    Ok(())
 }

@@ -12,7 +12,7 @@ loop-dart-preserved g c =
     let split : drop i ds ≡ x ∷ drop (i + 1) ds = drop_more ds i x within ∙ ap (λ (y : ℕ). y ∷ drop (i + 1) ds) (sym c.dart-item.is) in
     let kept = c.loop-dart.invariant in
     let room = c.loop-dart.invariant.2 in
-    rw c.bury.ensures.buried (
+    rw c.bury.ensures (
       sym (ap (λ (l : List ℕ). buried l c.loop-dart.rows.rows) split) ∙ kept.0,
       kept.1,
       omega arith,

@@ -1,22 +1,55 @@
-use Rattle.std.proofs.Common.{◌≡◌, ◌-◌, ◌<◌, IsSome, length, sym, ap, subst, ◌∙◌, arith}
-use Rattle.std.proofs.lemmas.List.{length-take-le}
+use Rattle.std.proofs.Common.{◌≡◌, ℕ, ◌+◌, ◌-◌, ◌*◌, ◌<◌, Bool, true, false, List, ◌∷◌, length, get_or, take, Option, None, refl, sym, ap, ◌∙◌, arith}
 use Rattle.std.specs.Prelude.{vec_len}
-use Rattle.dart_arena.proofs.RowLemmas.{row_behind, take_behind, count-buried, count-le, last-some, same-stock}
+use Rattle.std.proofs.lemmas.List.{length-take-le}
+use Rattle.dart_arena.specs.Table.{rows_of}
+use Rattle.dart_arena.proofs.RowLemmas.{take_behind, same-stock}
+use Rattle.dart_arena.proofs.TableLemmas.{rows-length, rows-taken}
+use Rattle.dart_arena.proofs.TableSteps.{live-most, some-live, last-seen, live-seen, table-taken}
 use Rattle.dart_arena.proofs.arena.Arena.unbirth.Goals as goal
 
-pub returns-clause-unborn : goal.returns-clause-unborn
-returns-clause-unborn g c =
-    let items = c.self.inside.rows.items in
-    let len : vec_len c.self.inside.rows ≡ length items = c.self.inside.rows.ok.0 in
-    let last : length (c.args.self.now.rows) - 1 ≡ length items = rw (← c.self.view_is) (omega arith) in
+pub invariant_of-self : goal.invariant_of-self
+invariant_of-self g c =
+    let w : ℕ = g.row.DIM + 1 in
+    let es : List ℕ = c.self.inside.entries.items in
+    let bs : List Bool = c.self.inside.live.items in
+    let m : ℕ = c.len-made.result - 1 in
+    let table = c.self.invariant.1 in
+    let len = c.self.inside.live.ok.0 in
+    let last : length c.args.self.now.rows - 1 ≡ length bs = rw (← c.self.view_is) (omega (arith, rows-length w es bs)) in
     let live = rw last at c.requires in
     let there = rw (← c.self.view_is) at live in
-    let some : 0 < length items = last-some items there in
-    let within = c.self.inside.rows.ok in
-    let found = subst IsSome (row_behind items (length items) (length items - 1) (omega arith)) there in
-    let counted = c.self.invariant.1 in
-    let shorter : vec_len c.pop.new.self ≡ length items - 1 = c.pop.new.self.ok.0 ∙ ap length c.pop.ensures.rest ∙ length-take-le (vec_len c.self.inside.rows - 1) items (omega arith) ∙ omega arith in
-    let capacity = c.pop.ensures.capacity in
-    rw (← c.self.view_is, c.pop.ensures.rest)
-    (same-stock _ _ _ _ _ _ (sym (take_behind items _ _ (omega arith))) (omega arith)
-    (omega (arith, count-buried items (length items - 1) found, count-le items)))
+    let some : 0 < length bs = last-seen w es bs there in
+    let is : length bs ≡ m + 1 = omega (arith, c.len-made.ensures) in
+    let flag : get_or bs m false ≡ true = sym (live-seen w es bs (length bs) m (sym is)) ∙ there in
+    let long : length es ≡ (m + 1) * w = table.long ∙ ap (λ (k : ℕ). k * w) is in
+    let fewer : c.truncate-2.new.self.items ≡ take (m * w) es = c.truncate-2.ensures.items ∙ ap (λ (k : ℕ). take k es) c.entries_of.ensures.entries in
+    let rows : vec_len c.truncate.new.self ≡ m = c.truncate.new.self.ok.0 ∙ ap length c.truncate.ensures.items ∙ length-take-le m bs (omega arith) in
+    let entries : vec_len c.truncate-2.new.self ≡ m * w = c.truncate-2.new.self.ok.0 ∙ ap length fewer ∙ length-take-le (m * w) es (omega arith) in (
+      c.self.invariant.0,
+      rw (fewer, c.truncate.ensures.items) (table-taken w es bs c.self.inside.count table m is flag),
+      omega (arith, rows, c.truncate.ensures.capacity, c.self.invariant.2),
+      omega (arith, entries, c.truncate-2.ensures.capacity, c.self.invariant.3, long, c.self.inside.entries.ok.0),
+    )
+
+pub returns : goal.returns
+returns g c =
+    let w : ℕ = g.row.DIM + 1 in
+    let es : List ℕ = c.self.inside.entries.items in
+    let bs : List Bool = c.self.inside.live.items in
+    let m : ℕ = c.len-made.result - 1 in
+    let table = c.self.invariant.1 in
+    let len = c.self.inside.live.ok.0 in
+    let last : length c.args.self.now.rows - 1 ≡ length bs = rw (← c.self.view_is) (omega (arith, rows-length w es bs)) in
+    let live = rw last at c.requires in
+    let there = rw (← c.self.view_is) at live in
+    let some : 0 < length bs = last-seen w es bs there in
+    let is : length bs ≡ m + 1 = omega (arith, c.len-made.ensures) in
+    let flag : get_or bs m false ≡ true = sym (live-seen w es bs (length bs) m (sym is)) ∙ there in
+    let fewer : c.truncate-2.new.self.items ≡ take (m * w) es = c.truncate-2.ensures.items ∙ ap (λ (k : ℕ). take k es) c.entries_of.ensures.entries in
+    let rows : vec_len c.truncate.new.self ≡ m = c.truncate.new.self.ok.0 ∙ ap length c.truncate.ensures.items ∙ length-take-le m bs (omega arith) in
+    let most = live-most w es bs c.self.inside.count table in
+    let one = some-live w es bs c.self.inside.count table m flag in
+    rw (← c.self.view_is, fewer, c.truncate.ensures.items)
+    (same-stock _ _ _ _ _ _
+    (ap (λ (rest : List (Option (List ℕ))). let one : List (Option (List ℕ)) = None ∷ rest in one) (rows-taken w m es bs)
+    ∙ sym (take_behind (rows_of w es bs) _ m (omega (arith, rows-length w es bs)))) refl (omega arith))

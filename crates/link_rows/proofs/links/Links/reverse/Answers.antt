@@ -17,7 +17,7 @@ revive-requires g c =
     rw (c.unbear.ensures.rows, births, c.self.view_is) in
     let room : c.unbear.new.rows.room ≡ c.args.self.now.room + c.args.edit.now.births = rw (c.unbear.ensures.room, births, c.self.view_is) in
     let is = after-of _ _ _ c.requires.led.0 _ c.requires.led.1 in
-    rw (deaths, rows, room) (lit< tt, (c.self.invariant.0, (is.dead, (is.made, (c.requires.led.1.fits.ends, omega arith)))))
+    rw (deaths, rows, room) (lit< tt, (is.dead, (is.made, (c.requires.led.1.fits.ends, omega arith))))
 
 pub returns-clause-rows : goal.returns-clause-rows
 returns-clause-rows g c =
