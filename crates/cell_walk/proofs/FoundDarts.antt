@@ -52,11 +52,15 @@ listed-more Has New darts d unseen grown lists = record {
     from e (inl listed) = inl ((lists.same e).1 listed)
     from e (inr is) = inr is
 
+-- different darts, sorted
+pub ascending-distinct : (darts sorted : List ℕ) → IsDistinct nat_eq darts → IsPermutation darts sorted → IsSorted nat_cmp sorted → IsStrictlyIncreasing sorted
+ascending-distinct darts sorted apart moved ordered =
+    IsStrictlyIncreasing-from_distinct sorted (IsNonDecreasingBy-from_sort (λ x. x) sorted ordered)
+    (IsDistinct-IsPermutation nat_eq (λ x y. grind (arith, nat_tests)) darts sorted moved apart)
+
 -- the list, sorted
 pub listed-ascending : (Has : ℕ → Type 0) (darts sorted : List ℕ) → ListsOnce Has darts → IsPermutation darts sorted → IsSorted nat_cmp sorted → IsStrictlyIncreasing sorted
-listed-ascending Has darts sorted lists moved ordered =
-    IsStrictlyIncreasing-from_distinct sorted (IsNonDecreasingBy-from_sort (λ x. x) sorted ordered)
-    (IsDistinct-IsPermutation nat_eq (λ x y. grind (arith, nat_tests)) darts sorted moved lists.apart)
+listed-ascending Has darts sorted lists moved ordered = ascending-distinct darts sorted lists.apart moved ordered
 
 pub sorted-same : (darts sorted : List ℕ) → IsPermutation darts sorted → (d : ℕ) → Contains sorted d ↔ Contains darts d
 sorted-same darts sorted moved d =

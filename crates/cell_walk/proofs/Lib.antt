@@ -2,7 +2,10 @@ mod CellDarts
 mod ComponentDarts
 mod Counting
 pub mod FoundDarts
+mod ListedCells
 mod RowSteps
 pub mod SeenDarts
+mod SinceDarts
 mod SurveyFacts
 mod Walks
+mod ManyOrbits

@@ -1,6 +1,7 @@
 -- What a set says of the darts that were seen.
-use Rattle.std.proofs.Common.{◌≡◌, ℕ, ◌↔◌, ◌⊎◌, Bool, true, false, not, cond, Contains, IsTrue, MatchBool, refl, sym, ap, ◌∙◌, subst, inl, inr, nat_cmp}
+use Rattle.std.proofs.Common.{◌≡◌, ℕ, ◌↔◌, ◌⊎◌, List, Bool, true, false, not, cond, ◌==◌, eq-eqb, Contains, IsTrue, MatchBool, refl, sym, ap, ◌∙◌, subst, inl, inr, nat_cmp, arith}
 use Rattle.std.proofs.lemmas.Bool.{false≢true}
+use Rattle.std.specs.List.{IsAnyAnswer}
 use Rattle.std.proofs.lemmas.Cmp.{nat_cmp_total}
 use Rattle.std.proofs.lemmas.Map.Lookups.{exact_unsigned}
 use Rattle.std.proofs.lemmas.Map.Views.{btree_set_contains_iff, tells_apart}
@@ -33,3 +34,29 @@ seen-added s d false is = (seen-has s d).0 (held (contains nat_cmp s d) is)
     held : (r : Bool) → false ≡ not r → r ≡ true
     held true h = refl
     held false h = absurd (false≢true h)
+
+-- a list that was looked through in vain
+pub list-lacks : (few : List ℕ) (d : ℕ) (r : Bool) → IsAnyAnswer (λ y answer. (y == d) ≡ answer) few r → r ≡ false → Contains few d → ⊥
+list-lacks few d true cases is has = false≢true (sym is)
+list-lacks few d false cases is has = false≢true (sym (cases has.0 d (omega arith) has.1) ∙ eq-eqb _ d has.2)
+
+-- a dart that the list does not have is looked for in the set
+pub seen-either : (few : List ℕ) (more : BTreeSet ℕ) (d : ℕ) (known : Bool) → known ≡ contains nat_cmp more d → (Contains few d → ⊥) → IsTrue known ↔ (Contains few d ⊎ Contains more.keys d)
+seen-either few more d known is none = (
+  λ yes. inr ((seen-has more d).0 (sym is ∙ yes)),
+  λ has. (elim has [ inl listed ↦ absurd (none listed) | inr held ↦ is ∙ (seen-has more d).1 held ]),
+)
+
+-- a dart is added to the set
+pub put-more : (few : List ℕ) (more next : BTreeSet ℕ) (d : ℕ) → Updates nat_cmp more next d true
+    → (e : ℕ) → (Contains few e ⊎ Contains next.keys e) ↔ ((Contains few e ⊎ Contains more.keys e) ⊎ (d ≡ e))
+put-more few more next d updates e = (
+  λ has. (elim has [
+    | inl listed ↦ inl (inl listed)
+    | inr held ↦ (elim ((seen-grown more next d updates e).0 held) [ inl old ↦ inl (inr old) | inr new ↦ inr new ])
+  ]),
+  λ has. (elim has [
+    | inl old ↦ (elim old [ inl listed ↦ inl listed | inr held ↦ inr ((seen-grown more next d updates e).1 (inl held)) ])
+    | inr new ↦ inr ((seen-grown more next d updates e).1 (inr new))
+  ]),
+)

@@ -32,7 +32,7 @@ module _ (Step : ℕ → ℕ → Type 0) (Live : ℕ → Type 0) (walkable : IsW
   orbit-live d e live here = live
   orbit-live d e live (onward {x = u} {y = v} o s) = walkable.lands u v s
 
-  orbit-turns : (d e : ℕ) → Live d → InOrbit Step d e → InOrbit Step e d
+  pub orbit-turns : (d e : ℕ) → Live d → InOrbit Step d e → InOrbit Step e d
   orbit-turns d e live o = orbit_back Step walkable.dart walkable.turns d e (walkable.some d live) o
 
   pub surveyed-none : IsSurveyed Step Live 1 [] []

@@ -1,3 +1,4 @@
 pub mod Visits
 pub mod Surveys
 pub mod Marks
+pub mod CellLists

@@ -1,5 +1,5 @@
 -- Which darts were found, by a set or by marks.
-use Rattle.std.specs.Prelude.{ℕ, Bool, false, List, slice_index_or, Contains, IsTrue}
+use Rattle.std.specs.Prelude.{ℕ, ◌⊎◌, Bool, false, List, slice_index_or, Contains, IsTrue}
 use Rattle.cell_walk.specs.declared.seen.Seen.{Seen}
 use Rattle.cell_walk.specs.declared.seen.Seen.TheVariants as by
 
@@ -9,5 +9,5 @@ IsMarked marks d = IsTrue (slice_index_or marks d false)
 
 -- the dart was found
 abbrev pub HasSeen : Seen → ℕ → Type 0
-HasSeen (by.Set darts) d = Contains darts.keys d
+HasSeen (by.Set few more) d = Contains few.items d ⊎ Contains more.keys d
 HasSeen (by.Marks marks) d = IsMarked marks.items d

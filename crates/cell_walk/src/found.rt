@@ -1,11 +1,10 @@
-ghost use Rattle.std.specs.Prelude.{◌≡◌, ℕ, ◌<◌, ◌↔◌, [], length, slice_index, Contains, IsTrue, IfOk, OnOk};
+ghost use Rattle.std.specs.Prelude.{◌≡◌, ℕ, ◌≤◌, ◌<◌, ◌↔◌, [], ◌∷◌, ◌++◌, length, take, slice_index, Contains, IsTrue, IfOk, OnOk};
 ghost use Rattle.std.specs.List.Sorted.{IsStrictlyIncreasing};
 ghost use Rattle.cell_walk.specs.Visits.{IsAdded};
 
-use crate::seen::Seen;
+use crate::seen::{Seen, make_room};
 use map_kind::Dart;
 use std::alloc::{AllocError, Global};
-use std::collections::BTreeSet;
 use std::marker::Model;
 
 /// The darts that a walk has found, each once, in the order in which they were found.
@@ -34,18 +33,26 @@ impl Found {
     {
         Found {
             darts: Vec::new(alloc),
-            seen: Seen::Set(BTreeSet::new(alloc)),
+            seen: Seen::new(alloc),
         }
     }
 
-    /// Nothing found yet, for walks over the whole map, whose darts are numbered up to `made`.
-    pub(crate) fn with_marks(alloc: Global, made: u32) -> Result<Self, AllocError>
-        ensures { IfOk result (λ found. found ≡ []) }
+    /// Nothing found yet, for walks over the whole map. Each begins with `restart`.
+    pub(crate) fn with_marks(alloc: Global) -> Self
+        ensures { result ≡ [] }
     {
-        Ok(Found {
+        Found {
             darts: Vec::new(alloc),
-            seen: Seen::with_marks(alloc, made)?,
-        })
+            seen: Seen::with_marks(alloc),
+        }
+    }
+
+    /// Forgets what was found, for another walk over a map whose darts are numbered up to `made`.
+    pub(crate) fn restart(&mut self, made: u32) -> Result<(), AllocError>
+        ensures { self.new ≡ [] }
+    {
+        self.darts.clear();
+        self.seen.restart(made)
     }
 
     /// How many darts were found.
@@ -74,11 +81,37 @@ impl Found {
     pub(crate) fn add(&mut self, dart: Dart) -> Result<(), AllocError>
         ensures { OnOk result (IsAdded self.old self.new dart) }
     {
-        self.darts.reserve(1)?;
-        if self.seen.insert(dart)? {
-            self.darts.push_reserved(dart);
+        if self.seen.contains(dart) {
+            return Ok(());
         }
+        self.put(dart)
+    }
+
+    /// Adds a dart that was not found before.
+    pub(crate) fn put(&mut self, dart: Dart) -> Result<(), AllocError>
+        requires { Contains self.old dart → ⊥ }
+        ensures { OnOk result (self.new ≡ self.old ++ dart ∷ []) }
+    {
+        make_room(&mut self.darts)?;
+        self.seen.insert(dart)?;
+        self.darts.push_reserved(dart);
         Ok(())
+    }
+
+    /// The darts that were found since so many others were, ascending.
+    pub(crate) fn ascending_since(
+        &self,
+        alloc: Global,
+        place: usize,
+    ) -> Result<Vec<Dart>, AllocError>
+        requires { place ≤ length self.now }
+        ensures members { IfOk result (λ darts. (d : ℕ)
+            → Contains darts.items d ↔ (Contains self.now d × (Contains (take place self.now) d → ⊥))) }
+        ensures ascending { IfOk result (λ darts. IsStrictlyIncreasing darts.items) }
+    {
+        let mut since = Vec::from_slice(alloc, &self.darts[place..])?;
+        since.sort_unstable();
+        Ok(since)
     }
 
     /// The darts that were found, ascending.

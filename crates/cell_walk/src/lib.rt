@@ -4,11 +4,13 @@
 mod found;
 mod one_cell;
 mod orbits;
+mod search;
 mod seen;
 #[cfg(test)]
 mod tests;
 mod whole_map;
 
-pub use one_cell::{cell, least, same};
-pub use orbits::orbit;
-pub use whole_map::{cells, components, counts};
+pub use one_cell::{cell, cells_of, least, same};
+pub use orbits::{orbit, orbits_of};
+pub use search::reaches;
+pub use whole_map::{CellLists, cell_lists, cells, components, counts};

@@ -2,8 +2,9 @@ ghost use Rattle.std.specs.Prelude.{◌≡◌, ℕ, ◌≤◌, ◌↔◌, Contai
 ghost use Rattle.std.specs.List.Sorted.{IsStrictlyIncreasing};
 ghost use Rattle.map_defs.specs.Rows.{links_of};
 ghost use Rattle.map_defs.specs.Cells.{InCell, NamesCell};
+ghost use Rattle.cell_walk.specs.CellLists.{AreCellsOf, lists_of};
 
-use crate::orbits::orbit;
+use crate::orbits::{each_orbit, orbit};
 use link_rows::Links;
 use map_kind::{Dart, Kind};
 use std::alloc::{AllocError, Global};
@@ -21,6 +22,21 @@ pub fn cell<K: Kind, const DIM: usize>(
 {
     let words = K::words(alloc, links.dimension(), dim)?;
     orbit(alloc, links, &words, dart)
+}
+
+/// The cells of dimension `dim` of these darts, in the same order: the darts of each, ascending. It costs the sizes of the
+/// cells times a logarithm, and less than so many calls of `cell`.
+pub fn cells_of<K: Kind, const DIM: usize>(
+    alloc: Global,
+    links: &Links<K, DIM>,
+    dim: usize,
+    darts: &[Dart],
+) -> Result<Vec<Vec<Dart>>, AllocError>
+    requires { dim ≤ DIM }
+    ensures { IfOk result (λ cells. AreCellsOf K.kind (links_of links.now.rows) dim darts.now (lists_of cells.items)) }
+{
+    let cell_words = K::words(alloc, links.dimension(), dim)?;
+    each_orbit(alloc, links, &cell_words, darts)
 }
 
 /// Whether two darts lie in the same cell of dimension `dim`. It costs the size of the first dart's cell times a

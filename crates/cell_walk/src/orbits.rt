@@ -1,9 +1,10 @@
-ghost use Rattle.std.specs.Prelude.{◌≡◌, ℕ, ◌+◌, ◌<◌, ◌↔◌, ◌⊎◌, Contains, IfOk, OnOk, All, IsNone, IfSome};
+ghost use Rattle.std.specs.Prelude.{◌≡◌, ℕ, ◌+◌, ◌<◌, ◌↔◌, ◌⊎◌, length, take, Contains, IfOk, OnOk, All, IsNone, IfSome};
 ghost use Rattle.std.specs.List.Sorted.{IsStrictlyIncreasing};
 ghost use Rattle.map_defs.specs.Rows.{links_of};
 ghost use Rattle.map_defs.specs.Words.{Word as MapWord, through, IsWithin};
 ghost use Rattle.map_defs.specs.Cells.{InOrbit, Leads};
 ghost use Rattle.cell_walk.specs.Visits.{IsVisited, IsClosed};
+ghost use Rattle.cell_walk.specs.CellLists.{AreOrbitsOf, lists_of};
 
 use crate::found::Found;
 use link_rows::Links;
@@ -30,6 +31,48 @@ pub fn orbit<K: Kind, const DIM: usize>(
     Ok(found.into_ascending())
 }
 
+/// The darts of the orbits of some darts under some words, ascending, each once. It costs the number of these darts, for
+/// each word, times a logarithm, whether they lie in one orbit or in many.
+///
+/// The words' links are links of the map.
+pub fn orbits_of<K: Kind, const DIM: usize>(
+    alloc: Global,
+    links: &Links<K, DIM>,
+    words: &[Word],
+    darts: &[Dart],
+) -> Result<Vec<Dart>, AllocError>
+    requires { All (IsWithin DIM) words.now }
+    ensures members { IfOk result (λ orbits. (y : ℕ) → Contains orbits.items y
+        ↔ ((d : ℕ) × Contains darts.now d × InOrbit (Leads (links_of links.now.rows) (Contains words.now)) d y)) }
+    ensures ascending { IfOk result (λ orbits. IsStrictlyIncreasing orbits.items) }
+{
+    let mut found = Found::new(alloc);
+    for dart in darts {
+        walk(links, words, *dart, &mut found)?;
+    }
+    Ok(found.into_ascending())
+}
+
+/// The orbits of these darts under some words, in the same order. One walk uses the memory of the one before.
+pub(crate) fn each_orbit<K: Kind, const DIM: usize>(
+    alloc: Global,
+    links: &Links<K, DIM>,
+    words: &[Word],
+    darts: &[Dart],
+) -> Result<Vec<Vec<Dart>>, AllocError>
+    requires { All (IsWithin DIM) words.now }
+    ensures { IfOk result (λ orbits. AreOrbitsOf (Leads (links_of links.now.rows) (Contains words.now)) darts.now (lists_of orbits.items)) }
+{
+    let mut found = Found::new(alloc);
+    let mut orbits = Vec::with_capacity(alloc, darts.len())?;
+    for first in darts {
+        found.restart(0)?;
+        walk(links, words, *first, &mut found)?;
+        orbits.push(found.ascending_since(alloc, 0)?)?;
+    }
+    Ok(orbits)
+}
+
 /// Finds the orbit of a dart, besides what was found before. Where a word leads from a dart found before, it led to one.
 pub(crate) fn walk<K: Kind, const DIM: usize>(
     links: &Links<K, DIM>,
@@ -39,8 +82,9 @@ pub(crate) fn walk<K: Kind, const DIM: usize>(
 ) -> Result<(), AllocError>
     requires within { All (IsWithin DIM) words.now }
     requires closed { IsClosed (Leads (links_of links.now.rows) (Contains words.now)) found.old }
-    ensures { OnOk result ((y : ℕ)
+    ensures members { OnOk result ((y : ℕ)
         → Contains found.new y ↔ (Contains found.old y ⊎ InOrbit (Leads (links_of links.now.rows) (Contains words.now)) dart y)) }
+    ensures before { OnOk result (take (length found.old) found.new ≡ found.old) }
 {
     let mut next = found.len();
     found.add(dart)?;
@@ -52,7 +96,7 @@ pub(crate) fn walk<K: Kind, const DIM: usize>(
 }
 
 /// Finds the darts to which the words lead from a dart.
-fn visit<K: Kind, const DIM: usize>(
+pub(crate) fn visit<K: Kind, const DIM: usize>(
     links: &Links<K, DIM>,
     words: &[Word],
     dart: Dart,
@@ -77,10 +121,13 @@ fn step<K: Kind, const DIM: usize>(
     requires { IsWithin DIM word }
     ensures { OnOk result (IsVisited (links_of links.now.rows) (λ w. w ≡ word) dart found.old found.new) }
 {
-    match follow(links, word, dart) {
-        Some(reached) => found.add(reached),
-        None => Ok(()),
+    let Some(reached) = follow(links, word, dart) else {
+        return Ok(());
+    };
+    if found.contains(reached) {
+        return Ok(());
     }
+    found.put(reached)
 }
 
 /// The dart to which a word leads; none exactly where a link on its way is free.

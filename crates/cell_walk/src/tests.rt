@@ -1,6 +1,8 @@
 ghost use Rattle.std.specs.Prelude.{◌≡◌};
 
-use crate::{cell, cells, components, counts, least, orbit, same};
+use crate::{
+    cell, cell_lists, cells, cells_of, components, counts, least, orbit, orbits_of, reaches, same,
+};
 use link_rows::{Change, Edit, Links, polygon_edit};
 use map_kind::{Alpha, Dart, Word};
 use std::alloc::{AllocError, Global};
@@ -46,6 +48,22 @@ fn walks_along_the_words_alone(rt: HostRuntime) -> Result<(), Fail> {
 }
 
 #[test]
+fn looks_for_a_dart_and_joins_orbits(rt: HostRuntime) -> Result<(), Fail> {
+    let alloc = rt.alloc();
+    let links = triangle_and_square(&rt, alloc)?;
+    let face = [Word::one(0), Word::one(1)];
+    assert!(&rt; reaches(alloc, &links, &face, dart(&rt, 9), dart(&rt, 13))?);
+    assert!(&rt; !reaches(alloc, &links, &face, dart(&rt, 9), dart(&rt, 1))?);
+    let darts = [dart(&rt, 9), dart(&rt, 10), dart(&rt, 1)];
+    let sides = orbits_of(alloc, &links, &[Word::one(0)], &darts)?;
+    assert_eq!(&rt;
+        numbers(alloc, &sides)?.as_slice(),
+        [1, 2, 9, 10].as_slice()
+    );
+    Ok(())
+}
+
+#[test]
 fn finds_the_cells_of_a_dart(rt: HostRuntime) -> Result<(), Fail> {
     let alloc = rt.alloc();
     let links = triangle_and_square(&rt, alloc)?;
@@ -61,6 +79,34 @@ fn finds_the_cells_of_a_dart(rt: HostRuntime) -> Result<(), Fail> {
     assert!(&rt; same(alloc, &links, 0, dart(&rt, 2), dart(&rt, 3))?);
     assert!(&rt; !same(alloc, &links, 1, dart(&rt, 2), dart(&rt, 3))?);
     assert_eq!(&rt; least(alloc, &links, 2, dart(&rt, 9))?.number(), 7);
+    Ok(())
+}
+
+/// The numbers of the darts of all lists, one list after another.
+fn all_numbers(alloc: Global, lists: &[Vec<Dart>]) -> Result<Vec<u32>, AllocError> {
+    let mut all = Vec::new(alloc);
+    for list in lists {
+        all.append(&mut numbers(alloc, list)?)?;
+    }
+    Ok(all)
+}
+
+#[test]
+fn lists_the_darts_of_cells(rt: HostRuntime) -> Result<(), Fail> {
+    let alloc = rt.alloc();
+    let links = triangle_and_square(&rt, alloc)?;
+    let darts = [dart(&rt, 14), dart(&rt, 1), dart(&rt, 13)];
+    let edges = cells_of(alloc, &links, 1, &darts)?;
+    assert_eq!(&rt;
+        all_numbers(alloc, &edges)?.as_slice(),
+        [13, 14, 1, 2, 13, 14].as_slice()
+    );
+    let vertices = cell_lists(alloc, &links, 0)?;
+    assert_eq!(&rt;
+        all_numbers(alloc, &vertices.darts)?.as_slice(),
+        [1, 6, 2, 3, 4, 5, 7, 14, 8, 9, 10, 11, 12, 13].as_slice()
+    );
+    assert_eq!(&rt; vertices.least.len(), 7);
     Ok(())
 }
 

@@ -6,6 +6,7 @@ ghost use Rattle.map_defs.specs.Words.{one_link, IsWithin};
 ghost use Rattle.map_defs.specs.Cells.{Leads, NamesCell, NamesComponent};
 ghost use Rattle.map_defs.specs.Counts.{AreCounts};
 ghost use Rattle.cell_walk.specs.Surveys.{TurnsBack, IsLeast, IsSurveyed};
+ghost use Rattle.cell_walk.specs.CellLists.{AreCellsOf, AreOrbitsOf, lists_of};
 
 use crate::found::Found;
 use crate::orbits::walk;
@@ -24,8 +25,49 @@ pub fn cells<K: Kind, const DIM: usize>(
         → Contains cells.items d ↔ (IsLive links.now.rows d × NamesCell K.kind (links_of links.now.rows) dim d)) }
     ensures ascending { IfOk result (λ cells. IsStrictlyIncreasing cells.items) }
 {
+    let mut found = Found::with_marks(alloc);
+    cells_with(alloc, links, dim, &mut found)
+}
+
+/// The cells of a dimension, by their least darts, ascending.
+#[derive(Drop)]
+pub struct CellLists {
+    /// The least dart of each cell.
+    pub least: Vec<Dart>,
+    /// The darts of each cell, ascending, in the order of the cells.
+    pub darts: Vec<Vec<Dart>>,
+}
+
+/// All cells of dimension `dim`, each with its darts.
+pub fn cell_lists<K: Kind, const DIM: usize>(
+    alloc: Global,
+    links: &Links<K, DIM>,
+    dim: usize,
+) -> Result<CellLists, AllocError>
+    requires { dim ≤ DIM }
+    ensures members { IfOk result (λ cells. (d : ℕ)
+        → Contains cells.least.items d ↔ (IsLive links.now.rows d × NamesCell K.kind (links_of links.now.rows) dim d)) }
+    ensures ascending { IfOk result (λ cells. IsStrictlyIncreasing cells.least.items) }
+    ensures darts { IfOk result (λ cells. AreCellsOf K.kind (links_of links.now.rows) dim cells.least.items (lists_of cells.darts.items)) }
+{
     let words = K::words(alloc, links.dimension(), dim)?;
-    least_darts(alloc, links, &words)
+    orbit_lists(alloc, links, &words)
+}
+
+/// The same, with the memory of an earlier walk.
+fn cells_with<K: Kind, const DIM: usize>(
+    alloc: Global,
+    links: &Links<K, DIM>,
+    dim: usize,
+    found: &mut Found,
+) -> Result<Vec<Dart>, AllocError>
+    requires { dim ≤ DIM }
+    ensures members { IfOk result (λ cells. (d : ℕ)
+        → Contains cells.items d ↔ (IsLive links.now.rows d × NamesCell K.kind (links_of links.now.rows) dim d)) }
+    ensures ascending { IfOk result (λ cells. IsStrictlyIncreasing cells.items) }
+{
+    let words = K::words(alloc, links.dimension(), dim)?;
+    least_darts(alloc, links, &words, found)
 }
 
 /// The least darts of all components, by which the components are named, ascending.
@@ -37,8 +79,22 @@ pub fn components<K: Kind, const DIM: usize>(
         → Contains components.items d ↔ (IsLive links.now.rows d × NamesComponent (links_of links.now.rows) d)) }
     ensures ascending { IfOk result (λ components. IsStrictlyIncreasing components.items) }
 {
+    let mut found = Found::with_marks(alloc);
+    components_with(alloc, links, &mut found)
+}
+
+/// The same, with the memory of an earlier walk.
+fn components_with<K: Kind, const DIM: usize>(
+    alloc: Global,
+    links: &Links<K, DIM>,
+    found: &mut Found,
+) -> Result<Vec<Dart>, AllocError>
+    ensures members { IfOk result (λ components. (d : ℕ)
+        → Contains components.items d ↔ (IsLive links.now.rows d × NamesComponent (links_of links.now.rows) d)) }
+    ensures ascending { IfOk result (λ components. IsStrictlyIncreasing components.items) }
+{
     let words = single_words(alloc, links.dimension())?;
-    least_darts(alloc, links, &words)
+    least_darts(alloc, links, &words, found)
 }
 
 /// How many live darts, cells of dimensions 0 to `DIM`, and components there are, in this order.
@@ -48,12 +104,13 @@ pub fn counts<K: Kind, const DIM: usize>(
 ) -> Result<Vec<u64>, AllocError>
     ensures { IfOk result (λ counts. AreCounts K.kind DIM links.now.rows counts.items) }
 {
+    let mut found = Found::with_marks(alloc);
     let mut counts = Vec::new(alloc);
     counts.push(u64::from(links.live_count()))?;
     for dim in 0..links.dimension() + 1 {
-        counts.push(cells(alloc, links, dim)?.len() as u64)?;
+        counts.push(cells_with(alloc, links, dim, &mut found)?.len() as u64)?;
     }
-    counts.push(components(alloc, links)?.len() as u64)?;
+    counts.push(components_with(alloc, links, &mut found)?.len() as u64)?;
     Ok(counts)
 }
 
@@ -70,6 +127,7 @@ fn least_darts<K: Kind, const DIM: usize>(
     alloc: Global,
     links: &Links<K, DIM>,
     words: &[Word],
+    found: &mut Found,
 ) -> Result<Vec<Dart>, AllocError>
     requires within { All (IsWithin DIM) words.now }
     requires turns { TurnsBack (Leads (links_of links.now.rows) (Contains words.now)) }
@@ -77,16 +135,10 @@ fn least_darts<K: Kind, const DIM: usize>(
         → Contains darts.items d ↔ (IsLive links.now.rows d × IsLeast (Leads (links_of links.now.rows) (Contains words.now)) d)) }
     ensures ascending { IfOk result (λ darts. IsStrictlyIncreasing darts.items) }
 {
-    let mut found = Found::with_marks(alloc, links.made())?;
+    found.restart(links.made())?;
     let mut least = Vec::new(alloc);
     for number in 1..links.made() + 1 {
-        take_least(
-            links,
-            words,
-            Dart::new(number).unwrap(),
-            &mut found,
-            &mut least,
-        )?;
+        take_least(links, words, Dart::new(number).unwrap(), found, &mut least)?;
     }
     Ok(least)
 }
@@ -115,4 +167,69 @@ fn take_least<K: Kind, const DIM: usize>(
     }
     least.push(dart)?;
     walk(links, words, dart, found)
+}
+
+/// All orbits under words whose steps can be taken back, each with its darts.
+fn orbit_lists<K: Kind, const DIM: usize>(
+    alloc: Global,
+    links: &Links<K, DIM>,
+    words: &[Word],
+) -> Result<CellLists, AllocError>
+    requires within { All (IsWithin DIM) words.now }
+    requires turns { TurnsBack (Leads (links_of links.now.rows) (Contains words.now)) }
+    ensures members { IfOk result (λ orbits. (d : ℕ)
+        → Contains orbits.least.items d ↔ (IsLive links.now.rows d × IsLeast (Leads (links_of links.now.rows) (Contains words.now)) d)) }
+    ensures ascending { IfOk result (λ orbits. IsStrictlyIncreasing orbits.least.items) }
+    ensures darts { IfOk result (λ orbits. AreOrbitsOf (Leads (links_of links.now.rows) (Contains words.now)) orbits.least.items (lists_of orbits.darts.items)) }
+{
+    let mut found = Found::with_marks(alloc);
+    let made = links.made();
+    found.restart(made)?;
+    let mut orbits = CellLists {
+        least: Vec::new(alloc),
+        darts: Vec::new(alloc),
+    };
+    for number in 1..made + 1 {
+        take_orbit(
+            alloc,
+            links,
+            words,
+            Dart::new(number).unwrap(),
+            &mut found,
+            &mut orbits,
+        )?;
+    }
+    Ok(orbits)
+}
+
+/// Lists a live dart as the least of its orbit, and its orbit, unless the orbit of a lesser dart has it.
+fn take_orbit<K: Kind, const DIM: usize>(
+    alloc: Global,
+    links: &Links<K, DIM>,
+    words: &[Word],
+    dart: Dart,
+    found: &mut Found,
+    orbits: &mut CellLists,
+) -> Result<(), AllocError>
+    requires sound { IsSound K.kind DIM links.now.rows }
+    requires within { All (IsWithin DIM) words.now }
+    requires turns { TurnsBack (Leads (links_of links.now.rows) (Contains words.now)) }
+    requires before { IsSurveyed (Leads (links_of links.now.rows) (Contains words.now)) (IsLive links.now.rows)
+        dart found.old orbits.old.least.items }
+    requires lists { AreOrbitsOf (Leads (links_of links.now.rows) (Contains words.now)) orbits.old.least.items (lists_of orbits.old.darts.items) }
+    ensures surveyed { OnOk result (IsSurveyed (Leads (links_of links.now.rows) (Contains words.now)) (IsLive links.now.rows)
+        (dart + 1) found.new orbits.new.least.items) }
+    ensures lists { OnOk result (AreOrbitsOf (Leads (links_of links.now.rows) (Contains words.now)) orbits.new.least.items (lists_of orbits.new.darts.items)) }
+{
+    if found.contains(dart) {
+        return Ok(());
+    }
+    if !links.is_live(dart) {
+        return Ok(());
+    }
+    let known = found.len();
+    walk(links, words, dart, found)?;
+    orbits.least.push(dart)?;
+    orbits.darts.push(found.ascending_since(alloc, known)?)?;
+    Ok(())
 }

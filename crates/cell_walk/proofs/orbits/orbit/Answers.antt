@@ -11,7 +11,7 @@ walk-requires g c =
 pub returns-clause-members : goal.returns-clause-members
 returns-clause-members g c = λ y.
     let same = c.into_ascending.ensures.members y in
-    let walked = (rw c.new-found.ensures at c.in_ok-walk.ensures) y in (
+    let walked = (rw c.new-found.ensures at c.in_ok-walk.ensures.members) y in (
       λ has. orbit-alone (Leads (links_of c.args.links.now.rows) (Contains c.args.words.now)) c.args.dart y (walked.0 (same.0 has)),
       λ reached. same.1 (walked.1 (inr reached)),
     )

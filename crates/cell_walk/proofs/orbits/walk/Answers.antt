@@ -13,7 +13,10 @@ loop-next-preserved g c =
     walked-more (links_of c.args.links.now.rows) (Contains c.args.words.now) c.args.dart c.args.found.now c.loop-next.next c.at.result c.loop-next.found c.visit.new.found
     (omega (arith, c.len.ensures)) c.at.ensures c.requires.closed c.loop-next.invariant c.in_ok-visit.ensures
 
-pub returns : goal.returns
-returns g c =
+pub returns-clause-members : goal.returns-clause-members
+returns-clause-members g c =
     walked-all (links_of c.args.links.now.rows) (Contains c.args.words.now) c.args.dart c.args.found.now c.loop-next.next c.loop-next.found
     (omega (arith, c.len.ensures)) c.requires.closed c.loop-next.invariant
+
+pub returns-clause-before : goal.returns-clause-before
+returns-clause-before g c = c.loop-next.invariant.before

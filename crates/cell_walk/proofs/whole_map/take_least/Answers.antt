@@ -29,4 +29,4 @@ returns g c = on_ok_weaker c.walk.result
     c.args.dart c.args.found.now c.args.least.now.items c.walk.new.found
     (c.is_live.ensures.live.0 c.if-not-is_live.false)
     (λ known. false≢true (sym c.if-contains.false ∙ c.contains.ensures.1 known)) walked c.requires.before))
-    c.walk.ensures
+    c.walk.ensures.members

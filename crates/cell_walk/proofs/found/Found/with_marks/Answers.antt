@@ -3,5 +3,4 @@ use Rattle.cell_walk.proofs.FoundDarts.{listed-none}
 use Rattle.cell_walk.proofs.found.Found.with_marks.Goals as goal
 
 pub invariant_of-result : goal.invariant_of-result
-invariant_of-result c =
-    listed-none (HasSeen c.in_ok-with_marks.field-0) c.new.result.items c.in_ok-with_marks.ensures c.new.ensures.items
+invariant_of-result c = listed-none (HasSeen c.with_marks.result) c.new.result.items c.with_marks.ensures c.new.ensures.items

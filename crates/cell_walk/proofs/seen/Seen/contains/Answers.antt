@@ -1,8 +1,7 @@
-use Rattle.std.proofs.Common.{sym, ◌∙◌}
-use Rattle.cell_walk.proofs.SeenDarts.{seen-has}
+use Rattle.cell_walk.proofs.SeenDarts.{list-lacks, seen-either}
 use Rattle.cell_walk.proofs.seen.Seen.contains.Goals as goal
 
-pub returns-in-Set : goal.returns-in-Set
-returns-in-Set c =
-    rw c.in-Set.is
-    (λ known. (seen-has c.in-Set.darts c.args.dart).0 (sym c.contains.ensures ∙ known), λ has. c.contains.ensures ∙ (seen-has c.in-Set.darts c.args.dart).1 has)
+pub returns-else-contains : goal.returns-else-contains
+returns-else-contains c =
+    rw c.in-Set.is (seen-either c.in-Set.few.items c.in-Set.more c.args.dart c.contains-else-contains.result c.contains-else-contains.ensures
+    (list-lacks c.in-Set.few.items c.args.dart c.contains.result (rw c.deref.ensures.value at c.contains.ensures.cases) c.if-contains.false))

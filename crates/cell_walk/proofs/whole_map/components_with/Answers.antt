@@ -5,7 +5,7 @@ use Rattle.map_defs.specs.Cells.{Leads}
 use Rattle.map_defs.specs.Rows.{links_of}
 use Rattle.cell_walk.specs.Surveys.{TurnsBack, IsLeast}
 use Rattle.cell_walk.proofs.ComponentDarts.{all_links, links-within, links-turn, links-least}
-use Rattle.cell_walk.proofs.whole_map.components.Goals as goal
+use Rattle.cell_walk.proofs.whole_map.components_with.Goals as goal
 
 pub least_darts-requires : goal.least_darts-requires
 least_darts-requires g c =

@@ -1,7 +1,7 @@
 use Rattle.std.proofs.Common.{lit<}
 use Rattle.std.proofs.lemmas.Result.{IfOk-weaker}
 use Rattle.cell_walk.proofs.CellDarts.{AreWordsOf, words-within, words-turn, words-least}
-use Rattle.cell_walk.proofs.whole_map.cells.Goals as goal
+use Rattle.cell_walk.proofs.whole_map.cells_with.Goals as goal
 
 pub least_darts-requires : goal.least_darts-requires
 least_darts-requires g c =
