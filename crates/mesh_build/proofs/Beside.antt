@@ -3,7 +3,8 @@ use Rattle.std.proofs.Common.{◌≡◌, ℕ, Bool, ◌<◌, List, length, get_o
 use Rattle.std.proofs.lemmas.List.{get_or-map, length-map}
 use Rattle.map_defs.specs.MeshMap as mesh
 use Rattle.mesh_build.specs.declared.side.Side.{Side}
-use Rattle.mesh_build.specs.Sides.{side_view, views, no_side, side_of, IsSewn}
+use Rattle.mesh_build.specs.Sides.{side_view, views}
+use Rattle.mesh_laws.specs.Sides.{no_side, side_of, IsSewn}
 
 pub record AreBeside (items : List Side) (item : Side) : Type 0 where
   pub next : item.next < length items

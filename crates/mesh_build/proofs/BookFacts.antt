@@ -1,40 +1,17 @@
 -- What the book keeps when a side is added.
-use Rattle.std.proofs.Common.{◌≡◌, ◌≢◌, ℕ, zero, suc, ◌+◌, ◌<◌, min, max, Bool, true, false, cond, ◌&&◌, ◌==◌, List, [], ◌∷◌, ◌++◌, length, set, filter, Option, Some, None, is_some, refl, sym, ap, subst, ◌∙◌, ◌⊎◌, inl, inr, eq-eqb, Result, Ok, Err, arith}
+use Rattle.std.proofs.Common.{◌≡◌, ◌≢◌, ℕ, ◌+◌, ◌<◌, min, max, Bool, true, false, cond, ◌&&◌, ◌==◌, List, [], ◌∷◌, ◌++◌, length, set, filter, Option, Some, None, is_some, refl, sym, ap, subst, ◌∙◌, ◌⊎◌, inl, inr, eq-eqb, Result, Ok, Err, arith}
 use Rattle.std.specs.HashMap as hash
-use Rattle.std.proofs.lemmas.Bool.{and_parts, eqb-true, cases_Bool, false≢true, cases_lt}
+use Rattle.std.proofs.lemmas.Bool.{cases_Bool, false≢true}
 use Rattle.std.specs.Prelude.{OnOk, IfErr}
 use Rattle.mesh_build.specs.declared.fault.MeshFault.{MeshFault}
 use Rattle.mesh_build.specs.declared.fault.MeshFault.TheVariants as told
-use Rattle.std.proofs.lemmas.List.{get_or_append_left, get_or_push, length_push, append-nil, length-set, get_or-set_same, get_or-set_other}
-use Rattle.std.proofs.lemmas.List.Elements.{filter-append}
+use Rattle.std.proofs.lemmas.List.{get_or_append_left, get_or_push, length_push, length-set, get_or-set_same, get_or-set_other}
 use Rattle.map_defs.specs.Kind.{Kind}
-use Rattle.map_defs.specs.MeshMap.{Side, Fault, ThreeSides, Turned, is_between, has_ends, is_oriented, side_fault}
-use Rattle.mesh_build.specs.Sides.{no_side, side_of, partner_of, kind_of, Fails}
+use Rattle.map_defs.specs.MeshMap.{Side, Fault, ThreeSides, Turned, is_between, has_ends, side_fault}
+use Rattle.mesh_build.specs.Sides.{Fails}
+use Rattle.mesh_laws.specs.Sides.{side_of, partner_of, kind_of}
+use Rattle.mesh_laws.proofs.Filtered.{found_at, not-true, oriented-is, between-ends, numbered-on, filter-more, filter-same, ends-of}
 use Rattle.mesh_build.specs.Kept.{Last, pair_eq, last_at, KeepsEdge, Keeps}
-
--- what a filter keeps stands in the list
-pub found_at : (p : Side → Bool) (xs : List Side) (i : ℕ) → i < length (filter p xs)
-    → (j : ℕ) × (j < length xs) × (side_of xs j ≡ side_of (filter p xs) i) × (p (side_of (filter p xs) i) ≡ true)
-found_at p [] i h = absurd (omega arith)
-found_at p (x ∷ xs) i h = at (p x) refl (found_at p xs) i h
-  where
-    at : (b : Bool) → p x ≡ b → ((i : ℕ) → i < length (filter p xs) → (j : ℕ) × (j < length xs) × (side_of xs j ≡ side_of (filter p xs) i) × (p (side_of (filter p xs) i) ≡ true))
-        → (i : ℕ) → i < length (cond b (x ∷ filter p xs) (filter p xs))
-        → (j : ℕ) × (j < suc (length xs)) × (side_of (x ∷ xs) j ≡ side_of (cond b (x ∷ filter p xs) (filter p xs)) i) × (p (side_of (cond b (x ∷ filter p xs) (filter p xs)) i) ≡ true)
-    at true e more zero h = (0, omega arith, refl, e)
-    at true e more (suc i) h = let m = more i (omega arith) in (suc m.0, omega arith, m.2, m.3)
-    at false e more i h = let m = more i h in (suc m.0, omega arith, m.2, m.3)
-
--- what stands in the list and passes is kept by a filter, and a later one stands later
-pub kept_at : (p : Side → Bool) (xs : List Side) (j : ℕ) → j < length xs → p (side_of xs j) ≡ true → (i : ℕ) × (i < length (filter p xs)) × (side_of (filter p xs) i ≡ side_of xs j)
-kept_at p [] j h e = absurd (omega arith)
-kept_at p (x ∷ xs) zero h e = rw e (0, omega arith, refl)
-kept_at p (x ∷ xs) (suc j) h e = at (p x) (kept_at p xs j (omega arith) e)
-  where
-    at : (b : Bool) → (i : ℕ) × (i < length (filter p xs)) × (side_of (filter p xs) i ≡ side_of xs j)
-        → (i : ℕ) × (i < length (cond b (x ∷ filter p xs) (filter p xs))) × (side_of (cond b (x ∷ filter p xs) (filter p xs)) i ≡ side_of xs j)
-    at true m = (suc m.0, omega arith, m.2)
-    at false m = m
 
 module _ (o : Bool) where
   -- the faults, by what the book has
@@ -82,26 +59,6 @@ module _ (o : Bool) where
   KeepsEdge-same partners others last (a ∷ b ∷ []) same h = (h.0, same 0 (omega arith) ∙ h.1, same 1 (omega arith) ∙ h.2, h.3, h.4)
   KeepsEdge-same partners others last (a ∷ b ∷ c ∷ more) same h = h
 
-not-true : (b : Bool) → (b ≡ true → ⊥) → b ≡ false
-not-true true h = absurd (h refl)
-not-true false h = refl
-
-pub oriented-is : (o : Bool) → is_oriented (kind_of o) ≡ o
-oriented-is true = refl
-oriented-is false = refl
-
--- a side between two points lies between those of each side between them
-pub between-ends : (low high : ℕ) (s t : Side) → is_between low high t ≡ true → has_ends s t ≡ true → is_between low high s ≡ true
-between-ends low high s t e f =
-    let p = and_parts (min t.from t.to == low) (max t.from t.to == high) e in
-    let q = and_parts (min t.from t.to == min s.from s.to) (max t.from t.to == max s.from s.to) f in
-    let l : min s.from s.to ≡ low = sym (eqb-true (min t.from t.to) (min s.from s.to) q.0) ∙ eqb-true (min t.from t.to) low p.0 in
-    let h : max s.from s.to ≡ high = sym (eqb-true (max t.from t.to) (max s.from s.to) q.1) ∙ eqb-true (max t.from t.to) high p.1 in
-    rw (l, h) (sym (both low high))
-  where
-    both : (m n : ℕ) → true ≡ (m == m) && (n == n)
-    both m n = rw (eq-eqb m m refl, eq-eqb n n refl) refl
-
 -- A side is added, and what is kept between its two points is known.
 pub added : (o : Bool) (last next : Last) (partners others : List (Option ℕ)) (sides : List Side) (s : Side) → Keeps o last partners sides → s.number ≡ length sides
     → length others ≡ length partners + 1
@@ -111,35 +68,25 @@ pub added : (o : Bool) (last next : Last) (partners others : List (Option ℕ)) 
     → Keeps o next others (sides ++ s ∷ [])
 added o last next partners others sides s kept number long apart here there = record {
   long = omega (arith, kept.long, length_push sides s);
-  numbers = numbers;
+  numbers = numbered-on sides s kept.numbers number;
   edges = λ low high. edge low high (cases_Bool (is_between low high s));
 }
   where
-    numbers : (i : ℕ) → i < length (sides ++ s ∷ []) → (side_of (sides ++ s ∷ []) i).number ≡ i
-    numbers i h = elim (cases_lt i (length sides)) [
-      | inl lt ↦ ap (λ (x : Side). x.number) (get_or_append_left sides (s ∷ []) no_side i lt) ∙ kept.numbers i lt
-      | inr le ↦ let at : length sides ≡ i = omega (arith, length_push sides s) in ap (λ (x : Side). x.number) (get_or_push sides s no_side i at) ∙ (number ∙ at)
-    ]
-
     edge : (low high : ℕ) → (is_between low high s ≡ true) ⊎ (is_between low high s ≡ false) → KeepsEdge o others (last_at next low high) (filter (is_between low high) (sides ++ s ∷ []))
     edge low high (inl e) =
-        let p = and_parts (min s.from s.to == low) (max s.from s.to == high) e in
-        let l : min s.from s.to ≡ low = eqb-true (min s.from s.to) low p.0 in
-        let h : max s.from s.to ≡ high = eqb-true (max s.from s.to) high p.1 in
-        let whole : filter (is_between low high) (sides ++ s ∷ []) ≡ filter (is_between low high) sides ++ s ∷ [] = filter-append (is_between low high) sides (s ∷ []) ∙ rw e refl in
+        let ends = ends-of low high s e in
         let P : ℕ → ℕ → Type 0 = λ m n. KeepsEdge o others (last_at next m n) (filter (is_between m n) sides ++ s ∷ []) in
-        let there_l : P low (max s.from s.to) = subst (λ (m : ℕ). P m (max s.from s.to)) l here in
-        rw whole (subst (λ (n : ℕ). P low n) h there_l)
+        let there_l : P low (max s.from s.to) = subst (λ (m : ℕ). P m (max s.from s.to)) ends.0 here in
+        rw (filter-more (is_between low high) sides s e) (subst (λ (n : ℕ). P low n) ends.1 there_l)
     edge low high (inr e) =
         let met : List Side = filter (is_between low high) sides in
-        let whole : filter (is_between low high) (sides ++ s ∷ []) ≡ met = filter-append (is_between low high) sides (s ∷ []) ∙ rw e (append-nil met) in
         let same : (i : ℕ) → i < length met → partner_of others (side_of met i).number ≡ partner_of partners (side_of met i).number = λ i h.
         let f = found_at (is_between low high) sides i h in
         let at : (side_of met i).number ≡ f.0 = ap (λ (x : Side). x.number) (sym f.2) ∙ kept.numbers f.0 f.1 in
         let between : is_between low high (side_of sides f.0) ≡ true = ap (is_between low high) f.2 ∙ f.3 in
         let other : has_ends s (side_of sides f.0) ≡ false = not-true (has_ends s (side_of sides f.0)) (λ t. false≢true (sym e ∙ between-ends low high s (side_of sides f.0) between t)) in
         ap (partner_of others) at ∙ (there f.0 f.1 other ∙ sym (ap (partner_of partners) at)) in
-        rw (whole, apart (low, high) e) (KeepsEdge-same o partners others (last_at last low high) met same (kept.edges low high))
+        rw (filter-same (is_between low high) sides s e, apart (low, high) e) (KeepsEdge-same o partners others (last_at last low high) met same (kept.edges low high))
 
 -- the last side between two points is one of the sides
 last-stands : (o : Bool) (partners : List (Option ℕ)) (n : ℕ) (met : List Side) → KeepsEdge o partners (Some n) met → (i : ℕ) × (i < length met) × ((side_of met i).number ≡ n)

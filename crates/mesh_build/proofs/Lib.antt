@@ -1,13 +1,6 @@
 pub mod BookFacts
 pub mod Repeats
 pub mod FaceSides
-pub mod Rings
 pub mod Partners
-pub mod Listed
-pub mod SideFacts
-pub mod AlphaSides
-pub mod BetaSides
-pub mod MadeMesh
-pub mod SidePoints
-pub mod LiveDarts
 pub mod Beside
+pub mod DartChanges

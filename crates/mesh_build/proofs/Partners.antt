@@ -1,99 +1,22 @@
 -- What the book keeps of all sides tells their partners.
-use Rattle.std.proofs.Common.{◌≡◌, ◌≢◌, ℕ, zero, suc, ◌<◌, min, max, Bool, true, List, [], ◌∷◌, length, filter, Option, Some, None, refl, sym, ap, subst, ◌∙◌, ◌⊎◌, inl, inr, eq-eqb, arith}
-use Rattle.map_defs.specs.MeshMap.{Side, has_ends}
-use Rattle.mesh_build.specs.Sides.{side_of, partner_of, HasPartner, IsRing, IsSewn}
+use Rattle.std.proofs.Common.{ℕ, ◌<◌, Bool, List, [], ◌∷◌, length, filter, Option}
+use Rattle.map_defs.specs.MeshMap.{Side, is_between}
+use Rattle.mesh_laws.specs.Sides.{IsRing, IsSewn}
+use Rattle.mesh_laws.proofs.Partners.{ArePartners, ArePaired, paired-sewn}
 use Rattle.mesh_build.specs.Kept.{Last, last_at, KeepsEdge, Keeps}
-use Rattle.mesh_build.proofs.BookFacts.{found_at, kept_at}
 
-module _ (o : Bool) (last : Last) (partners : List (Option ℕ)) (sides : List Side) (kept : Keeps o last partners sides) where
-  self-ends : (s : Side) → has_ends s s ≡ true
-  self-ends s = rw (eq-eqb (min s.from s.to) (min s.from s.to) refl, eq-eqb (max s.from s.to) (max s.from s.to) refl) refl
+edge-partners : (o : Bool) (partners : List (Option ℕ)) (last : Option ℕ) (met : List Side) → KeepsEdge o partners last met → ArePartners o partners met
+edge-partners o partners last [] h = tt
+edge-partners o partners last (a ∷ []) h = h.1
+edge-partners o partners last (a ∷ b ∷ []) h = (h.1, h.2, h.3, h.4)
+edge-partners o partners last (a ∷ b ∷ c ∷ more) h = h
 
-  -- the number of a side that stands among those with the same points
-  member : (s : ℕ) (i : ℕ) → i < length (filter (has_ends (side_of sides s)) sides)
-      → ((side_of (filter (has_ends (side_of sides s)) sides) i).number < length sides)
-      × (side_of sides (side_of (filter (has_ends (side_of sides s)) sides) i).number ≡ side_of (filter (has_ends (side_of sides s)) sides) i)
-      × (has_ends (side_of sides s) (side_of (filter (has_ends (side_of sides s)) sides) i) ≡ true)
-  member s i h =
-      let f = found_at (has_ends (side_of sides s)) sides i h in
-      let number : (side_of (filter (has_ends (side_of sides s)) sides) i).number ≡ f.0 = ap (λ (x : Side). x.number) (sym f.2) ∙ kept.numbers f.0 f.1 in
-      (subst (λ (n : ℕ). n < length sides) (sym number) f.1, ap (side_of sides) number ∙ f.2, f.3)
-
-  -- where it stands there
-  place : (s t : ℕ) → t < length sides → has_ends (side_of sides s) (side_of sides t) ≡ true
-      → (i : ℕ) × (i < length (filter (has_ends (side_of sides s)) sides)) × ((side_of (filter (has_ends (side_of sides s)) sides) i).number ≡ t)
-  place s t h e =
-      let k = kept_at (has_ends (side_of sides s)) sides t h e in
-      (k.0, k.1, ap (λ (x : Side). x.number) k.2 ∙ kept.numbers t h)
-
-  -- the same of a list that is known
-  abbrev Members : ℕ → List Side → Type 0
-  Members s met = (i : ℕ) → i < length met → ((side_of met i).number < length sides) × (side_of sides (side_of met i).number ≡ side_of met i) × (has_ends (side_of sides s) (side_of met i) ≡ true)
-
-  abbrev Places : ℕ → List Side → Type 0
-  Places s met = (t : ℕ) → t < length sides → has_ends (side_of sides s) (side_of sides t) ≡ true → (i : ℕ) × (i < length met) × ((side_of met i).number ≡ t)
-
-  has_partner-of : (s : ℕ) (l : Option ℕ) (met : List Side) → s < length sides → Members s met → Places s met → KeepsEdge o partners l met → HasPartner o sides partners s (partner_of partners s)
-  has_partner-of s l [] low members places h = let p = places s low (self-ends (side_of sides s)) in absurd (omega (arith, p.1))
-  has_partner-of s l (a ∷ []) low members places h =
-      let p = places s low (self-ends (side_of sides s)) in
-      let first : a.number ≡ s = only-one a p.0 p.1 ∙ p.2 in
-      let none : partner_of partners s ≡ None = ap (partner_of partners) (sym first) ∙ h.1 in
-      subst (HasPartner o sides partners s) (sym none) (λ t inside e. let q = places t inside e in sym (only-one a q.0 q.1 ∙ q.2) ∙ first)
-    where
-      only-one : (a : Side) (i : ℕ) → i < 1 → a.number ≡ (side_of (a ∷ []) i).number
-      only-one a zero h = refl
-      only-one a (suc i) h = absurd (omega arith)
-  has_partner-of s l (a ∷ b ∷ []) low members places h =
-      let p = places s low (self-ends (side_of sides s)) in
-      of_place (of_two a b p.0 p.1 s p.2)
-    where
-      of_two : (a b : Side) (i : ℕ) → i < 2 → (t : ℕ) → (side_of (a ∷ b ∷ []) i).number ≡ t → (t ≡ a.number) ⊎ (t ≡ b.number)
-      of_two a b zero h t e = inl (sym e)
-      of_two a b (suc zero) h t e = inr (sym e)
-      of_two a b (suc (suc i)) h t e = absurd (omega arith)
-
-      one : (t : ℕ) → t < length sides → has_ends (side_of sides s) (side_of sides t) ≡ true → (t ≡ a.number) ⊎ (t ≡ b.number)
-      one t inside e = let q = places t inside e in of_two a b q.0 q.1 t q.2
-
-      ends_of : (i : ℕ) → i < 2 → has_ends (side_of sides s) (side_of sides (side_of (a ∷ b ∷ []) i).number) ≡ true
-      ends_of i low = let m = members i low in ap (has_ends (side_of sides s)) m.1 ∙ m.2
-
-      apart : o ≡ true → (side_of sides a.number).from ≢ (side_of sides b.number).from
-      apart turned same = h.4 turned (sym (ap (λ (x : Side). x.from) (members 0 (omega arith)).1) ∙ (same ∙ ap (λ (x : Side). x.from) (members 1 (omega arith)).1))
-
-      of_place : (s ≡ a.number) ⊎ (s ≡ b.number) → HasPartner o sides partners s (partner_of partners s)
-      of_place (inl is) =
-          let some : partner_of partners s ≡ Some b.number = ap (partner_of partners) is ∙ h.1 in
-          subst (HasPartner o sides partners s) (sym some) (
-            record {
-              within = (members 1 (omega arith)).0;
-              apart = λ e. absurd (omega arith);
-              ends = ends_of 1 (omega arith);
-              turned = λ turned. subst (λ (t : ℕ). (side_of sides t).from ≢ (side_of sides b.number).from) (sym is) (apart turned);
-              only = λ u inside e. elim (one u inside e) [ inl at ↦ inl (at ∙ sym is) | inr at ↦ inr at ];
-            },
-            h.2 ∙ ap (λ (n : ℕ). Some n) (sym is),
-          )
-      of_place (inr is) =
-          let some : partner_of partners s ≡ Some a.number = ap (partner_of partners) is ∙ h.2 in
-          subst (HasPartner o sides partners s) (sym some) (
-            record {
-              within = (members 0 (omega arith)).0;
-              apart = λ e. absurd (omega arith);
-              ends = ends_of 0 (omega arith);
-              turned = λ turned. subst (λ (t : ℕ). (side_of sides t).from ≢ (side_of sides a.number).from) (sym is) (λ e. apart turned (sym e));
-              only = λ u inside e. elim (one u inside e) [ inl at ↦ inr at | inr at ↦ inl (at ∙ sym is) ];
-            },
-            h.1 ∙ ap (λ (n : ℕ). Some n) (sym is),
-          )
-  has_partner-of s l (a ∷ b ∷ c ∷ more) low members places h = absurd h
-
-  pub has_partner : (s : ℕ) → s < length sides → HasPartner o sides partners s (partner_of partners s)
-  has_partner s low =
-      let e : Side = side_of sides s in
-      has_partner-of s (last_at last (min e.from e.to) (max e.from e.to)) (filter (has_ends e) sides) low (member s) (place s) (kept.edges (min e.from e.to) (max e.from e.to))
-
-  -- What is kept of all sides tells which are sewn.
-  pub is_sewn : ((s : ℕ) → s < length sides → IsRing sides s) → IsSewn o sides partners
-  is_sewn ring = record { long = kept.long; ring = ring; each = has_partner }
+-- What is kept of all sides tells which are sewn.
+pub is_sewn : (o : Bool) (last : Last) (partners : List (Option ℕ)) (sides : List Side) → Keeps o last partners sides → ((s : ℕ) → s < length sides → IsRing sides s) → IsSewn o sides partners
+is_sewn o last partners sides kept ring =
+    let paired : ArePaired o partners sides = record {
+      long = kept.long;
+      numbers = kept.numbers;
+      edges = λ low high. edge-partners o partners (last_at last low high) (filter (is_between low high) sides) (kept.edges low high);
+    } in
+    paired-sewn o partners sides paired ring

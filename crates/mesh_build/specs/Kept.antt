@@ -5,7 +5,8 @@ use Rattle.std.specs.HashMap.{HashMap}
 use Rattle.std.specs.declared.hash.FoldHasher.{FoldHasher}
 use Rattle.std.specs.declared.hash.BuildHasherDefault.{BuildHasherDefault}
 use Rattle.map_defs.specs.MeshMap.{Side, is_between}
-use Rattle.mesh_build.specs.Sides.{side_of, partner_of, sides_view}
+use Rattle.mesh_build.specs.Sides.{sides_view}
+use Rattle.mesh_laws.specs.Sides.{side_of, partner_of}
 use Rattle.mesh_build.specs.declared.book.Book.{Book}
 
 abbrev pub Last : Type 0

@@ -1,4 +1,3 @@
 pub mod Sides
-pub mod SideLinks
 pub mod Kept
 pub mod EntriesView

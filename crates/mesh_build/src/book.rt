@@ -1,11 +1,12 @@
-ghost use Rattle.std.specs.Prelude.{◌≡◌, Bool, ◌&&◌, ◌==◌, ◌+◌, ◌<◌, [], ◌∷◌, ◌++◌, map, filter, IfErr, OnOk, vec_len};
+ghost use Rattle.std.specs.Prelude.{◌≡◌, Bool, ◌&&◌, ◌==◌, ◌+◌, ◌<◌, [], ◌∷◌, ◌++◌, map, filter, IfOk, IfErr, OnOk, vec_len};
 ghost use Rattle.map_defs.specs.MeshMap.{side_fault, has_ends};
-ghost use Rattle.mesh_build.specs.Sides.{side_view, sides_view, kind_of, Fails};
+ghost use Rattle.mesh_build.specs.Sides.{side_view, sides_view, Fails};
+ghost use Rattle.mesh_laws.specs.Sides.{kind_of};
 ghost use Rattle.mesh_build.specs.Kept.{IsKept};
 
 use crate::MeshFault;
 use crate::side::Side;
-use std::alloc::Global;
+use std::alloc::{AllocError, Global};
 use std::collections::HashMap;
 
 /// The sides so far, and which of them are sewn.
@@ -19,16 +20,17 @@ pub struct Book {
 }
 
 impl Book {
-    /// A book without sides. It takes no memory.
-    pub fn new(alloc: Global) -> Self
-        ensures kept { (o : Bool) → IsKept o result }
-        ensures sides { result.sides.items ≡ [] }
+    /// A book without sides, with room for so many. In a closed mesh each two points that have a side between them have
+    /// two.
+    pub fn with_capacity(alloc: Global, sides: usize) -> Result<Self, AllocError>
+        ensures kept { IfOk result (λ book. (o : Bool) → IsKept o book) }
+        ensures sides { IfOk result (λ book. book.sides.items ≡ []) }
     {
-        Book {
-            last: HashMap::new(alloc),
-            sides: Vec::new(alloc),
-            partners: Vec::new(alloc),
-        }
+        Ok(Book {
+            last: HashMap::with_capacity(alloc, sides / 2)?,
+            sides: Vec::with_capacity(alloc, sides)?,
+            partners: Vec::with_capacity(alloc, sides)?,
+        })
     }
 
     /// Adds a side of a face, and sews it to the side with the same two points, if there is one.

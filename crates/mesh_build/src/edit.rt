@@ -1,8 +1,9 @@
 ghost use Rattle.std.specs.Prelude.{◌≡◌, ◌==◌, true, false, ◌+◌, ◌-◌, ◌*◌, ◌≤◌, ◌<◌, ◌++◌, length, IfOk, OnOk};
 ghost use Rattle.map_defs.specs.Polygon.{per_side};
-ghost use Rattle.mesh_build.specs.Sides.{sides_view, kind_of, side_of, IsSewn};
+ghost use Rattle.mesh_build.specs.Sides.{sides_view};
+ghost use Rattle.mesh_laws.specs.Sides.{kind_of, side_of, IsSewn};
 ghost use Rattle.map_defs.specs.Kind.{alpha, beta};
-ghost use Rattle.mesh_build.specs.SideLinks.{entry_change, entry_changes, start_across, finish_across, start_entries, finish_entries, dart_entries, mesh_edit};
+ghost use Rattle.mesh_laws.specs.SideLinks.{entry_change, entry_changes, start_across, finish_across, start_entries, finish_entries, dart_entries, mesh_edit};
 ghost use Rattle.mesh_build.specs.EntriesView.{entries_view};
 
 use crate::sew::Sewn;
@@ -13,10 +14,10 @@ use std::alloc::{AllocError, Global};
 
 /// The links 0, 1 and 2 of a dart, 0 where one is free.
 #[derive(Clone, Copy)]
-struct Entries {
-    zeroth: u32,
-    first: u32,
-    second: u32,
+pub struct Entries {
+    pub zeroth: u32,
+    pub first: u32,
+    pub second: u32,
 }
 
 /// The edit that makes the darts of these sides, two for each side or one in an oriented map, and their links.
@@ -41,7 +42,8 @@ pub fn edit_of(alloc: Global, oriented: bool, sewn: &Sewn) -> Result<Edit, Alloc
     })
 }
 
-fn per_side(oriented: bool) -> u32
+/// How many darts a side has.
+pub fn per_side(oriented: bool) -> u32
     ensures { result ≡ per_side (kind_of oriented) }
 {
     if oriented { 1 } else { 2 }
@@ -78,7 +80,7 @@ fn push_change(
 }
 
 /// The links of a dart.
-fn dart_entries(oriented: bool, sewn: &Sewn, number: u32) -> Entries
+pub fn dart_entries(oriented: bool, sewn: &Sewn, number: u32) -> Entries
     requires sewn { IsSewn oriented (sides_view sewn.now.sides) sewn.now.partners.items }
     requires few { per_side (kind_of oriented) * length sewn.now.sides.items ≤ 4194304 }
     requires low { 1 ≤ number }

@@ -1,10 +1,11 @@
-//! The map of a mesh: an edit that makes it from nothing, and the points of its vertices.
+//! The map of a mesh: its links, or an edit that makes them from nothing, and the points of its vertices.
 #![tactic(auto)]
 
 mod book;
 mod build;
 mod edit;
 mod fault;
+mod links;
 mod places;
 mod repeat;
 mod sew;
@@ -12,5 +13,5 @@ mod side;
 #[cfg(test)]
 mod tests;
 
-pub use build::{Built, mesh_rows};
+pub use build::{Built, MeshMap, mesh_map, mesh_rows};
 pub use fault::MeshFault;

@@ -2,7 +2,8 @@ ghost use Rattle.std.specs.Prelude.{◌≡◌, ◌+◌, ◌≤◌, ◌<◌, ◌^
 ghost use Rattle.map_defs.specs.Off.{HasFaces};
 ghost use Rattle.map_defs.specs.MeshMap.{sides_of, face_sides, sides_fault, faces_fault};
 ghost use Rattle.off_text.specs.Meanings.{mesh_view};
-ghost use Rattle.mesh_build.specs.Sides.{sides_view, kind_of, Fails, IsSewn};
+ghost use Rattle.mesh_build.specs.Sides.{sides_view, Fails};
+ghost use Rattle.mesh_laws.specs.Sides.{kind_of, IsSewn};
 ghost use Rattle.mesh_build.specs.Kept.{IsKept};
 
 use crate::MeshFault;
@@ -19,15 +20,21 @@ pub struct Sewn {
     pub partners: Vec<Option<u32>>,
 }
 
-/// The sides of a mesh, sewn where two have the same two points; or what is wrong with a face.
-pub fn sew_faces(alloc: Global, oriented: bool, mesh: &Mesh) -> Result<Sewn, MeshFault>
+/// The sides of a mesh, sewn where two have the same two points; or what is wrong with a face. Room is made for so many
+/// sides.
+pub fn sew_faces(
+    alloc: Global,
+    oriented: bool,
+    mesh: &Mesh,
+    sides: usize,
+) -> Result<Sewn, MeshFault>
     requires faces { HasFaces (mesh_view mesh.now) }
     requires few { length (sides_of (mesh_view mesh.now).faces) ≤ 4194304 }
     ensures sides { IfOk result (λ sewn. sides_view sewn.sides ≡ sides_of (mesh_view mesh.now).faces) }
     ensures sewn { IfOk result (λ sewn. IsSewn oriented (sides_view sewn.sides) sewn.partners.items) }
     ensures fault { Fails result (faces_fault (kind_of oriented) 0 [] (mesh_view mesh.now).faces) }
 {
-    let mut book = Book::new(alloc);
+    let mut book = Book::with_capacity(alloc, sides)?;
     let mut marks = vec![in alloc; 0u32; mesh.points.len()]?;
     for (face, corners) in mesh.faces.iter().enumerate() {
         let face = face as u32;

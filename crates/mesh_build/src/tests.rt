@@ -5,9 +5,9 @@ ghost use Rattle.off_text.specs.Meanings.{mesh_view};
 
 use crate::build::sew_few;
 use crate::edit::edit_of;
-use crate::{MeshFault, mesh_rows};
+use crate::{MeshFault, mesh_map, mesh_rows};
 use link_rows::Edit;
-use map_kind::{Alpha, Value};
+use map_kind::{Alpha, Dart, Value};
 use off_text::{Mesh, read_off};
 use std::alloc::Global;
 use std::test::Fail;
@@ -105,6 +105,20 @@ fn a_cube(rt: HostRuntime) -> Result<(), Fail> {
         assert_eq!(rt; place.dart.number(), *dart);
         assert_eq!(rt; place.value, Value { a: *a, b: 0, c: 0 });
     }
+    Ok(())
+}
+
+#[test]
+fn links_of_a_cube(rt: HostRuntime) -> Result<(), Fail> {
+    let mesh = mesh_of(rt.alloc(), CUBE)?;
+    let built = mesh_map::<Alpha, 2>(rt.alloc(), &mesh)
+        .ok()
+        .ok_or("not built")?;
+    let first = Dart::new(1).unwrap();
+    assert_eq!(rt; built.links.made(), 48);
+    assert_eq!(rt; built.links.link(first, 0), Dart::new(2));
+    assert_eq!(rt; built.links.link(first, 2), Dart::new(42));
+    assert_eq!(rt; (built.places.len(), built.cells.len()), (8, 8));
     Ok(())
 }
 

@@ -13,3 +13,4 @@ pub mod Grouping
 pub mod Summing
 pub mod Totalling
 pub mod Listed
+pub mod ValueFacts

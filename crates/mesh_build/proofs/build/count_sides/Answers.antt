@@ -1,7 +1,7 @@
 use Rattle.std.proofs.Common.{◌≡◌, ℕ, ◌+◌, ◌≤◌, ◌∷◌, length, drop, Vec, Global, sym, ap, ◌∙◌, arith, vec_len}
 use Rattle.std.proofs.lemmas.List.{drop_more}
 use Rattle.off_text.specs.Meanings.{items_of, faces_view}
-use Rattle.mesh_build.proofs.FaceSides.{length-sides_from}
+use Rattle.mesh_laws.proofs.FaceSides.{length-sides_from}
 use Rattle.mesh_build.proofs.build.count_sides.Goals as goal
 
 pub loop-face-preserved : goal.loop-face-preserved

@@ -4,8 +4,8 @@ use Rattle.std.proofs.lemmas.List.{get_or-map, length-map}
 use Rattle.off_text.specs.Meanings.{items_of, faces_view}
 use Rattle.mesh_build.proofs.build.sew_few.Goals as goal
 
-pub count_sides-requires-clause-short : goal.count_sides-requires-clause-short
-count_sides-requires-clause-short c = λ k z h.
+pub count_sides-sides-requires-clause-short : goal.count_sides-sides-requires-clause-short
+count_sides-sides-requires-clause-short c = λ k z h.
     let faces : List (Vec ℕ Global) = c.deref.result.now in
     let P : List (Vec ℕ Global) → Type 0 = λ fs. All (λ (corners : List ℕ). (3 ≤ length corners) × (length corners ≤ 65536)) (faces_view fs) in
     let all : P faces = subst P (sym c.deref.ensures.value) c.requires.faces.sides in
@@ -15,4 +15,4 @@ count_sides-requires-clause-short c = λ k z h.
 
 pub dart_count-darts-requires : goal.dart_count-darts-requires
 dart_count-darts-requires c =
-    omega (arith, c.count_sides.ensures.few, c.deref.ensures.len, c.requires.faces.few, ap length c.deref.ensures.value, length-map c.args.mesh.now.faces.items items_of)
+    omega (arith, c.count_sides-sides.ensures.few, c.deref.ensures.len, c.requires.faces.few, ap length c.deref.ensures.value, length-map c.args.mesh.now.faces.items items_of)

@@ -1,7 +1,8 @@
 use Rattle.std.proofs.Common.{◌≡◌, ◌-◌}
 use Rattle.std.specs.List.{flat_map, range_with_len}
-use Rattle.mesh_build.specs.Sides.{sides_view, kind_of}
-use Rattle.mesh_build.specs.SideLinks.{mesh_changes}
+use Rattle.mesh_build.specs.Sides.{sides_view}
+use Rattle.mesh_laws.specs.Sides.{kind_of}
+use Rattle.mesh_laws.specs.SideLinks.{mesh_changes}
 use Rattle.mesh_build.proofs.edit.edit_of.Given as goal
 
 abbrev pub invariant-loop-number : goal.invariant-loop-number

@@ -3,8 +3,9 @@ use Rattle.std.specs.List.{range_with_len}
 use Rattle.std.proofs.lemmas.List.{length-map, length_push}
 use Rattle.std.proofs.lemmas.List.FromFn.{map-range_with_len_more}
 use Rattle.map_defs.specs.MeshMap.{Side, side_at, has_ends, side_fault}
-use Rattle.mesh_build.specs.Sides.{side_view, sides_view, kind_of}
-use Rattle.mesh_build.proofs.FaceSides.{sides_fault-on}
+use Rattle.mesh_build.specs.Sides.{side_view, sides_view}
+use Rattle.mesh_laws.specs.Sides.{kind_of}
+use Rattle.mesh_laws.proofs.FaceSides.{sides_fault-on}
 use Rattle.mesh_build.proofs.sew.add_face.Goals as goal
 
 pub loop-place-preserved : goal.loop-place-preserved

@@ -1,7 +1,8 @@
 use Rattle.std.proofs.Common.{◌≡◌, ◌+◌, ◌-◌, ◌++◌, length, map}
 use Rattle.std.specs.List.{range_with_len}
 use Rattle.map_defs.specs.MeshMap.{side_at, face_sides, sides_fault}
-use Rattle.mesh_build.specs.Sides.{sides_view, kind_of}
+use Rattle.mesh_build.specs.Sides.{sides_view}
+use Rattle.mesh_laws.specs.Sides.{kind_of}
 use Rattle.mesh_build.specs.Kept.{IsKept}
 use Rattle.mesh_build.proofs.sew.add_face.Given as goal
 

@@ -3,10 +3,12 @@ use Rattle.std.proofs.lemmas.List.{length-map, length-append, append-nil, drop_a
 use Rattle.std.specs.Prelude.{All}
 use Rattle.map_defs.specs.MeshMap.{Side, repeats, face_sides, sides_from, sides_of, sides_fault, faces_fault}
 use Rattle.off_text.specs.Meanings.{items_of, faces_view}
-use Rattle.mesh_build.specs.Sides.{side_view, sides_view, kind_of, IsRing, Fails}
+use Rattle.mesh_build.specs.Sides.{side_view, sides_view, Fails}
+use Rattle.mesh_laws.specs.Sides.{kind_of, IsRing}
 use Rattle.mesh_build.specs.declared.sew.Sewn.{Sewn}
-use Rattle.mesh_build.proofs.FaceSides.{faces_view-split, length-sides_from, length-face_sides, faces_fault-on, faces_fault-repeated, faces_fault-stop, sides-on}
-use Rattle.mesh_build.proofs.Rings.{is_ring}
+use Rattle.mesh_build.proofs.FaceSides.{faces_view-split, faces_fault-stop}
+use Rattle.mesh_laws.proofs.FaceSides.{length-sides_from, length-face_sides, faces_fault-on, faces_fault-repeated, sides-on}
+use Rattle.mesh_laws.proofs.Rings.{is_ring}
 use Rattle.mesh_build.proofs.Partners.{is_sewn}
 use Rattle.mesh_build.proofs.sew.sew_faces.Goals as goal
 
@@ -15,11 +17,11 @@ length-replicate-at n k d h = get_or-replicate n k 0 d h
 
 pub loop-face-init : goal.loop-face-init
 loop-face-init c =
-    let none : sides_view c.new-book.result.sides ≡ [] = ap (map side_view) c.new-book.ensures.sides in
+    let none : sides_view c.in_ok-book.book.sides ≡ [] = ap (map side_view) c.in_ok-book.ensures.sides in
     let marks = c.in_ok-marks.ensures.items_if_clones_equal (λ y e. e) in
     record {
-      kept = c.new-book.ensures.kept c.args.oriented;
-      sides = rw (none, c.new-book.ensures.sides) refl;
+      kept = c.in_ok-book.ensures.kept c.args.oriented;
+      sides = rw (none, c.in_ok-book.ensures.sides) refl;
       fault = rw none refl;
       long = omega (arith, c.in_ok-marks.ensures.len, c.in_ok-marks.marks.ok.0, c.args.mesh.now.points.ok.0);
       fresh = λ k d h. rw marks (omega (arith, length-replicate-at c.len.result k d (omega (arith, h, c.in_ok-marks.ensures.len, c.in_ok-marks.marks.ok.0))));

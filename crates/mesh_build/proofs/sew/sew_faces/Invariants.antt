@@ -2,7 +2,8 @@ use Rattle.std.proofs.Common.{◌≡◌, ◌≤◌, ◌++◌, [], length, drop}
 use Rattle.std.specs.Prelude.{All}
 use Rattle.map_defs.specs.MeshMap.{sides_from, sides_of, faces_fault}
 use Rattle.off_text.specs.Meanings.{faces_view}
-use Rattle.mesh_build.specs.Sides.{sides_view, kind_of}
+use Rattle.mesh_build.specs.Sides.{sides_view}
+use Rattle.mesh_laws.specs.Sides.{kind_of}
 use Rattle.mesh_build.specs.Kept.{IsKept}
 use Rattle.mesh_build.proofs.sew.sew_faces.Given as goal
 

@@ -2,7 +2,8 @@ use Rattle.std.proofs.Common.{◌≡◌, ℕ, ◌<◌, true, false, ◌&&◌, �
 use Rattle.std.specs.HashMap as hash
 use Rattle.std.proofs.lemmas.List.{get_or_read, get_or-map, length-map, map_push}
 use Rattle.map_defs.specs.MeshMap.{Side}
-use Rattle.mesh_build.specs.Sides.{side_view, views, no_side, side_of, partner_of, kind_of}
+use Rattle.mesh_build.specs.Sides.{side_view, views}
+use Rattle.mesh_laws.specs.Sides.{no_side, side_of, partner_of, kind_of}
 use Rattle.mesh_build.specs.Kept.{pair_eq}
 use Rattle.mesh_build.proofs.BookFacts.{last_of, met_by, stands, at-edge, fault-none, fault-three, fault-turned, added-alone, added-sewn, now-of, apart-of, fails-none, on_ok}
 use Rattle.mesh_build.proofs.book.Book.add.Goals as goal

@@ -11,7 +11,7 @@ use Rattle.map_defs.specs.Rows.{Rows, links_of, IsLive}
 use Rattle.map_defs.specs.Edits.{Change, Edit, with_births, linked, Fits}
 use Rattle.link_rows.proofs.RowWrites.{IsWide, births-wide, births-links, births-new}
 use Rattle.link_rows.proofs.EditLinks.{touched, untouched}
-use Rattle.mesh_build.specs.SideLinks.{Entries, entry, entry_change, entry_changes}
+use Rattle.mesh_laws.specs.SideLinks.{Entries, entry, entry_change, entry_changes}
 
 -- pairs of a list that is put together
 AllPairs-append : {X : Type 0} (R : X → X → Type 0) (xs ys : List X) → AllPairs R xs → AllPairs R ys → ((i j : ℕ) (d : X) → i < length xs → j < length ys → R (get_or xs i d) (get_or ys j d)) → AllPairs R (xs ++ ys)

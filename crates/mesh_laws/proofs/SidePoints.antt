@@ -6,9 +6,9 @@ use Rattle.std.proofs.lemmas.List.FromFn.{get_or-map-range_with_len}
 use Rattle.std.proofs.lemmas.List.Elements.{All-nil, All-append}
 use Rattle.map_defs.specs.Polygon.{next_side}
 use Rattle.map_defs.specs.MeshMap.{Side, side_at, face_sides, sides_from}
-use Rattle.mesh_build.specs.Sides.{no_side, side_of, kind_of}
-use Rattle.mesh_build.specs.SideLinks.{dart_count, point_of}
-use Rattle.mesh_build.proofs.FaceSides.{length-face_sides}
+use Rattle.mesh_laws.specs.Sides.{no_side, side_of, kind_of}
+use Rattle.mesh_laws.specs.SideLinks.{dart_count, point_of}
+use Rattle.mesh_laws.proofs.FaceSides.{length-face_sides}
 
 pub record IsBetween (m : ℕ) (s : Side) : Type 0 where
   pub from : s.from < m

@@ -6,8 +6,8 @@ use Rattle.map_defs.specs.Kind.{Kind, alpha, inverse, IsDistant}
 use Rattle.map_defs.specs.Links.{Links}
 use Rattle.map_defs.specs.Laws.{Laws}
 use Rattle.map_defs.specs.MeshMap.{Side, start, finish, has_ends, AreJoined}
-use Rattle.mesh_build.specs.Sides.{side_of, partner_of, IsAlone, IsPair, HasPartner, IsSewn}
-use Rattle.mesh_build.specs.SideLinks.{Entries, entry, start_to, finish_to, start_entries, finish_entries, dart_entries, dart_count, mesh_links}
+use Rattle.mesh_laws.specs.Sides.{side_of, partner_of, IsAlone, IsPair, HasPartner, IsSewn}
+use Rattle.mesh_laws.specs.SideLinks.{Entries, entry, start_to, finish_to, start_entries, finish_entries, dart_entries, dart_count, mesh_links}
 
 module _ (k : Kind) (sides : List Side) (partners : List (Option ℕ)) where
   -- the links of a dart are its entries

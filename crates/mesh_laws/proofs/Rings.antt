@@ -6,8 +6,8 @@ use Rattle.std.proofs.lemmas.List.{get_or_append_left, get_or-append-add, length
 use Rattle.std.proofs.lemmas.List.FromFn.{get_or-map-range_with_len}
 use Rattle.map_defs.specs.Polygon.{next_side, previous_side}
 use Rattle.map_defs.specs.MeshMap.{Side, side_at, face_sides, sides_from, sides_of}
-use Rattle.mesh_build.specs.Sides.{no_side, side_of, IsRing}
-use Rattle.mesh_build.proofs.FaceSides.{length-face_sides}
+use Rattle.mesh_laws.specs.Sides.{no_side, side_of, IsRing}
+use Rattle.mesh_laws.proofs.FaceSides.{length-face_sides}
 
 next-within : (n s : ℕ) → s < n → next_side n s < n
 next-within n s h = grind (arith, nat_tests)

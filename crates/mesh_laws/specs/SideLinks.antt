@@ -6,7 +6,7 @@ use Rattle.map_defs.specs.Links.{Links}
 use Rattle.map_defs.specs.Edits.{Change, Edit}
 use Rattle.map_defs.specs.Polygon.{per_side}
 use Rattle.map_defs.specs.MeshMap.{Side, start, finish}
-use Rattle.mesh_build.specs.Sides.{side_of, partner_of}
+use Rattle.mesh_laws.specs.Sides.{side_of, partner_of}
 
 -- the links 0, 1 and 2 of a dart
 pub record Entries : Type 0 where

@@ -8,9 +8,9 @@ use Rattle.map_defs.specs.Links.{Links, HasDimension}
 use Rattle.map_defs.specs.Words.{Word, one_link, through, inverse_word, IsCellWord}
 use Rattle.map_defs.specs.Cells.{here, onward, Leads, InCell}
 use Rattle.map_defs.specs.MeshMap.{Side, start, finish, has_ends, AreJoined, AreAlong, AreSewn, IsBorder, AreMeshLinks, LiesAt, first, second}
-use Rattle.mesh_build.specs.Sides.{no_side, side_of, IsSewn}
-use Rattle.mesh_build.specs.SideLinks.{mesh_links, point_of}
-use Rattle.mesh_build.proofs.SideFacts.{same-way, other-way, at-first, at-second, nil_alpha, darts, flat_alpha, across}
+use Rattle.mesh_laws.specs.Sides.{no_side, side_of, IsSewn}
+use Rattle.mesh_laws.specs.SideLinks.{mesh_links, point_of}
+use Rattle.mesh_laws.proofs.SideFacts.{same-way, other-way, at-first, at-second, nil_alpha, darts, flat_alpha, across}
 
 module _ (sides : List Side) (partners : List (Option ℕ)) (sewn : IsSewn false sides partners) (L : Links) (is : (i d : ℕ) → L i d ≡ mesh_links alpha sides partners i d) where
   abbrev S : ℕ → ℕ

@@ -10,9 +10,9 @@ use Rattle.map_defs.specs.Laws.{Laws}
 use Rattle.map_defs.specs.Words.{Word, two_links, through, inverse_word, IsCellWord}
 use Rattle.map_defs.specs.Cells.{here, onward, Leads, InCell}
 use Rattle.map_defs.specs.MeshMap.{Side, start, has_ends, AreJoined, AreAlong, AreSewn, IsBorder, AreMeshLinks, LiesAt, first, second}
-use Rattle.mesh_build.specs.Sides.{no_side, side_of, partner_of, IsAlone, IsPair, HasPartner, IsSewn}
-use Rattle.mesh_build.specs.SideLinks.{Entries, entry, start_to, start_entries, dart_entries, mesh_links, point_of}
-use Rattle.mesh_build.proofs.SideFacts.{reads, none-outside, other-way}
+use Rattle.mesh_laws.specs.Sides.{no_side, side_of, partner_of, IsAlone, IsPair, HasPartner, IsSewn}
+use Rattle.mesh_laws.specs.SideLinks.{Entries, entry, start_to, start_entries, dart_entries, mesh_links, point_of}
+use Rattle.mesh_laws.proofs.SideFacts.{reads, none-outside, other-way}
 
 module _ (sides : List Side) (partners : List (Option ℕ)) (sewn : IsSewn true sides partners) (L : Links) (is : (i d : ℕ) → L i d ≡ mesh_links beta sides partners i d) where
   abbrev S : ℕ → ℕ
