@@ -1,0 +1,14 @@
+mod StarNumbers
+mod Writings
+mod DartEntries
+mod Beyond
+mod PairEntries
+mod InsertionEdit
+mod Premises
+mod VertexPlan
+mod AlongLinks
+mod PairsAlong
+mod EdgePlan
+mod PathSides
+mod Apart
+mod FacePlan

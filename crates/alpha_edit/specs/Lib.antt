@@ -1,0 +1,4 @@
+pub mod Stars
+pub mod Inserting
+pub mod Writing
+pub mod Circles

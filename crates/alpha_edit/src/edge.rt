@@ -1,0 +1,131 @@
+ghost use Rattle.std.specs.Prelude.{◌≡◌, ℕ, ◌≤◌, ◌↔◌, ◌⊎◌, Contains, IfOk, IfErr, OnOk, IsErrOf, IsTrue};
+ghost use Rattle.std.specs.List.Sorted.{IsStrictlyIncreasing};
+ghost use Rattle.map_defs.specs.Kind.{alpha};
+ghost use Rattle.map_defs.specs.Rows.{links_of, IsLive};
+ghost use Rattle.map_defs.specs.Laws.{Laws};
+ghost use Rattle.map_defs.specs.Insertion.{AreOnOneSide, InAlphaCorner, AlphaEdgeDarts, AlphaEdgePairs, AreAlphaEdgePaired, IsAlphaEdge};
+ghost use Rattle.sewing.specs.Triples.{Lists, IsAscending};
+ghost use Rattle.alpha_edit.specs.Inserting.{Inserts};
+
+use crate::along::{carried_darts, carrying_links, insertion_pairs, leads};
+use crate::insertion::insertion;
+use link_rows::{Edit, Links};
+use map_kind::{Alpha, Dart, Refusal, Refused};
+use sewing::{PairFault, Triple};
+use std::alloc::{AllocError, Global};
+
+/// The edit that inserts an edge into a face, from the corner of `one` to that of `other`. Each dart of the two corners, on
+/// all sides of the face, gets a new dart, numbered on from those that were made in the order of the corners' darts; link
+/// 1 joins the two, and links 0 and 2 join the new darts along the edge and across it.
+///
+/// `OtherCell` comes exactly where the two darts do not lie on one side of one face; then `SameCorner` exactly where they
+/// lie in one corner; then `Unpaired` exactly where the darts of the corners cannot be paired, all memory aside.
+///
+/// It costs the darts of the face that are not farther from `one` than `other`, and those of the corners, for each link of
+/// the map, times a logarithm. The whole side of the face is walked only where `OtherCell` comes.
+pub fn edge_plan<const DIM: usize>(
+    alloc: Global,
+    links: &Links<Alpha, DIM>,
+    one: Dart,
+    other: Dart,
+) -> Result<Edit, Refused>
+    requires one { IsLive links.now.rows one }
+    requires other { IsLive links.now.rows other }
+    requires laws { Laws alpha (links_of links.now.rows) }
+
+    // It answers where an edge fits between the corners, with an edit that inserts it.
+    ensures one_side { OnOk result (AreOnOneSide (links_of links.now.rows) one other) }
+    ensures two_corners { OnOk result (InAlphaCorner (links_of links.now.rows) one other → ⊥) }
+    ensures paired { OnOk result (AreAlphaEdgePaired (links_of links.now.rows) one other) }
+    ensures inserts { IfOk result (λ edit. Inserts DIM links.now.rows (AlphaEdgeDarts (links_of links.now.rows) one other)
+        (λ star N. IsAlphaEdge one other star (links_of links.now.rows) N) edit) }
+
+    // It is refused where none fits, or for want of memory.
+    ensures other_cell { IsErrOf result (Refused.Line Refusal.OtherCell)
+        → AreOnOneSide (links_of links.now.rows) one other → ⊥ }
+    ensures same_corner { IsErrOf result (Refused.Line Refusal.SameCorner)
+        → AreOnOneSide (links_of links.now.rows) one other × InAlphaCorner (links_of links.now.rows) one other }
+    ensures unpaired { IsErrOf result (Refused.Line Refusal.Unpaired)
+        → AreOnOneSide (links_of links.now.rows) one other × (InAlphaCorner (links_of links.now.rows) one other → ⊥)
+        × (AreAlphaEdgePaired (links_of links.now.rows) one other → ⊥) }
+    ensures refusals { IfErr result (λ refused. (refused ≡ Refused.NoMemory)
+        ⊎ ((refused ≡ Refused.Line Refusal.OtherCell)
+        ⊎ ((refused ≡ Refused.Line Refusal.SameCorner) ⊎ (refused ≡ Refused.Line Refusal.Unpaired)))) }
+{
+    // A map has links 0 to 2 at least.
+    let _ = links.dimension();
+    if !are_on_one_side(alloc, links, one, other)? {
+        return Err(Refused::Line(Refusal::OtherCell));
+    }
+    if are_in_one_corner(alloc, links, one, other)? {
+        return Err(Refused::Line(Refusal::SameCorner));
+    }
+    match edge_pairs(alloc, links, one, other) {
+        Ok(pairs) => {
+            let darts = corner_darts(alloc, links, one, other)?;
+            Ok(insertion(alloc, links, 1, darts, &pairs)?)
+        }
+        Err(PairFault::Unpaired) => Err(Refused::Line(Refusal::Unpaired)),
+        Err(PairFault::NoMemory) => Err(Refused::NoMemory),
+    }
+}
+
+/// Whether two darts lie on one side of one face. The walk goes both ways around the face, and ends where it finds `other`.
+fn are_on_one_side<const DIM: usize>(
+    alloc: Global,
+    links: &Links<Alpha, DIM>,
+    one: Dart,
+    other: Dart,
+) -> Result<bool, AllocError>
+    requires { 2 ≤ DIM }
+    ensures { IfOk result (λ one_side. IsTrue one_side ↔ AreOnOneSide (links_of links.now.rows) one other) }
+{
+    leads(alloc, links, &[0, 1], one, other)
+}
+
+/// Whether two darts lie in one corner of a face.
+fn are_in_one_corner<const DIM: usize>(
+    alloc: Global,
+    links: &Links<Alpha, DIM>,
+    one: Dart,
+    other: Dart,
+) -> Result<bool, AllocError>
+    ensures { IfOk result (λ one_corner. IsTrue one_corner ↔ InAlphaCorner (links_of links.now.rows) one other) }
+{
+    let carrying = carrying_links(alloc, links.dimension(), 1)?;
+    leads(alloc, links, &carrying, one, other)
+}
+
+/// The darts of the corners of two darts, ascending.
+fn corner_darts<const DIM: usize>(
+    alloc: Global,
+    links: &Links<Alpha, DIM>,
+    one: Dart,
+    other: Dart,
+) -> Result<Vec<Dart>, AllocError>
+    ensures members { IfOk result (λ darts. (x : ℕ) → Contains darts.items x ↔ AlphaEdgeDarts (links_of links.now.rows) one other x) }
+    ensures ascending { IfOk result (λ darts. IsStrictlyIncreasing darts.items) }
+{
+    carried_darts(alloc, links, 1, &[one, other])
+}
+
+/// The pairs of the darts of two corners, ascending. `Unpaired` comes exactly where they cannot be paired.
+fn edge_pairs<const DIM: usize>(
+    alloc: Global,
+    links: &Links<Alpha, DIM>,
+    one: Dart,
+    other: Dart,
+) -> Result<Vec<Triple>, PairFault>
+    requires { 2 ≤ DIM }
+    ensures members { IfOk result (λ pairs. (x y t : ℕ) → Lists pairs.items x y t ↔ AlphaEdgePairs (links_of links.now.rows) one other x y t) }
+    ensures ascending { IfOk result (λ pairs. IsAscending pairs.items) }
+    ensures paired { OnOk result (AreAlphaEdgePaired (links_of links.now.rows) one other) }
+    ensures unpaired { IsErrOf result PairFault.Unpaired → AreAlphaEdgePaired (links_of links.now.rows) one other → ⊥ }
+{
+    let seed = Triple {
+        x: one,
+        y: other,
+        t: 0,
+    };
+    insertion_pairs(alloc, links, 1, &[seed])
+}
