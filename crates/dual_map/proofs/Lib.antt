@@ -1,0 +1,4 @@
+mod DualEntries
+mod ChangeLists
+mod ChangedLinks
+mod DualEdit

@@ -1,0 +1,163 @@
+ghost use Rattle.std.specs.Prelude.{◌≡◌, ◌≤◌};
+ghost use Rattle.map_defs.specs.Kind.{alpha};
+ghost use Rattle.map_defs.specs.Rows.{links_of};
+ghost use Rattle.map_defs.specs.Laws.{Laws};
+
+use crate::{dual_plan, dualable};
+use link_rows::{Edit, Links, polygon_edit};
+use map_kind::{Alpha, Dart, Refusal, Refused};
+use sewing::sew_plan;
+use std::alloc::Global;
+use std::process::Abort;
+use std::test::Fail;
+
+/// Makes a polygon of so many sides.
+fn polygon(rt: &impl Abort, alloc: Global, links: &mut Links<Alpha, 2>, sides: u32)
+    requires low { 3 ≤ sides }
+    requires high { sides ≤ 65536 }
+    requires laws { Laws alpha (links_of links.old.rows) }
+    ensures { Laws alpha (links_of links.new.rows) }
+{
+    match links.reserve(2 * sides) {
+        Ok(()) => {}
+        Err(_) => panic!(rt; "no room"),
+    }
+    match polygon_edit(alloc, links, sides) {
+        Ok(edit) => links.apply(&edit),
+        Err(_) => panic!(rt; "no memory"),
+    }
+}
+
+/// Sews two darts at link 2.
+fn sew(rt: &impl Abort, alloc: Global, links: &mut Links<Alpha, 2>, one: u32, other: u32)
+    requires { Laws alpha (links_of links.old.rows) }
+    ensures { Laws alpha (links_of links.new.rows) }
+{
+    let one = dart(rt, one);
+    let other = dart(rt, other);
+    assert!(rt; links.is_live(one));
+    assert!(rt; links.is_live(other));
+    match sew_plan(alloc, links, 2, one, other) {
+        Ok(edit) => links.apply(&edit),
+        Err(_) => panic!(rt; "not sewn"),
+    }
+}
+
+/// Makes a cube: six squares of eight darts each, sewn along its twelve edges.
+fn cube(rt: &impl Abort, alloc: Global, links: &mut Links<Alpha, 2>)
+    requires { Laws alpha (links_of links.old.rows) }
+    ensures { Laws alpha (links_of links.new.rows) }
+{
+    for _square in 0..6 {
+        polygon(rt, alloc, links, 4);
+    }
+    sew(rt, alloc, links, 1, 42);
+    sew(rt, alloc, links, 3, 34);
+    sew(rt, alloc, links, 5, 26);
+    sew(rt, alloc, links, 7, 18);
+    sew(rt, alloc, links, 9, 22);
+    sew(rt, alloc, links, 11, 30);
+    sew(rt, alloc, links, 13, 38);
+    sew(rt, alloc, links, 15, 46);
+    sew(rt, alloc, links, 19, 32);
+    sew(rt, alloc, links, 23, 44);
+    sew(rt, alloc, links, 27, 40);
+    sew(rt, alloc, links, 35, 48);
+}
+
+/// Makes the dual of a map that has one, and answers how many links changed.
+fn take_dual(rt: &impl Abort, alloc: Global, links: &mut Links<Alpha, 2>) -> usize
+    requires { Laws alpha (links_of links.old.rows) }
+    ensures { Laws alpha (links_of links.new.rows) }
+{
+    let made = links.made();
+    match dual_plan(alloc, links) {
+        Ok(edit) => {
+            links.apply(&edit);
+            assert_eq!(rt; links.made(), made);
+            edit.changes.len()
+        }
+        Err(_) => panic!(rt; "no dual"),
+    }
+}
+
+fn dart(rt: &impl Abort, number: u32) -> Dart {
+    Dart::new(number).expect(rt, "0 is no dart")
+}
+
+/// The numbers of the darts at the links of a dart.
+fn row(rt: &impl Abort, links: &Links<Alpha, 2>, number: u32) -> [Option<u32>; 3] {
+    let dart = dart(rt, number);
+    [
+        links.link(dart, 0).map(Dart::number),
+        links.link(dart, 1).map(Dart::number),
+        links.link(dart, 2).map(Dart::number),
+    ]
+}
+
+/// The dart after a dart on the way round its face.
+fn next(rt: &impl Abort, links: &Links<Alpha, 2>, dart: Dart) -> Dart {
+    let end = links.link(dart, 0).expect(rt, "link 0 is free");
+    links.link(end, 1).expect(rt, "link 1 is free")
+}
+
+// Three squares of the cube meet at each vertex, so each face of the dual has three sides. The dual of the dual is the cube.
+#[test]
+fn dual_of_a_cube_has_triangles(rt: HostRuntime) -> Result<(), Fail> {
+    let alloc = rt.alloc();
+    let mut links = Links::<Alpha, 2>::new(alloc);
+    cube(&rt, alloc, &mut links);
+    assert_eq!(&rt; row(&rt, &links, 1), [Some(2), Some(8), Some(42)]);
+    assert_eq!(&rt; row(&rt, &links, 48), [Some(47), Some(41), Some(35)]);
+    assert!(&rt; dualable(&links));
+    assert_eq!(&rt; take_dual(&rt, alloc, &mut links), 96);
+    assert_eq!(&rt; row(&rt, &links, 1), [Some(42), Some(8), Some(2)]);
+    assert_eq!(&rt; row(&rt, &links, 48), [Some(35), Some(41), Some(47)]);
+    let one = dart(&rt, 1);
+    let two = next(&rt, &links, one);
+    let three = next(&rt, &links, two);
+    assert!(&rt; one != two && one != three && two != three);
+    assert_eq!(&rt; next(&rt, &links, three), one);
+    assert_eq!(&rt; take_dual(&rt, alloc, &mut links), 96);
+    assert_eq!(&rt; row(&rt, &links, 1), [Some(2), Some(8), Some(42)]);
+    Ok(())
+}
+
+#[test]
+fn a_triangle_alone_has_no_dual(rt: HostRuntime) -> Result<(), Fail> {
+    let alloc = rt.alloc();
+    let mut links = Links::<Alpha, 2>::new(alloc);
+    polygon(&rt, alloc, &mut links, 3);
+    assert!(&rt; !dualable(&links));
+    assert!(&rt;
+        matches!(
+            dual_plan(alloc, &links),
+            Err(Refused::Line(Refusal::Boundary))
+        )
+    );
+    Ok(())
+}
+
+// A dart whose links are free is in the way only while it lives.
+#[test]
+fn dead_darts_are_not_looked_at(rt: HostRuntime) -> Result<(), Fail> {
+    let alloc = rt.alloc();
+    let mut links = Links::<Alpha, 2>::new(alloc);
+    assert!(&rt; dualable(&links));
+    assert!(&rt; links.reserve(1).is_ok());
+    links.apply(&Edit {
+        births: 1,
+        deaths: Vec::new(alloc),
+        changes: Vec::new(alloc),
+    });
+    let one = dart(&rt, 1);
+    assert!(&rt; links.is_live(one));
+    assert!(&rt; !dualable(&links));
+    links.apply(&Edit {
+        births: 0,
+        deaths: Vec::from_slice(alloc, &[one])?,
+        changes: Vec::new(alloc),
+    });
+    assert!(&rt; dualable(&links));
+    Ok(())
+}
