@@ -13,7 +13,7 @@ use Rattle.map_defs.specs.Valuing.{IsValued}
 use Rattle.map_defs.specs.Kept.{IsKept}
 use Rattle.link_laws.proofs.Basics.{same_or_not}
 use Rattle.link_rows.proofs.RowWrites.{live-within, none-links}
-use Rattle.machine_laws.proofs.ValueFacts.{values-one}
+use Rattle.value_laws.proofs.ValueFacts.{values-one}
 use Rattle.machine_laws.proofs.Born.{kept-born, old-value, new-value}
 use Rattle.machine_laws.proofs.Ended.{kept-ended, same-value}
 use Rattle.attr_pool.specs.Stores.{Store}

@@ -18,7 +18,7 @@ pub darts-one : (P : ℕ → Type 0) (xs ys : List ℕ) → IsStrictlyIncreasing
     → ((d : ℕ) → Contains xs d ↔ P d) → ((d : ℕ) → Contains ys d ↔ P d) → xs ≡ ys
 darts-one P xs ys up up' f g = rising_one xs ys up up' (λ m. ((λ h. (g m).1 ((f m).0 h)), (λ h. (f m).1 ((g m).0 h))))
 
-count-one : (P : ℕ → Type 0) (n m : ℕ) → HasCount P n → HasCount P m → n ≡ m
+pub count-one : (P : ℕ → Type 0) (n m : ℕ) → HasCount P n → HasCount P m → n ≡ m
 count-one P n m a b = sym a.counted ∙ ap length (darts-one P a.numbers b.numbers a.ascending b.ascending a.members b.members) ∙ b.counted
 
 pub counts-one : (k : Kind) (n : ℕ) (rows : Rows) (xs ys : List ℕ) → AreCounts k n rows xs → AreCounts k n rows ys → xs ≡ ys

@@ -49,9 +49,33 @@ ordered s (says.Free i d) = (if-apart _, (lit≤ tt, tt), (unless-apart _, tt, t
 ordered s (says.Sewable i d e) = (if-apart _, (lit≤ tt, (lit≤ tt, tt)), (unless-apart _, (lit≤ tt, tt), (unless-apart _, tt, tt)))
 ordered s says.Count = tt
 ordered s says.Show = tt
-ordered s (says.Vertex d) = (unless-apart _, tt, tt)
-ordered s (says.Edge d e) = (unless-apart _, tt, tt)
-ordered s (says.Face darts) = (unless-apart _, tt, tt)
+ordered s (says.Vertex d) = (unless-apart _, (lit≤ tt, tt), (if-apart _, tt, tt))
+ordered s (says.Edge d e) = (
+  unless-apart _,
+  (lit≤ tt, (lit≤ tt, (lit≤ tt, (lit≤ tt, (lit≤ tt, tt))))),
+  (
+    unless-apart _,
+    (lit≤ tt, (lit≤ tt, (lit≤ tt, (lit≤ tt, tt)))),
+    (
+      unless-apart _,
+      (lit≤ tt, (lit≤ tt, (lit≤ tt, tt))),
+      (if-apart _, (lit≤ tt, (lit≤ tt, tt)), (unless-apart _, (lit≤ tt, tt), (if-apart _, tt, tt))),
+    ),
+  ),
+)
+ordered s (says.Face path) = (
+  if-apart _,
+  (lit≤ tt, (lit≤ tt, (lit≤ tt, (lit≤ tt, (lit≤ tt, tt))))),
+  (
+    unless-apart _,
+    (lit≤ tt, (lit≤ tt, (lit≤ tt, (lit≤ tt, tt)))),
+    (
+      unless-apart _,
+      (lit≤ tt, (lit≤ tt, (lit≤ tt, tt))),
+      (unless-apart _, (lit≤ tt, (lit≤ tt, tt)), (unless-apart _, (lit≤ tt, tt), (if-apart _, tt, tt))),
+    ),
+  ),
+)
 ordered s (says.Remove i d) = (unless-apart _, tt, tt)
 ordered s (says.Contract i d) = (unless-apart _, tt, tt)
 ordered s says.Dual = (unless-apart _, tt, tt)
@@ -99,16 +123,17 @@ abbrev pub AllPass : List Check → Type 0
 AllPass [] = Unit {0}
 AllPass (check ∷ more) = check.passes × AllPass more
 
--- where the effect has one reply and one state, so has the judgement
-pub judged-one : (s : State) (effect : Reply → State → Type 0) (one other : Reply) (new new' : State) (list : List Check) → AreOrdered list
-    → (AllPass list → effect one new → effect other new' → (one ≡ other) × (new ≡ new'))
-    → Judged s list effect one new → Judged s list effect other new' → (one ≡ other) × (new ≡ new')
-judged-one s effect one other new new' [] o same j k = same tt j k
-judged-one s effect one other new new' (check ∷ more) o same (inl j) (inl k) = (j.1 ∙ sym k.1, j.2 ∙ sym k.2)
-judged-one s effect one other new new' (check ∷ more) o same (inl j) (inr k) = absurd (o.0 k.0 j.0)
-judged-one s effect one other new new' (check ∷ more) o same (inr j) (inl k) = absurd (o.0 j.0 k.0)
-judged-one s effect one other new new' (check ∷ more) o same (inr j) (inr k) =
-    judged-one s effect one other new new' more o.2 (λ passes. same (j.0, passes)) j.1 k.1
+-- What holds of two outcomes where both are refused alike, and where both are effects, holds of all.
+pub judged-both : (s : State) (effect : Reply → State → Type 0) (one other : Reply) (new new' : State) (P : Type 0)
+    → ((r : Refusal) → one ≡ Refused r → other ≡ Refused r → new ≡ s → new' ≡ s → P)
+    → (list : List Check) → AreOrdered list → (AllPass list → effect one new → effect other new' → P)
+    → Judged s list effect one new → Judged s list effect other new' → P
+judged-both s effect one other new new' P refused [] o same j k = same tt j k
+judged-both s effect one other new new' P refused (check ∷ more) o same (inl j) (inl k) = refused check.refusal j.1 k.1 j.2 k.2
+judged-both s effect one other new new' P refused (check ∷ more) o same (inl j) (inr k) = absurd (o.0 k.0 j.0)
+judged-both s effect one other new new' P refused (check ∷ more) o same (inr j) (inl k) = absurd (o.0 j.0 k.0)
+judged-both s effect one other new new' P refused (check ∷ more) o same (inr j) (inr k) =
+    judged-both s effect one other new new' P refused more o.2 (λ passes. same (j.0, passes)) j.1 k.1
 
 -- what holds of a state holds after the judgement, where the effect keeps it
 pub judged-kept : (s : State) (effect : Reply → State → Type 0) (P : State → Type 0) (reply : Reply) (new : State) (list : List Check) → P s

@@ -22,7 +22,7 @@ use Rattle.link_laws.proofs.CellFacts.{cell_back}
 use Rattle.link_laws.proofs.Orbits.{orbit_trans}
 use Rattle.value_laws.proofs.Touching.{cell_live}
 use Rattle.value_laws.proofs.MapValues.{one_value}
-use Rattle.machine_laws.proofs.ValueFacts.{value-above, value-cases}
+use Rattle.value_laws.proofs.ValueFacts.{value-above, value-cases}
 
 pub laws-of : (c : Content) → IsKept c → Laws c.kind (links_of c.rows)
 laws-of c kept = laws_of_told c.kind (links_of c.rows) kept.lawful

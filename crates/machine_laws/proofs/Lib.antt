@@ -1,10 +1,10 @@
 pub mod Judging
 pub mod ValueLists
-pub mod ValueFacts
 pub mod Relinked
-pub mod MeshLinks
-pub mod MeshOne
+pub mod Inserted
 pub mod Keeping
+pub mod Grown
+pub mod GrownLaws
 pub mod Born
 pub mod Ended
 pub mod Begun

@@ -12,10 +12,11 @@ use Rattle.map_defs.specs.Machine.{Run}
 use Rattle.map_defs.specs.Outside.{Files, held, IsFront}
 use Rattle.map_defs.specs.Off.{Mesh, mesh_of}
 use Rattle.map_defs.specs.Loading.{IsLoaded, IsMeshContent, first_state, refusal_line}
-use Rattle.map_defs.specs.Program.{Command, IsOffered, RunScript, Tells, no_mesh, mesh_word, FileAnswer, ScriptAnswer, MeshAnswer, CommandAnswer, StartsFrom, Answers, untold, told, Begins, Starts, nothing, whole, lines, file_limit, run_status}
+use Rattle.map_defs.specs.Program.{Command, IsOffered, RunScript, Tells, no_mesh, mesh_word, FileAnswer, ScriptAnswer, MeshAnswer, CommandAnswer, StartsFrom, Answers, untold, told, Begins, Starts, whole, lines, file_limit, run_status}
 use Rattle.machine_laws.proofs.Runs.{run-one, run-front}
 use Rattle.machine_laws.proofs.Begun.{empty-kept, first-kept}
-use Rattle.machine_laws.proofs.MeshOne.{mesh-content-one}
+use Rattle.mesh_laws.proofs.MeshOne.{mesh-content-one}
+use Rattle.mesh_laws.proofs.MeshContent.{maps-kept}
 
 -- a word stands for one choice of a mesh
 mesh-one : (mesh mesh' : Option (List ℕ)) → mesh ≢ Some no_mesh → mesh' ≢ Some no_mesh → mesh_word mesh ≡ mesh_word mesh' → mesh ≡ mesh'
@@ -59,16 +60,16 @@ loaded-one k n mesh start start' l l' =
     let meshes : l.mesh ≡ l'.mesh = (let same = sym l.read ∙ l'.read in cc) in
     l.begun ∙ ap first_state (mesh-content-one k n l'.mesh l.content l'.content (subst (λ (m : Mesh). IsMeshContent k n m l.content) meshes l.is) l'.is) ∙ sym l'.begun
 
-pub loaded-kept : (k : Kind) (n : ℕ) (mesh : List ℕ) (start : State) → IsLoaded k n mesh start → AreKept start
-loaded-kept k n mesh start l = subst AreKept (sym l.begun) (first-kept l.content l.is.kept)
+pub loaded-kept : (k : Kind) (n : ℕ) (mesh : List ℕ) (start : State) → 2 ≤ n → IsLoaded k n mesh start → AreKept start
+loaded-kept k n mesh start flat l = subst AreKept (sym l.begun) (first-kept l.content (maps-kept k n l.mesh l.content flat l.sound l.is))
 
-mesh-answer-one : (hook : Meaning) (k : Kind) (n : ℕ) (mesh script one other : List ℕ) (status status' : ℕ)
+mesh-answer-one : (hook : Meaning) (k : Kind) (n : ℕ) (mesh script one other : List ℕ) (status status' : ℕ) → 2 ≤ n
     → MeshAnswer hook k n mesh script one status → MeshAnswer hook k n mesh script other status' → (one ≡ other) × (status ≡ status')
-mesh-answer-one hook k n mesh script one other status status' (inl a) (inl b) = (let same = sym a.0 ∙ b.0 in cc, a.1 ∙ sym b.1)
-mesh-answer-one hook k n mesh script one other status status' (inl a) (inr b) = absurd (let none = not-refused k n mesh b.0 b.1 in let some = a.0 in cc)
-mesh-answer-one hook k n mesh script one other status status' (inr a) (inl b) = absurd (let none = not-refused k n mesh a.0 a.1 in let some = b.0 in cc)
-mesh-answer-one hook k n mesh script one other status status' (inr a) (inr b) =
-    script-one hook b.0 script one other status status' (loaded-kept k n mesh b.0 b.1)
+mesh-answer-one hook k n mesh script one other status status' flat (inl a) (inl b) = (let same = sym a.0 ∙ b.0 in cc, a.1 ∙ sym b.1)
+mesh-answer-one hook k n mesh script one other status status' flat (inl a) (inr b) = absurd (let none = not-refused k n mesh b.0 b.1 in let some = a.0 in cc)
+mesh-answer-one hook k n mesh script one other status status' flat (inr a) (inl b) = absurd (let none = not-refused k n mesh a.0 a.1 in let some = b.0 in cc)
+mesh-answer-one hook k n mesh script one other status status' flat (inr a) (inr b) =
+    script-one hook b.0 script one other status status' (loaded-kept k n mesh b.0 flat b.1)
     (subst (λ (s : State). ScriptAnswer hook s script one status) (loaded-one k n mesh a.0 b.0 a.1 b.1) a.2) b.2
 
 command-one : (hook : Meaning) (files : Files) (c : Command) (one other : List ℕ) (status status' : ℕ) → IsOffered c → CommandAnswer hook files c one status → CommandAnswer hook files c other status' → (one ≡ other) × (status ≡ status')
@@ -78,7 +79,7 @@ command-one hook files (RunScript k n None script) one other status status' offe
 command-one hook files (RunScript k n (Some name) script) one other status status' offered a b =
     file-one (held files name) (λ mesh. FileAnswer (held files script) (MeshAnswer hook k n mesh)) one other status status'
     (λ mesh x y. file-one (held files script) (MeshAnswer hook k n mesh) one other status status'
-    (λ bytes v w. mesh-answer-one hook k n mesh bytes one other status status' v w) x y) a b
+    (λ bytes v w. mesh-answer-one hook k n mesh bytes one other status status' offered.1 v w) x y) a b
 
 pub answer-one : (hook : Meaning) (words : List (List ℕ)) (files : Files) (one other : List ℕ) (status status' : ℕ) → Answers hook words files one status → Answers hook words files other status' → (one ≡ other) × (status ≡ status')
 answer-one hook words files one other status status' (untold n t s) (untold n' t' s') = (t ∙ sym t', s ∙ sym s')
@@ -115,10 +116,9 @@ command-run hook files k n (Some name) script start bytes text status begun is s
 
 starts-kept : (files : Files) (k : Kind) (n : ℕ) (mesh : Option (List ℕ)) (start : State) → 2 ≤ n → StartsFrom files k n mesh start → AreKept start
 starts-kept files k n None start flat begun = subst AreKept (sym begun) (empty-kept k n flat)
-starts-kept files k n (Some name) start flat begun = loaded-kept k n begun.0 start begun.2
+starts-kept files k n (Some name) start flat begun = loaded-kept k n begun.0 start flat begun.2
 
 pub front-one : (hook : Meaning) (words : List (List ℕ)) (files : Files) (front text : List ℕ) (status : ℕ) → Starts hook words files front → Answers hook words files text status → IsFront front text
-front-one hook words files front text status (nothing none) b = (text, ap (λ (xs : List ℕ). xs ++ text) (sym none))
 front-one hook words files front text status (whole text' status' a f) b = subst (IsFront front) (answer-one hook words files text' text status' status a b).0 f
 front-one hook words files front text status (lines c tells f) (untold n t s) = absurd (n c tells)
 front-one hook words files front text status (lines (RunScript k n mesh script) tells f) (told c' tells' a) =

@@ -1,8 +1,7 @@
 -- A change of links, or of a cell's value, leaves one content.
-use Rattle.std.proofs.Common.{◌≡◌, ℕ, ◌≤◌, List, Option, Some, None, refl, sym, ◌∙◌, subst}
+use Rattle.std.proofs.Common.{◌≡◌, ℕ, ◌≤◌, Option, Some, None, sym, ◌∙◌, subst}
 use Rattle.map_defs.specs.Kind.{Kind}
 use Rattle.map_defs.specs.Links.{Links}
-use Rattle.map_defs.specs.Laws.{Laws}
 use Rattle.map_defs.specs.Rows.{Rows, IsLive, links_of}
 use Rattle.map_defs.specs.Cells.{InCell}
 use Rattle.map_defs.specs.Pairs.{IsJoined}
@@ -14,12 +13,16 @@ use Rattle.map_defs.specs.Relinking.{IsRelinked, AreCarriedBy}
 use Rattle.map_defs.specs.Valuing.{IsValued}
 use Rattle.link_laws.proofs.Basics.{by_cases}
 use Rattle.link_laws.proofs.SameRows.{same_rows}
-use Rattle.value_laws.proofs.MapValues.{carried_alike}
-use Rattle.machine_laws.proofs.ValueFacts.{value-cases, values-one}
+use Rattle.value_laws.proofs.Carrying.{carried_one}
+use Rattle.value_laws.proofs.ValueFacts.{value-cases, values-one, same-content}
+
+-- two relations tell the same links
+abbrev pub TellOne : (Links → Type 0) → (Links → Type 0) → Type 0
+TellOne Becomes Other = (N M : Links) → Becomes N → Other M → (t x : ℕ) → N t x ≡ M t x
 
 -- a relation tells the links
 abbrev pub TellsOne : (Links → Type 0) → Type 0
-TellsOne Becomes = (N M : Links) → Becomes N → Becomes M → (t x : ℕ) → N t x ≡ M t x
+TellsOne Becomes = TellOne Becomes Becomes
 
 joined-one : (P : ℕ → ℕ → ℕ → Type 0) (L : Links) → TellsOne (IsJoined P L)
 joined-one P L N M b c t x = by_cases ((y : ℕ) × P x y t) _ _
@@ -34,29 +37,19 @@ unsewn-one k i d L N M b c t x = by_cases (IsFreed k L i d x t) _ _
     (λ f. b.freed x t f ∙ sym (c.freed x t f))
     (λ none. b.kept x t none ∙ sym (c.kept x t none))
 
-content_of : Kind → ℕ → Rows → List (List (Option Value)) → List (Option Rule) → Content
-content_of kind dim rows values rules = record { kind = kind; dim = dim; rows = rows; values = values; rules = rules }
-
-pub same-content : (a b : Content) → a.kind ≡ b.kind → a.dim ≡ b.dim → a.rows ≡ b.rows → a.values ≡ b.values → a.rules ≡ b.rules → a ≡ b
-unfolding content_of
-same-content a b kinds dims rows values rules =
-    let one : a ≡ content_of a.kind a.dim a.rows a.values a.rules = refl in
-    let other : b ≡ content_of b.kind b.dim b.rows b.values b.rules = refl in
-    cc
-
-module _ (hook : Meaning) (c : Content) (laws : Laws c.kind (links_of c.rows)) where
+module _ (hook : Meaning) (c : Content) where
   -- the values that are carried to the same rows are the same
-  carried-one : (i : ℕ) (rule : Option Rule) (a b : Content) → Laws c.kind (links_of a.rows) → a.rows ≡ b.rows
+  carried-one : (i : ℕ) (rule : Option Rule) (a b : Content) → a.rows ≡ b.rows
       → AreCarriedBy hook c a i rule → AreCarriedBy hook c b i rule → (d : ℕ) → IsLive a.rows d → value_at a i d ≡ value_at b i d
-  carried-one i None a b lawful rows p q d live = p d ∙ sym (q d)
-  carried-one i (Some rule) a b lawful rows p q d live =
-      carried_alike c.kind i (meaning_of hook rule) (links_of c.rows) (links_of a.rows) (IsLive c.rows) (IsLive a.rows) laws lawful (value_at c i) (value_at a i) (value_at b i) p
-      (subst (λ (r : Rows). AreCarried c.kind i (meaning_of hook rule) (links_of c.rows) (IsLive c.rows) (value_at c i) (links_of r) (IsLive r) (value_at b i)) (sym rows) q) d live
+  carried-one i None a b rows p q d live = p d ∙ sym (q d)
+  carried-one i (Some rule) a b rows p q d live =
+      let other : AreCarried c.kind i (meaning_of hook rule) (links_of c.rows) (IsLive c.rows) (value_at c i) (links_of a.rows) (IsLive a.rows) (value_at b i) =
+      subst (λ (r : Rows). AreCarried c.kind i (meaning_of hook rule) (links_of c.rows) (IsLive c.rows) (value_at c i) (links_of r) (IsLive r) (value_at b i)) (sym rows) q in
+      carried_one (meaning_of hook rule) _ _ _ _ d d (value_at a i d) (value_at b i d) (λ m. ((λ h. h), (λ h. h))) (p d live) (other d live)
 
-  pub relinked-one : (births : ℕ) (Ended : ℕ → Type 0) (Becomes : Links → Type 0) → TellsOne Becomes
-      → ((N : Links) → Becomes N → Laws c.kind N)
-      → (a b : Content) → IsRelinked hook c births Ended Becomes a → IsRelinked hook c births Ended Becomes b → a ≡ b
-  relinked-one births Ended Becomes one lawful a b p q =
+  pub relinked-one : (births : ℕ) (Ended : ℕ → Type 0) (Becomes Other : Links → Type 0) → TellOne Becomes Other
+      → (a b : Content) → IsRelinked hook c births Ended Becomes a → IsRelinked hook c births Ended Other b → a ≡ b
+  relinked-one births Ended Becomes Other one a b p q =
       same-content a b (p.kind ∙ sym q.kind) dims rows values (p.rules ∙ sym q.rules)
     where
       dims : a.dim ≡ b.dim
@@ -69,7 +62,7 @@ module _ (hook : Meaning) (c : Content) (laws : Laws c.kind (links_of c.rows)) w
 
       values : a.values ≡ b.values
       values = values-one a b p.places q.places dims rows
-          (λ i d within live. carried-one i (rule_at c i) a b (lawful (links_of a.rows) p.links) rows (p.values i (subst (λ (n : ℕ). i ≤ n) p.dim within)) (q.values i (subst (λ (n : ℕ). i ≤ n) p.dim within)) d live)
+          (λ i d within live. carried-one i (rule_at c i) a b rows (p.values i (subst (λ (n : ℕ). i ≤ n) p.dim within)) (q.values i (subst (λ (n : ℕ). i ≤ n) p.dim within)) d live)
 
 -- a cell that is given a value
 pub valued-one : (c : Content) (i d : ℕ) (value : Option Value) (a b : Content) → IsValued c i d value a → IsValued c i d value b → a ≡ b

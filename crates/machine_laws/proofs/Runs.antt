@@ -6,7 +6,7 @@ use Rattle.map_defs.specs.Kept.{AreKept}
 use Rattle.map_defs.specs.Script.{Line, line_of, words_of}
 use Rattle.map_defs.specs.Text.{Reply}
 use Rattle.map_defs.specs.Machine.{Obeys, blank, unread, obeyed, Run, Step}
-use Rattle.machine_laws.proofs.Steps.{step-one, step-kept}
+use Rattle.machine_laws.proofs.Steps.{step-one-kept, step-kept}
 
 pub obeys-one : (hook : Meaning) (s : State) (words : List (List ℕ)) (here here' : List Reply) (new new' : State) → AreKept s → Obeys hook s words here new → Obeys hook s words here' new' → (here ≡ here') × (new ≡ new')
 obeys-one hook s words here here' new new' kept (blank n e f) (blank n' e' f') = (e ∙ sym e', f ∙ sym f')
@@ -19,7 +19,7 @@ obeys-one hook s words here here' new new' kept (obeyed line reply told step e) 
 obeys-one hook s words here here' new new' kept (obeyed line reply told step e) (unread first more are none e' f') = absurd (cc)
 obeys-one hook s words here here' new new' kept (obeyed line reply told step e) (obeyed line' reply' told' step' e') =
     let same : line ≡ line' = cc in
-    let one = step-one hook s kept line' reply reply' new new' (subst (λ (l : Line). Step hook s l reply new) same step) step' in
+    let one = step-one-kept hook s kept line' reply reply' new new' (subst (λ (l : Line). Step hook s l reply new) same step) step' in
     (e ∙ ap (λ (r : Reply). r ∷ []) one.0 ∙ sym e', one.1)
 
 -- a line keeps what every state keeps

@@ -2,12 +2,15 @@
 use Rattle.std.proofs.Common.{◌≡◌, ◌≢◌, ℕ, ◌+◌, ◌*◌, ◌<◌, ◌≤◌, List, [], ◌∷◌, length, Option, Some, None, refl, sym, ap, ◌∙◌, subst, inl, inr, arith}
 use Rattle.std.proofs.lemmas.Bool.{cases_lt}
 use Rattle.std.proofs.lemmas.List.{append-nil}
+use Rattle.std.proofs.lemmas.List.Elements.{All-contains}
 use Rattle.std.specs.Prelude.{slice_set}
 use Rattle.map_defs.specs.Links.{Links}
 use Rattle.map_defs.specs.Laws.{Laws}
 use Rattle.map_defs.specs.Rows.{Rows, links_of, made, made_max, IsLive, IsSound}
 use Rattle.map_defs.specs.Edits.{Edit, free_row}
 use Rattle.map_defs.specs.Polygon.{per_side, polygon_rows}
+use Rattle.map_defs.specs.Births.{IsFresh}
+use Rattle.map_defs.specs.Inserting.{IsTooMany}
 use Rattle.map_defs.specs.Sewing.{IsSewn, IsUnsewn}
 use Rattle.map_defs.specs.Refusal.{Refusal}
 use Rattle.map_defs.specs.RuleNames.{named_merge, named_split}
@@ -18,17 +21,22 @@ use Rattle.map_defs.specs.Script.{Line}
 use Rattle.map_defs.specs.Listing.{ListValue, listing_with}
 use Rattle.map_defs.specs.Relinking.{NoDart}
 use Rattle.map_defs.specs.Kept.{IsKept, AreKept}
-use Rattle.map_defs.specs.Text.{Reply, Truth, Darts, Counts, Shown, Refused}
-use Rattle.map_defs.specs.Machine.{Step, Effect, Gives, Tells, Relinks, Values, AreFree, ArePaired, checks, links_in, with_polygon, with_dart}
+use Rattle.map_defs.specs.Text.{Reply, Done, Truth, Darts, Counts, Shown, Refused}
+use Rattle.map_defs.specs.Machine.{Step, Effect, Gives, Tells, Relinks, Inserts, Values, AreFree, ArePaired, checks, links_in, with_polygon, with_dart}
 use Rattle.link_laws.proofs.Sewn.{sewing_keeps}
 use Rattle.link_laws.proofs.Unsewn.{unsewing_keeps}
+use Rattle.insert_laws.proofs.Face.{face_keeps}
 use Rattle.link_rows.proofs.EditSound.{after-sound}
 use Rattle.link_rows.proofs.EditPlain.{births_edit, death_edit, births-fit, death-fits}
 use Rattle.link_rows.proofs.KeptLaws.{births-keep}
 use Rattle.link_rows.proofs.PolygonEdit.{sides_edit, polygon-fits, polygon-after, polygon-lawful}
-use Rattle.machine_laws.proofs.Judging.{ordered, AllPass, judged-one, judged-kept}
+use Rattle.machine_laws.proofs.Judging.{ordered, AllPass, judged-both, judged-kept}
 use Rattle.machine_laws.proofs.ValueLists.{one-listing}
 use Rattle.machine_laws.proofs.Relinked.{TellsOne, sewn-one, unsewn-one, relinked-one, valued-one}
+use Rattle.machine_laws.proofs.Inserted.{TellsInserted}
+use Rattle.machine_laws.specs.Needs.{NeedsLaws}
+use Rattle.machine_laws.proofs.Grown.{births-one, grown-one, vertex-one, edge-one, face-one}
+use Rattle.machine_laws.proofs.GrownLaws.{vertex-lawful, edge-lawful, vertex-live, edge-live, face-live, kept-grown}
 use Rattle.machine_laws.proofs.Keeping.{laws-of, dead-at, kept-step, kept-relinked, kept-valued, kept-ruled}
 use Rattle.machine_laws.proofs.Born.{kept-born}
 use Rattle.machine_laws.proofs.Ended.{kept-ended}
@@ -46,9 +54,9 @@ effect-refuses hook s (says.Free i d) r new f = let g = f.2 in cc
 effect-refuses hook s (says.Sewable i d e) r new f = let g = f.2 in cc
 effect-refuses hook s says.Count r new f = let g = f.2 in cc
 effect-refuses hook s says.Show r new e = let f = e.2 in cc
-effect-refuses hook s (says.Vertex d) r new f = f
-effect-refuses hook s (says.Edge d e) r new f = f
-effect-refuses hook s (says.Face darts) r new f = f
+effect-refuses hook s (says.Vertex d) r new f = let g = f.3 in cc
+effect-refuses hook s (says.Edge d e) r new f = let g = f.3 in cc
+effect-refuses hook s (says.Face path) r new f = let g = f.3 in cc
 effect-refuses hook s (says.Remove i d) r new f = f
 effect-refuses hook s (says.Contract i d) r new f = f
 effect-refuses hook s says.Dual r new f = f
@@ -66,6 +74,10 @@ effect-refuses hook s says.Off r new f = f
 -- what is told and leaves one state
 abbrev IsOne : State → (Reply → State → Type 0) → Type 0
 IsOne s effect = (one other : Reply) (new new' : State) → effect one new → effect other new' → (one ≡ other) × (new ≡ new')
+
+-- what is told has one reply
+abbrev HasOneReply : (Reply → State → Type 0) → Type 0
+HasOneReply effect = (one other : Reply) (new new' : State) → effect one new → effect other new' → one ≡ other
 
 gives-one : (s : State) (reply : Reply) (next : State) → IsOne s (Gives reply next)
 gives-one s reply next one other new new' e f = (e.0 ∙ sym f.0, e.1 ∙ sym f.1)
@@ -123,50 +135,89 @@ module _ (c : Content) (kept : IsKept c) where
       kept-ended c kept d live alone
       (subst (λ (r : Rows). IsSound c.kind c.dim (slice_set r d None)) (append-nil c.rows) (after-sound c.kind c.dim c.rows (death_edit d) kept.begun kept.sound fits few))
 
-module _ (hook : Meaning) (s : State) (kept : AreKept s) where
-  relinks-one : (Becomes : Links → Type 0) → TellsOne Becomes → ((N : Links) → Becomes N → Laws s.present.kind N) → IsOne s (Relinks hook s Becomes)
-  relinks-one Becomes tells lawful one other new new' e f =
-      (e.2 ∙ sym f.2, e.3 ∙ ap (steps_to s) (relinked-one hook s.present (laws-of s.present kept.present) 0 NoDart Becomes tells lawful e.0 f.0 e.1 f.1) ∙ sym f.3)
+module _ (hook : Meaning) (s : State) where
+  relinks-one : (Becomes : Links → Type 0) → TellsOne Becomes → IsOne s (Relinks hook s Becomes)
+  relinks-one Becomes tells one other new new' e f =
+      (e.2 ∙ sym f.2, e.3 ∙ ap (steps_to s) (relinked-one hook s.present 0 NoDart Becomes Becomes tells e.0 f.0 e.1 f.1) ∙ sym f.3)
 
+  -- an insertion has one reply, and leads to one state where its links are told
+  inserts-reply : (K : ℕ → Type 0) (Becomes : (ℕ → ℕ) → Links → Type 0) → HasOneReply (Inserts hook s K Becomes)
+  inserts-reply K Becomes one other new new' e f =
+      e.3 ∙ ap (Done (made s.present.rows + 1)) (births-one hook s.present K Becomes e.0 f.0 e.1 f.1 e.2 f.2) ∙ sym f.3
+
+  inserts-one : (K : ℕ → Type 0) (Becomes : (ℕ → ℕ) → Links → Type 0) → (((x : ℕ) → K x → x ≢ 0) → TellsInserted K Becomes) → IsOne s (Inserts hook s K Becomes)
+  inserts-one K Becomes tells one other new new' e f =
+      (inserts-reply K Becomes one other new new' e f, e.4 ∙ ap (steps_to s) (grown-one hook s.present K Becomes e.0 f.0 e.1 f.1 e.2 f.2 tells) ∙ sym f.4)
+
+  effect-one : (line : Line) → (NeedsLaws line s.present.kind → Laws s.present.kind (links_in s.present)) → AllPass (checks s line) → IsOne s (Effect hook s line)
+  effect-one (says.Polygon sides) laws p = gives-one s _ _
+  effect-one says.Dart laws p = gives-one s _ _
+  effect-one (says.Del d) laws p = gives-one s _ _
+  effect-one (says.Sew i d e) laws p = relinks-one _ (sewn-one s.present.kind i d e (links_in s.present))
+  effect-one (says.Unsew i d) laws p = relinks-one _ (unsewn-one s.present.kind i d (links_in s.present))
+  effect-one (says.Rule i merge split) laws p = λ one other new new' e f.
+      let merges = some-one (named_merge merge) e.0 f.0 e.2 f.2 in
+      let splits = some-one (named_split split) e.1 f.1 e.3 f.3 in
+      (e.4.0 ∙ sym f.4.0, e.4.1 ∙ rw (merges, splits) refl ∙ sym f.4.1)
+  effect-one (says.Set i d value) laws p = given-one s i d _
+  effect-one (says.Clear i d) laws p = given-one s i d _
+  effect-one (says.Value i d) laws p = gives-one s _ _
+  effect-one (says.Cell i d) laws p = λ one other new new' e f.
+      (e.3 ∙ ap Darts (darts-one _ e.0 f.0 e.1 f.1 e.2 f.2) ∙ sym f.3, e.4 ∙ sym f.4)
+  effect-one (says.Same i d e) laws p = tells-one s _
+  effect-one (says.Free i d) laws p = tells-one s _
+  effect-one (says.Sewable i d e) laws p = tells-one s _
+  effect-one says.Count laws p = λ one other new new' e f.
+      (e.2 ∙ ap Counts (counts-one s.present.kind s.present.dim s.present.rows e.0 f.0 e.1 f.1) ∙ sym f.2, e.3 ∙ sym f.3)
+  effect-one says.Show laws p = λ one other new new' e f.
+      (e.2 ∙ ap (λ (values : List ListValue). Shown (listing_with s.present values)) (one-listing s.present e.0 f.0 e.1 f.1) ∙ sym f.2, e.3 ∙ sym f.3)
+  effect-one (says.Vertex d) laws p = inserts-one _ _ (vertex-one s.present.kind (links_in s.present) d)
+  effect-one (says.Edge d e) laws p = inserts-one _ _ (edge-one s.present.kind (links_in s.present) d e laws p.1.1.1.0 p.1.1.1.1.0)
+  effect-one (says.Face path) laws p = inserts-one _ _ (face-one s.present.kind (links_in s.present) path laws p.1.1.1.0 p.1.1.1.1.0)
+  effect-one (says.Remove i d) laws p = λ one other new new' e f. absurd e
+  effect-one (says.Contract i d) laws p = λ one other new new' e f. absurd e
+  effect-one says.Dual laws p = λ one other new new' e f. absurd e
+  effect-one (says.Mark name) laws p = λ one other new new' e f. absurd e
+  effect-one (says.Undo name) laws p = λ one other new new' e f. absurd e
+  effect-one (says.Log name) laws p = λ one other new new' e f. absurd e
+  effect-one (says.Removable i d) laws p = λ one other new new' e f. absurd e
+  effect-one (says.Contractible i d) laws p = λ one other new new' e f. absurd e
+  effect-one says.Off laws p = λ one other new new' e f. absurd e
+
+  effect-reply : (line : Line) → AllPass (checks s line) → HasOneReply (Effect hook s line)
+  effect-reply (says.Edge d e) p = inserts-reply _ _
+  effect-reply (says.Face path) p = inserts-reply _ _
+  effect-reply line p = λ one other new new' e f. (effect-one line (λ needs. absurd needs) p one other new new' e f).0
+
+  pub step-reply : (line : Line) → HasOneReply (Step hook s line)
+  step-reply line one other new new' =
+      judged-both s (Effect hook s line) one other new new' (one ≡ other) (λ r e f here there. e ∙ sym f) (checks s line) (ordered s line)
+      (λ passes. effect-reply line passes one other new new')
+
+  -- a step leads to one state, where its line needs no lawful links or they are lawful
+  pub step-lawful : (line : Line) → (NeedsLaws line s.present.kind → Laws s.present.kind (links_in s.present)) → IsOne s (Step hook s line)
+  step-lawful line laws one other new new' =
+      judged-both s (Effect hook s line) one other new new' ((one ≡ other) × (new ≡ new')) (λ r e f here there. (e ∙ sym f, here ∙ sym there)) (checks s line) (ordered s line)
+      (λ passes. effect-one line laws passes one other new new')
+
+module _ (hook : Meaning) (s : State) (kept : AreKept s) where
   relinks-kept : (Becomes : Links → Type 0) → ((N : Links) → Becomes N → Laws s.present.kind N) → (reply : Reply) (new : State) → Relinks hook s Becomes reply new → AreKept new
   relinks-kept Becomes lawful reply new e =
       let few : made s.present.rows + 0 ≤ made_max = (let f = kept.present.sound.few in omega arith) in
       subst AreKept (sym e.3) (kept-step s e.0 kept (kept-relinked hook s.present kept.present 0 NoDart Becomes e.0 few (lawful (links_of e.0.rows) e.1.links) e.1))
 
-  effect-one : (line : Line) → AllPass (checks s line) → IsOne s (Effect hook s line)
-  effect-one (says.Polygon sides) p = gives-one s _ _
-  effect-one says.Dart p = gives-one s _ _
-  effect-one (says.Del d) p = gives-one s _ _
-  effect-one (says.Sew i d e) p = relinks-one _ (sewn-one s.present.kind i d e (links_in s.present)) (sewn-lawful s.present kept.present i d e p.1.0 p.1.1.0 p.1.1.1.0 p.1.1.1.1.0)
-  effect-one (says.Unsew i d) p = relinks-one _ (unsewn-one s.present.kind i d (links_in s.present)) (unsewn-lawful s.present kept.present i d)
-  effect-one (says.Rule i merge split) p = λ one other new new' e f.
-      let merges = some-one (named_merge merge) e.0 f.0 e.2 f.2 in
-      let splits = some-one (named_split split) e.1 f.1 e.3 f.3 in
-      (e.4.0 ∙ sym f.4.0, e.4.1 ∙ rw (merges, splits) refl ∙ sym f.4.1)
-  effect-one (says.Set i d value) p = given-one s i d _
-  effect-one (says.Clear i d) p = given-one s i d _
-  effect-one (says.Value i d) p = gives-one s _ _
-  effect-one (says.Cell i d) p = λ one other new new' e f.
-      (e.3 ∙ ap Darts (darts-one _ e.0 f.0 e.1 f.1 e.2 f.2) ∙ sym f.3, e.4 ∙ sym f.4)
-  effect-one (says.Same i d e) p = tells-one s _
-  effect-one (says.Free i d) p = tells-one s _
-  effect-one (says.Sewable i d e) p = tells-one s _
-  effect-one says.Count p = λ one other new new' e f.
-      (e.2 ∙ ap Counts (counts-one s.present.kind s.present.dim s.present.rows e.0 f.0 e.1 f.1) ∙ sym f.2, e.3 ∙ sym f.3)
-  effect-one says.Show p = λ one other new new' e f.
-      (e.2 ∙ ap (λ (values : List ListValue). Shown (listing_with s.present values)) (one-listing s.present e.0 f.0 e.1 f.1) ∙ sym f.2, e.3 ∙ sym f.3)
-  effect-one (says.Vertex d) p = λ one other new new' e f. absurd e
-  effect-one (says.Edge d d') p = λ one other new new' e f. absurd e
-  effect-one (says.Face darts) p = λ one other new new' e f. absurd e
-  effect-one (says.Remove i d) p = λ one other new new' e f. absurd e
-  effect-one (says.Contract i d) p = λ one other new new' e f. absurd e
-  effect-one says.Dual p = λ one other new new' e f. absurd e
-  effect-one (says.Mark name) p = λ one other new new' e f. absurd e
-  effect-one (says.Undo name) p = λ one other new new' e f. absurd e
-  effect-one (says.Log name) p = λ one other new new' e f. absurd e
-  effect-one (says.Removable i d) p = λ one other new new' e f. absurd e
-  effect-one (says.Contractible i d) p = λ one other new new' e f. absurd e
-  effect-one says.Off p = λ one other new new' e f. absurd e
+  laws : Laws s.present.kind (links_in s.present)
+  laws = laws-of s.present kept.present
+
+  inserts-kept : (K : ℕ → Type 0) (Becomes : (ℕ → ℕ) → Links → Type 0) → ((x : ℕ) → K x → IsLive s.present.rows x) → (IsTooMany s.present K → ⊥)
+      → ((star : ℕ → ℕ) (N : Links) → IsFresh (links_in s.present) K star → Becomes star N → Laws s.present.kind N)
+      → (reply : Reply) (new : State) → Inserts hook s K Becomes reply new → AreKept new
+  inserts-kept K Becomes live room lawful reply new e =
+      subst AreKept (sym e.4) (kept-step s e.1 kept (kept-grown hook s.present kept.present K live Becomes room lawful e.0 e.1 e.2))
+
+  -- every line leads to one state from a state that keeps what the machine's states keep
+  pub step-one-kept : (line : Line) → IsOne s (Step hook s line)
+  step-one-kept line = step-lawful hook s line (λ needs. laws)
 
   at-next : (next : Content) (new : State) → IsKept next → new ≡ steps_to s next → AreKept new
   at-next next new is e = subst AreKept (sym e) (kept-step s next kept is)
@@ -190,9 +241,17 @@ module _ (hook : Meaning) (s : State) (kept : AreKept s) where
   effect-kept (says.Sewable i d e) p reply new f = stays new f.3
   effect-kept says.Count p reply new e = stays new e.3
   effect-kept says.Show p reply new e = stays new e.3
-  effect-kept (says.Vertex d) p reply new e = absurd e
-  effect-kept (says.Edge d d') p reply new e = absurd e
-  effect-kept (says.Face darts) p reply new e = absurd e
+  effect-kept (says.Vertex d) p reply new f = inserts-kept _ _
+      (λ x h. vertex-live s.present.kind s.present.rows laws d x p.0 h) p.1.0
+      (λ star N fresh becomes. vertex-lawful s.present.kind (links_in s.present) N d star laws (dart-some s.present kept.present d p.0) fresh becomes) reply new f
+  effect-kept (says.Edge d e) p reply new f = inserts-kept _ _
+      (λ x h. edge-live s.present.kind s.present.rows laws d e x p.0 p.1.0 h) p.1.1.1.1.1.0
+      (λ star N fresh becomes. edge-lawful s.present.kind (links_in s.present) N d e star laws
+      (dart-some s.present kept.present d p.0) (dart-some s.present kept.present e p.1.0) p.1.1.1.0 p.1.1.1.1.0 fresh becomes) reply new f
+  effect-kept (says.Face path) p reply new f = inserts-kept _ _
+      (λ x h. face-live s.present.kind s.present.rows laws path x p.1.0 h) p.1.1.1.1.1.0
+      (λ star N fresh becomes. face_keeps s.present.kind path star (links_in s.present) N laws
+      (λ b h. dart-some s.present kept.present b (All-contains (IsLive s.present.rows) path b p.1.0 h)) p.1.1.1.0 p.1.1.1.1.0 fresh becomes) reply new f
   effect-kept (says.Remove i d) p reply new e = absurd e
   effect-kept (says.Contract i d) p reply new e = absurd e
   effect-kept says.Dual p reply new e = absurd e
@@ -202,10 +261,6 @@ module _ (hook : Meaning) (s : State) (kept : AreKept s) where
   effect-kept (says.Removable i d) p reply new e = absurd e
   effect-kept (says.Contractible i d) p reply new e = absurd e
   effect-kept says.Off p reply new e = absurd e
-
-  pub step-one : (line : Line) (one other : Reply) (new new' : State) → Step hook s line one new → Step hook s line other new' → (one ≡ other) × (new ≡ new')
-  step-one line one other new new' =
-      judged-one s (Effect hook s line) one other new new' (checks s line) (ordered s line) (λ passes. effect-one line passes one other new new')
 
   pub step-kept : (line : Line) (reply : Reply) (new : State) → Step hook s line reply new → AreKept new
   step-kept line reply new =

@@ -5,15 +5,16 @@ ghost use Rattle.std.specs.Prelude.{◌≡◌, ℕ, ◌≤◌, List};
 ghost use Rattle.map_defs.specs.Refusal.{Refusal, number};
 ghost use Rattle.map_defs.specs.Kind.{Kind};
 ghost use Rattle.map_defs.specs.Values.{Meaning};
-ghost use Rattle.map_defs.specs.State.{State, Content, empty_state};
-ghost use Rattle.map_defs.specs.Off.{Mesh};
-ghost use Rattle.map_defs.specs.Loading.{IsMeshContent, IsLoaded};
+ghost use Rattle.map_defs.specs.State.{State, empty_state};
+ghost use Rattle.map_defs.specs.Loading.{IsLoaded};
 ghost use Rattle.map_defs.specs.Kept.{AreKept};
 ghost use Rattle.map_defs.specs.Script.{Line};
 ghost use Rattle.map_defs.specs.Text.{Reply, Refused};
-ghost use Rattle.map_defs.specs.Machine.{Step, Run, FailsFor, checks};
+ghost use Rattle.map_defs.specs.Laws.{Laws};
+ghost use Rattle.map_defs.specs.Machine.{Step, Run, FailsFor, checks, links_in};
 ghost use Rattle.map_defs.specs.Outside.{Files, IsFront};
 ghost use Rattle.map_defs.specs.Program.{Answers, Starts};
+ghost use Rattle.machine_laws.specs.Needs.{NeedsLaws};
 
 /// The refusal that a line gets is one whose condition holds, with the least number of all whose condition holds; and the
 /// state is as it was. So a user can read the table of refusals line by line.
@@ -32,11 +33,14 @@ pub fn accepted_without_refusal()
         ((r : Refusal) → reply ≡ Refused r → ⊥) → (q : Refusal) → FailsFor (checks s line) q → ⊥ }
 {}
 
-/// A line has one reply and leads to one state, from each state that keeps what the machine's states keep.
+/// A line has one reply and leads to one state. Of an edge in a combinatorial map and of a face in a generalized map the
+/// second holds where the links obey the laws, as they do in every state of a run: in a map that breaks them such a line
+/// may leave a link of a new dart open.
 pub fn one_step()
-    ensures reply { (hook : Meaning) (s : State) (line : Line) (one other : Reply) (new new' : State) → AreKept s → Step hook s line one new
+    ensures reply { (hook : Meaning) (s : State) (line : Line) (one other : Reply) (new new' : State) → Step hook s line one new
         → Step hook s line other new' → one ≡ other }
-    ensures state { (hook : Meaning) (s : State) (line : Line) (one other : Reply) (new new' : State) → AreKept s → Step hook s line one new
+    ensures state { (hook : Meaning) (s : State) (line : Line) (one other : Reply) (new new' : State)
+        → (NeedsLaws line s.present.kind → Laws s.present.kind (links_in s.present)) → Step hook s line one new
         → Step hook s line other new' → new ≡ new' }
 {}
 
@@ -45,15 +49,9 @@ pub fn one_step()
 /// a mesh.
 pub fn runs_keep_the_laws()
     ensures first { (k : Kind) (n : ℕ) → 2 ≤ n → AreKept (empty_state k n) }
-    ensures mesh { (k : Kind) (n : ℕ) (text : List ℕ) (start : State) → IsLoaded k n text start → AreKept start }
+    ensures mesh { (k : Kind) (n : ℕ) (text : List ℕ) (start : State) → 2 ≤ n → IsLoaded k n text start → AreKept start }
     ensures each { (hook : Meaning) (s : State) (lines : List (List ℕ)) (replies : List Reply) (new : State) → AreKept s
         → Run hook s lines replies new → AreKept new }
-{}
-
-/// A mesh has one map: its sides tell all links, and the points of its vertices all values.
-pub fn one_mesh_map()
-    ensures { (k : Kind) (n : ℕ) (mesh : Mesh) (one other : Content) → IsMeshContent k n mesh one → IsMeshContent k n mesh other
-        → one ≡ other }
 {}
 
 /// The program has one text and one status for its words and files.

@@ -4,8 +4,8 @@ use Rattle.std.proofs.lemmas.Bool.{false≢true, cases_eq, cases_lt}
 use Rattle.std.proofs.lemmas.List.{get_or_default}
 use Rattle.std.proofs.lemmas.List.Elements.{Contains-append_left, Contains-push, Contains-push_cases}
 use Rattle.map_defs.specs.Kind.{Kind, alpha, beta, inverse}
-use Rattle.map_defs.specs.Rows.{Rows, IsLive, links_of, made, row_at, IsSound}
-use Rattle.map_defs.specs.Edits.{Change, Edit, IsLed, Fits, after_edit, with_changes, with_births, buried}
+use Rattle.map_defs.specs.Rows.{Rows, IsLive, links_of, made, row_at}
+use Rattle.map_defs.specs.Edits.{Change, Edit, IsLed, after_edit, with_changes, with_births, buried}
 use Rattle.map_defs.specs.Touched.{IsTouched, IsReached, IsChanged, IsBesideChanged}
 use Rattle.link_rows.proofs.RowWrites.{live-within, births-old}
 use Rattle.link_rows.proofs.EditSteps.{linked-live, buried-none}

@@ -1,5 +1,5 @@
 -- Where place for ids is made.
-use Rattle.std.proofs.Common.{ℕ, ◌≡◌, ◌≤◌, Contains, arith}
+use Rattle.std.proofs.Common.{ℕ, ◌≡◌, arith}
 use Rattle.attr_pool.specs.Labelings.{Labeling, KeepsPlaces}
 use Rattle.transport.specs.Groups.{Group}
 use Rattle.label_laws.specs.Touching.{CanLabel}

@@ -1,5 +1,7 @@
 -- Which numbers name live darts, and which links a live dart has.
-use Rattle.std.proofs.Common.{◌≡◌, ℕ, ◌+◌, ◌<◌, ◌≤◌, is_some, inl, inr, ap, sym, ◌∙◌, arith}
+use Rattle.std.proofs.Common.{◌≡◌, ℕ, ◌+◌, ◌<◌, ◌≤◌, List, [], ◌∷◌, ◌++◌, length, get_or, take, All, is_some, inl, inr, ap, sym, subst, ◌∙◌, arith}
+use Rattle.std.proofs.lemmas.List.{take_more}
+use Rattle.std.proofs.lemmas.List.Elements.{All-push}
 use Rattle.std.proofs.lemmas.Bool.{cases_lt, false≢true}
 use Rattle.map_defs.specs.Kind.{Kind}
 use Rattle.map_defs.specs.Rows.{Rows, row_at, links_of, IsLive, IsSound, made}
@@ -18,3 +20,12 @@ alone-up k n rows d sound free i = elim (cases_lt i (n + 1)) [
   | inl within ↦ free i within
   | inr above ↦ rows_dimension n rows sound.wide i d (omega arith)
 ]
+
+-- one more number that names a live dart
+pub live-more : (rows : Rows) (numbers : List ℕ) (i : ℕ) (darts next : List ℕ) (x : ℕ) → i < length numbers → x ≡ get_or numbers i 0 → IsLive rows (get_or numbers i 0) → next ≡ darts ++ x ∷ []
+    → darts ≡ take i numbers → All (IsLive rows) (take i numbers) → (next ≡ take (i + 1) numbers) × All (IsLive rows) (take (i + 1) numbers)
+live-more rows numbers i darts next x within is live pushed so all =
+    let more = take_more numbers i 0 within in (
+      pushed ∙ (ap (λ (xs : List ℕ). xs ++ x ∷ []) so ∙ ap (λ (y : ℕ). take i numbers ++ y ∷ []) is) ∙ sym more,
+      subst (All (IsLive rows)) (sym more) (All-push (IsLive rows) (take i numbers) (get_or numbers i 0) all live),
+    )

@@ -2,3 +2,5 @@ pub mod Seen
 pub mod Changing
 pub mod Calls
 pub mod Made
+pub mod Growing
+pub mod Placed

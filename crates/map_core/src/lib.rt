@@ -7,6 +7,7 @@
 #![tactic(auto)]
 
 mod change;
+mod insert;
 mod list;
 mod load;
 mod make;

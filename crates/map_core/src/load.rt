@@ -7,21 +7,21 @@ ghost use Rattle.map_defs.specs.Edits.{Fits, after_edit};
 ghost use Rattle.map_defs.specs.Laws.{Laws};
 ghost use Rattle.map_defs.specs.State.{Content, empty_state};
 ghost use Rattle.map_defs.specs.Loading.{first_state};
+ghost use Rattle.cell_walk.specs.CellLists.{AreCellsOf, lists_of};
 ghost use Rattle.attr_pool.specs.Labelings.{HasPlaces, KeepsIds};
-ghost use Rattle.label_laws.specs.Placing.{ArePlacedCells};
-ghost use Rattle.map_core.specs.Made.{IsMadeBy};
+ghost use Rattle.map_core.specs.Made.{IsMadeOf};
 
 use crate::make::make_room;
 use crate::map::{Done, Map};
-use crate::relabel::give_groups;
+use crate::relabel::give_cells;
 use crate::value::{make_places, put_rule};
 use attr_pool::{Labels, Pool};
 use attr_rules::{Hook, Merge, Split, TableRule};
-use cell_walk::cell;
+use cell_walk::cells_of;
 use link_rows::{Edit, Links, MADE_MAX};
-use map_kind::{Kind, Place};
+use map_kind::{Dart, Kind, Place};
 use std::alloc::{AllocError, Global};
-use transport::{Group, RuleRow};
+use transport::RuleRow;
 
 impl<'h, K: Kind, H: Hook, const DIM: usize> Map<'h, K, H, DIM> {
     /// Makes a map from nothing by an edit, gives dimension 0 the rule `first copy` and each 0-cell its value: `places` has
@@ -38,35 +38,82 @@ impl<'h, K: Kind, H: Hook, const DIM: usize> Map<'h, K, H, DIM> {
         ensures hook { self.new.hook ≡ self.old.hook }
         ensures first { IfOk result (λ done. done.first ≡ min edit.now.births 1) }
         ensures count { IfOk result (λ done. done.count ≡ edit.now.births) }
-        ensures loaded { OnOk result ((content : Content) × IsMadeBy K.kind DIM edit.now places.now content
+        ensures loaded { OnOk result ((content : Content) × IsMadeOf K.kind DIM (after_edit DIM edit.now (None ∷ [])) places.now content
             × (self.new.state ≡ first_state content)) }
         ensures err { OnErr result (self.new ≡ self.old) }
     {
-        prepare(
+        let _ = &self.links;
+        let links = links_after::<K, DIM>(alloc, edit)?;
+        let darts = darts_of(alloc, places)?;
+        let cells = cells_of(alloc, &links, 0, &darts)?;
+        self.load_links(alloc, links, places, &cells)
+    }
+
+    /// The same of links that were built: `places` has the least dart of each 0-cell, ascending, with its value, and `cells`
+    /// the darts of each, in the same order. It costs the number of darts.
+    pub fn load_links(
+        &mut self,
+        alloc: Global,
+        links: Links<K, DIM>,
+        places: &[Place],
+        cells: &[Vec<Dart>],
+    ) -> Result<Done, AllocError>
+        requires new { self.old.state ≡ empty_state K.kind DIM }
+        requires laws { Laws K.kind (links_of links.rows) }
+        requires members { (d : ℕ) → Contains (map (λ place. place.dart) places.now) d
+            ↔ (IsLive links.rows d × NamesCell K.kind (links_of links.rows) 0 d) }
+        requires ascending { IsStrictlyIncreasing (map (λ place. place.dart) places.now) }
+        requires cells { AreCellsOf K.kind (links_of links.rows) 0 (map (λ place. place.dart) places.now) (lists_of cells.now) }
+        ensures hook { self.new.hook ≡ self.old.hook }
+        ensures first { IfOk result (λ done. done.first ≡ min (made links.rows) 1) }
+        ensures count { IfOk result (λ done. done.count ≡ made links.rows) }
+        ensures loaded { OnOk result ((content : Content) × IsMadeOf K.kind DIM links.rows places.now content
+            × (self.new.state ≡ first_state content)) }
+        ensures err { OnErr result (self.new ≡ self.old) }
+    {
+        let made = links.made();
+        prepare::<DIM>(
             alloc,
-            &mut self.links,
             &mut self.labels,
             &mut self.pool,
             &mut self.rules,
-            edit.births,
+            made,
             places.len(),
         )?;
-        self.links.apply(edit);
-        match placed_cells(alloc, &self.links, places) {
-            Ok(groups) => {
-                give_groups(&mut self.labels, &mut self.pool, &groups);
-                put_rule(&mut self.rules, 0, FIRST_COPY);
-                Ok(Done {
-                    first: edit.births.min(1),
-                    count: edit.births,
-                })
-            }
-            Err(error) => {
-                self.links.reverse(edit);
-                Err(error)
-            }
-        }
+        self.links = links;
+        give_cells(&mut self.labels, &mut self.pool, places, cells);
+        put_rule(&mut self.rules, 0, FIRST_COPY);
+        Ok(Done {
+            first: made.min(1),
+            count: made,
+        })
     }
+}
+
+/// The links that an edit makes from nothing.
+fn links_after<K: Kind, const DIM: usize>(
+    alloc: Global,
+    edit: &Edit,
+) -> Result<Links<K, DIM>, AllocError>
+    requires low { 2 ≤ DIM }
+    requires high { DIM ≤ 8 }
+    requires fits { Fits K.kind DIM (None ∷ []) edit.now }
+    requires few { edit.now.births ≤ MADE_MAX }
+    ensures { IfOk result (λ links. links.rows ≡ after_edit DIM edit.now (None ∷ [])) }
+{
+    let mut links = Links::new(alloc);
+    if links.reserve(edit.births).is_err() {
+        return Err(AllocError);
+    }
+    links.apply(edit);
+    Ok(links)
+}
+
+/// The darts of places.
+fn darts_of(alloc: Global, places: &[Place]) -> Result<Vec<Dart>, AllocError>
+    ensures { IfOk result (λ darts. darts.items ≡ map (λ place. place.dart) places.now) }
+{
+    places.iter().map(|place| place.dart).collect(alloc)
 }
 
 /// The rule by which points merge and split.
@@ -75,21 +122,17 @@ const FIRST_COPY: TableRule = TableRule {
     split: Split::Copied,
 };
 
-/// Takes the memory for so many new darts, an id of dimension 0 for each dart, so many values, and the rules.
-fn prepare<K: Kind, const DIM: usize>(
+/// Takes the memory for an id of dimension 0 for each of so many darts, for so many values, and for the rules.
+fn prepare<const DIM: usize>(
     alloc: Global,
-    links: &mut Links<K, DIM>,
     labels: &mut Labels<DIM>,
     pool: &mut Pool,
     rules: &mut RuleRow,
-    births: u32,
+    darts: u32,
     values: usize,
 ) -> Result<(), AllocError>
-    requires few { made links.old.rows + births ≤ MADE_MAX }
-    ensures rows { links.new.rows ≡ links.old.rows }
-    ensures spare { OnOk result (births ≤ links.new.spare) }
-    ensures room { OnOk result (births ≤ links.new.room) }
-    ensures long { OnOk result (made links.new.rows + births ≤ labels.new.made) }
+    requires { DIM ≤ 8 }
+    ensures long { OnOk result (darts ≤ labels.new.made) }
     ensures longer { labels.old.made ≤ labels.new.made }
     ensures ids { KeepsIds labels.old labels.new }
     ensures places { OnOk result (HasPlaces labels.new 0) }
@@ -99,31 +142,8 @@ fn prepare<K: Kind, const DIM: usize>(
     ensures rules { OnOk result (rules.new ≡ cond (length rules.old == 0) (replicate (DIM + 1) None) rules.old) }
     ensures err { OnErr result (rules.new ≡ rules.old) }
 {
-    if links.reserve(births).is_err() {
-        return Err(AllocError);
-    }
-    labels.grow(links.made() + births)?;
+    labels.grow(darts)?;
     labels.open(0)?;
     make_room(pool, values)?;
-    let dimension = links.dimension();
-    make_places(alloc, rules, dimension + 1)
-}
-
-/// The 0-cells of places, each with its value.
-fn placed_cells<K: Kind, const DIM: usize>(
-    alloc: Global,
-    links: &Links<K, DIM>,
-    places: &[Place],
-) -> Result<Vec<Group>, AllocError>
-    ensures { IfOk result (λ groups. ArePlacedCells K.kind (links_of links.now.rows) places.now (length places.now) groups.items) }
-{
-    let mut groups = Vec::with_capacity(alloc, places.len())?;
-    for place in places {
-        groups.push(Group {
-            dim: 0,
-            darts: cell(alloc, links, 0, place.dart)?,
-            value: Some(place.value),
-        })?;
-    }
-    Ok(groups)
+    make_places(alloc, rules, DIM + 1)
 }

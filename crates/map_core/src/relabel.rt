@@ -5,9 +5,11 @@ ghost use Rattle.transport.specs.Groups.{group_at};
 ghost use Rattle.label_laws.specs.Stored.{worth};
 ghost use Rattle.label_laws.specs.Changing.{AreTaken, AreGiven, HaveId, AreRelabelled, IsGroupedBelow, IsGroupGiven, AreGroupsGiven};
 ghost use Rattle.label_laws.specs.Touching.{CanLabel};
+ghost use Rattle.cell_walk.specs.CellLists.{lists_of};
+ghost use Rattle.map_core.specs.Placed.{placed_group, placed_groups};
 
 use attr_pool::{AttrId, Labels, Pool};
-use map_kind::{Dart, Value};
+use map_kind::{Dart, Place, Value};
 use transport::Group;
 
 /// Gives the darts of each group an id of their own for its value, in place of the ids that they had, and takes the ids
@@ -52,6 +54,23 @@ pub(crate) fn give_groups<const DIM: usize>(
 {
     for group in groups {
         give_value(labels, pool, group);
+    }
+}
+
+/// Gives the darts of each 0-cell an id for the value of its place.
+pub(crate) fn give_cells<const DIM: usize>(
+    labels: &mut Labels<DIM>,
+    pool: &mut Pool,
+    places: &[Place],
+    cells: &[Vec<Dart>],
+)
+    requires long { length cells.now ≡ length places.now }
+    requires groups { (n : ℕ) → n < length places.now → CanLabel DIM labels.old (placed_group places.now (lists_of cells.now) n) }
+    requires room { length places.now ≤ pool.old.spare }
+    ensures { AreGroupsGiven (placed_groups places.now (lists_of cells.now)) (length places.now) labels.old labels.new pool.old pool.new }
+{
+    for (index, place) in places.iter().enumerate() {
+        give_id(labels, pool, 0, &cells[index], place.value);
     }
 }
 

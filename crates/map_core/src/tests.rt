@@ -1,8 +1,12 @@
 //! What no clause says: that calls are obeyed where memory is there.
+ghost use Rattle.std.specs.Prelude.{◌≡◌, map, IfOk};
+
 use crate::{Done, Map};
 use attr_rules::FirstCopy;
-use map_kind::{Alpha, Refusal, Refused, Value};
-use std::alloc::Global;
+use cell_walk::cell_lists;
+use link_rows::{Links, polygon_edit};
+use map_kind::{Alpha, Dart, Place, Refusal, Refused, Value};
+use std::alloc::{AllocError, Global};
 use std::process::Abort;
 use std::test::Fail;
 
@@ -79,6 +83,40 @@ fn sews_and_unsews(rt: HostRuntime) -> Result<(), Fail> {
     assert_eq!(&rt;
         map.unsew(alloc, 2, 1),
         Err(Refused::Line(Refusal::AlreadyFree))
+    );
+    Ok(())
+}
+
+/// A vertex on a side of a square, an edge from it across the square, and a face along a square that is folded.
+#[test]
+fn inserts_cells(rt: HostRuntime) -> Result<(), Fail> {
+    let alloc = rt.alloc();
+    let mut map = Map::<'_, Alpha, FirstCopy, 3>::new(alloc, &FirstCopy);
+    assert!(&rt; map.polygon(alloc, 4).is_ok());
+    assert_eq!(&rt; map.sew(alloc, 3, 1, 2), Ok(DONE));
+    assert_eq!(&rt; map.vertex(alloc, 9), Err(Refused::Line(Refusal::NoDart)));
+    assert_eq!(&rt; map.edge(alloc, 1, 4), Ok(Done { first: 9, count: 8 }));
+    assert_eq!(&rt;
+        map.edge(alloc, 1, 1),
+        Err(Refused::Line(Refusal::SameCorner))
+    );
+    assert_eq!(&rt;
+        map.face(alloc, &[1]),
+        Err(Refused::Line(Refusal::NotClosed))
+    );
+    assert_eq!(&rt;
+        map.face(alloc, &[1, 3, 5, 7]),
+        Ok(Done {
+            first: 17,
+            count: 8
+        })
+    );
+    assert_eq!(&rt;
+        map.vertex(alloc, 1),
+        Ok(Done {
+            first: 25,
+            count: 4
+        })
     );
     Ok(())
 }
@@ -205,5 +243,39 @@ fn carries_values(rt: HostRuntime) -> Result<(), Fail> {
             (1, 7, Some(3)),
         ],
     );
+    Ok(())
+}
+
+/// These darts, each with the same value.
+fn places_at(alloc: Global, darts: &[Dart], value: Value) -> Result<Vec<Place>, AllocError>
+    ensures { IfOk result (λ places. map (λ place. place.dart) places.items ≡ darts.now) }
+{
+    let mut places = Vec::new(alloc);
+    for dart in darts {
+        places.push(Place { dart: *dart, value })?;
+    }
+    Ok(places)
+}
+
+/// A triangle, by its edit and by its links.
+#[test]
+fn loads_a_map(rt: HostRuntime) -> Result<(), Fail> {
+    let alloc = rt.alloc();
+    let hook = FirstCopy;
+    let point = value(5);
+    let mut links = Links::<Alpha, 2>::new(alloc);
+    assert!(&rt; links.reserve(6).is_ok());
+    let triangle = polygon_edit(alloc, &links, 3)?;
+    links.apply(&triangle);
+    let vertices = cell_lists(alloc, &links, 0)?;
+    let places = places_at(alloc, &vertices.least, point)?;
+    let mut one = Map::<'_, Alpha, FirstCopy, 2>::new(alloc, &hook);
+    let done = one.load(alloc, &triangle, &places)?;
+    assert_eq!(&rt; done, Done { first: 1, count: 6 });
+    assert_eq!(&rt; one.value(0, 5), Ok(Some(point)));
+    let mut other = Map::<'_, Alpha, FirstCopy, 2>::new(alloc, &hook);
+    let done = other.load_links(alloc, links, &places, &vertices.darts)?;
+    assert_eq!(&rt; done, Done { first: 1, count: 6 });
+    assert_eq!(&rt; other.value(0, 5), Ok(Some(point)));
     Ok(())
 }

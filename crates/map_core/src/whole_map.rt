@@ -35,6 +35,9 @@ struct Piece {
 enum Line {
     Sew { link: u64, dart: u64, other: u64 },
     Unsew { link: u64, dart: u64 },
+    Vertex { dart: u64 },
+    Edge { dart: u64, other: u64 },
+    Face { dart: u64, other: u64 },
     Set { dim: u64, dart: u64, value: Value },
     Clear { dim: u64, dart: u64 },
     Del { dart: u64 },
@@ -73,7 +76,7 @@ impl Random {
         let dart = self.below(darts.wrapping_add(2));
         let other = self.below(darts.wrapping_add(2));
         let value = self.value();
-        match self.below(16) {
+        match self.below(20) {
             0..=3 => Line::Set { dim, dart, value },
             4 => Line::Clear { dim, dart },
             5 => Line::Del { dart },
@@ -83,6 +86,9 @@ impl Random {
                 dart,
                 other,
             },
+            12 => Line::Vertex { dart },
+            13..=15 => Line::Edge { dart, other },
+            16 => Line::Face { dart, other },
             _ => Line::Sew {
                 link: dim,
                 dart,
@@ -278,6 +284,9 @@ fn obey<const DIM: usize>(
     match *line {
         Line::Sew { link, dart, other } => map.sew(alloc, link, dart, other),
         Line::Unsew { link, dart } => map.unsew(alloc, link, dart),
+        Line::Vertex { dart } => map.vertex(alloc, dart),
+        Line::Edge { dart, other } => map.edge(alloc, dart, other),
+        Line::Face { dart, other } => map.face(alloc, &[dart, other]),
         Line::Set { dim, dart, value } => map.set(alloc, dim, dart, value),
         Line::Clear { dim, dart } => map.clear(alloc, dim, dart),
         Line::Del { dart } => map.del(alloc, dart),

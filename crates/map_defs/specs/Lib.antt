@@ -27,6 +27,7 @@ pub mod Sewing
 pub mod Births
 pub mod Walks
 pub mod Insertion
+pub mod Inserting
 pub mod Closing
 pub mod Removal
 pub mod Contraction

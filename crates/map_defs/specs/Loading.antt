@@ -5,7 +5,6 @@ use Rattle.map_defs.specs.Rows.{IsLive, links_of, AreWide}
 use Rattle.map_defs.specs.Values.{Rule, First, Copied}
 use Rattle.map_defs.specs.Polygon.{per_side}
 use Rattle.map_defs.specs.State.{Content, State, value_at, HasPlaces}
-use Rattle.map_defs.specs.Kept.{IsKept}
 use Rattle.map_defs.specs.Text.{ended, spaced}
 use Rattle.map_defs.specs.Off.{Mesh, mesh_of}
 use Rattle.map_defs.specs.Off as off
@@ -31,8 +30,6 @@ pub record IsMeshContent (k : Kind) (n : ℕ) (mesh : Mesh) (c : Content) : Type
   pub places : HasPlaces c
   pub points : (d v : ℕ) → LiesAt k (sides_of mesh.faces) d v → value_at c 0 d ≡ slice_get mesh.points v
   pub others : (i d : ℕ) → i ≢ 0 → value_at c i d ≡ None
-  -- it is a map
-  pub kept : IsKept c
 
 -- the machine's state with this content, before any line
 abbrev pub first_state : Content → State

@@ -1,5 +1,5 @@
 -- The plain map machine: what each line answers and leaves. Source: this project's.
-use Rattle.std.specs.Prelude.{ℕ, ◌≡◌, ◌<◌, ◌+◌, ◌*◌, ◌⊎◌, ◌↔◌, Bool, IsTrue, List, [], ◌∷◌, ◌++◌, Option, Some, None, IsSome, slice_set, Contains}
+use Rattle.std.specs.Prelude.{ℕ, ◌≡◌, ◌<◌, ◌+◌, ◌*◌, ◌⊎◌, ◌↔◌, Bool, IsTrue, List, [], ◌∷◌, ◌++◌, Option, Some, None, IsSome, All, slice_set, Contains}
 use Rattle.std.specs.List.Sorted.{IsStrictlyIncreasing}
 use Rattle.map_defs.specs.Kind.{beta, inverse, IsDistant}
 use Rattle.map_defs.specs.Links.{Links}
@@ -15,12 +15,14 @@ use Rattle.map_defs.specs.Values.{Meaning}
 use Rattle.map_defs.specs.RuleNames.{named_merge, named_split}
 use Rattle.map_defs.specs.State.{State, Content, value_at, rule_at, with_born, without_dart, steps_to}
 use Rattle.map_defs.specs.Relinking.{IsRelinked, NoDart}
+use Rattle.map_defs.specs.Insertion.{AreOnOneSide, FaceDarts, IsOnOneVolume, IsClosedPath, IsFacePaired, IsFace}
+use Rattle.map_defs.specs.Inserting.{VertexDarts, IsVertex, InCorner, EdgeDarts, AreEdgePaired, IsEdge, IsTooMany, IsGrown}
 use Rattle.map_defs.specs.Valuing.{IsValued}
 use Rattle.map_defs.specs.Refusal as why
 use Rattle.map_defs.specs.Refusal.{Refusal}
 use Rattle.map_defs.specs.Listing.{ListValue, ListsValues, listing_with}
 use Rattle.map_defs.specs.Text.{Reply, Done, Truth, Darts, Worth, Counts, Shown, Refused}
-use Rattle.map_defs.specs.Script.{Line, Polygon, Dart, Del, Sew, Unsew, Rule, Set, Clear, Cell, Same, Free, Value, Sewable, Count, Show, words_of, line_of}
+use Rattle.map_defs.specs.Script.{Line, Polygon, Dart, Del, Sew, Unsew, Vertex, Edge, Face, Rule, Set, Clear, Cell, Same, Free, Value, Sewable, Count, Show, words_of, line_of}
 
 -- a refusal with the condition under which a line fails by it, and that under which it passes
 pub record Check : Type 1 where
@@ -71,6 +73,14 @@ AreFree c i d e = (links_in c i d ≡ 0) × (links_in c (inverse c.kind i) e ≡
 abbrev pub ArePaired : Content → ℕ → ℕ → ℕ → Type 0
 ArePaired c i d e = IsGood c.kind (links_in c) (IsDistant c.kind i) (SewnPairs c.kind (links_in c) i d e)
 
+-- the numbers of a path are those of live darts
+abbrev pub path_check : Content → List ℕ → Check
+path_check c path = refuse_unless (All (IsLive c.rows) path) why.NoDart
+
+-- new darts for the darts of K can be numbered
+abbrev pub room_check : Content → (ℕ → Type 0) → Check
+room_check c K = refuse_if (IsTooMany c K) why.Full
+
 -- The table of refusals: what each line is checked for, in ascending number. A line that the machine does not offer yet is
 -- refused as one outside the grammar.
 abbrev pub checks_on : Content → Line → List Check
@@ -79,6 +89,15 @@ checks_on c Dart = full_if c 1 ∷ []
 checks_on c (Del d) = live_check c d ∷ refuse_unless (IsAlone c d) why.Linked ∷ []
 checks_on c (Sew i d e) = link_check c i ∷ live_check c d ∷ live_check c e ∷ refuse_unless (AreFree c i d e) why.NotFree ∷ refuse_unless (ArePaired c i d e) why.Unsewable ∷ []
 checks_on c (Unsew i d) = link_check c i ∷ live_check c d ∷ refuse_if (links_in c i d ≡ 0) why.AlreadyFree ∷ []
+checks_on c (Vertex d) = live_check c d ∷ room_check c (VertexDarts c.kind (links_in c) d) ∷ []
+checks_on c (Edge d e) =
+    live_check c d ∷ live_check c e ∷ refuse_unless (AreOnOneSide (links_in c) d e) why.OtherCell
+    ∷ refuse_if (InCorner c.kind (links_in c) d e) why.SameCorner ∷ refuse_unless (AreEdgePaired c.kind (links_in c) d e) why.Unpaired
+    ∷ room_check c (EdgeDarts c.kind (links_in c) d e) ∷ []
+checks_on c (Face path) =
+    refuse_if (c.dim < 3) why.BadDim ∷ path_check c path ∷ refuse_unless (IsOnOneVolume (links_in c) path) why.OtherCell
+    ∷ refuse_unless (IsClosedPath c.kind (links_in c) path) why.NotClosed ∷ refuse_unless (IsFacePaired c.kind (links_in c) path) why.Unpaired
+    ∷ room_check c (FaceDarts c.kind (links_in c) path) ∷ []
 checks_on c (Rule i merge split) = dimension_check c i ∷ refuse_unless (AreNames merge split) why.NoRule ∷ []
 checks_on c (Set i d value) = dimension_check c i ∷ live_check c d ∷ rule_check c i ∷ []
 checks_on c (Clear i d) = dimension_check c i ∷ live_check c d ∷ rule_check c i ∷ []
@@ -114,6 +133,11 @@ Tells s P reply new = (answer : Bool) × (IsTrue answer ↔ P) × (reply ≡ Tru
 abbrev pub Relinks : Meaning → State → (Links → Type 0) → Reply → State → Type 0
 Relinks hook s Becomes reply new = (next : Content) × IsRelinked hook s.present 0 NoDart Becomes next × (reply ≡ Done 0 0) × (new ≡ steps_to s next)
 
+-- A change of links by which each dart of K gets a new dart.
+abbrev pub Inserts : Meaning → State → (ℕ → Type 0) → ((ℕ → ℕ) → Links → Type 0) → Reply → State → Type 0
+Inserts hook s K Becomes reply new = (births : ℕ) × (next : Content) × IsGrown hook s.present K Becomes births next
+    × (reply ≡ Done (made s.present.rows + 1) births) × (new ≡ steps_to s next)
+
 -- A cell is given a value, or it is taken.
 abbrev pub Values : State → ℕ → ℕ → Option values.Value → Reply → State → Type 0
 Values s i d value reply new = (next : Content) × IsValued s.present i d value next × (reply ≡ Done 0 0) × (new ≡ steps_to s next)
@@ -130,6 +154,12 @@ Effect hook s Dart = Gives (Done (made s.present.rows + 1) 1) (steps_to s (with_
 Effect hook s (Del d) = Gives (Done 0 0) (steps_to s (without_dart s.present d))
 Effect hook s (Sew i d e) = Relinks hook s (IsSewn s.present.kind i d e (links_in s.present))
 Effect hook s (Unsew i d) = Relinks hook s (IsUnsewn s.present.kind i d (links_in s.present))
+Effect hook s (Vertex d) =
+    Inserts hook s (VertexDarts s.present.kind (links_in s.present) d) (λ star. IsVertex s.present.kind d star (links_in s.present))
+Effect hook s (Edge d e) =
+    Inserts hook s (EdgeDarts s.present.kind (links_in s.present) d e) (λ star. IsEdge s.present.kind d e star (links_in s.present))
+Effect hook s (Face path) =
+    Inserts hook s (FaceDarts s.present.kind (links_in s.present) path) (λ star. IsFace s.present.kind path star (links_in s.present))
 Effect hook s (Rule i merge split) = λ reply new. (m : values.Merge) × (p : values.Split)
     × (named_merge merge ≡ Some m) × (named_split split ≡ Some p)
     × Gives (Done 0 0) (steps_to s (with_rule s.present i (record { merge = m; split = p }))) reply new

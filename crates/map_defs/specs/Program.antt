@@ -114,10 +114,8 @@ abbrev pub CommandBegins : Meaning → Files → Command → List ℕ → Type 0
 CommandBegins hook files (RunScript kind dim mesh script) front =
     (start : State) × (bytes : List ℕ) × StartsFrom files kind dim mesh start × IsFile files script bytes × Begins hook start (lines_of bytes) front
 
--- The program's text begins so: with nothing, as a front of a whole text, or as a front of what the machine answers to the
--- first lines.
+-- The program's text begins so: as a front of a whole text, or as a front of what the machine answers to the first lines.
 pub data Starts (hook : Meaning) (words : List (List ℕ)) (files : Files) (front : List ℕ) : Type 0 where
-  nothing : front ≡ [] → Starts hook words files front
   whole : (text : List ℕ) (status : ℕ) → Answers hook words files text status → IsFront front text → Starts hook words files front
   lines : (command : Command) → Tells words command → CommandBegins hook files command front → Starts hook words files front
 

@@ -6,6 +6,8 @@ mod faults;
 #[cfg(test)]
 mod harness;
 #[cfg(test)]
+mod insertions;
+#[cfg(test)]
 mod lines;
 #[cfg(test)]
 mod meshes;

@@ -1,7 +1,7 @@
 -- How the program ends, by what was fetched and written.
-use Rattle.std.proofs.Common.{◌≡◌, ℕ, ◌≤◌, ◌⊎◌, List, [], length, Option, Some, None, Result, Ok, Err, Bool, true, false, cond, nat_lt, refl, sym, subst, inl, inr, arith, lit≤}
+use Rattle.std.proofs.Common.{◌≡◌, ℕ, ◌≤◌, ◌⊎◌, List, [], Option, Some, None, Result, Ok, Err, Bool, true, false, cond, nat_lt, refl, sym, subst, inl, inr, arith, lit≤}
 use Rattle.std.proofs.lemmas.List.{append-nil}
-use Rattle.std.proofs.lemmas.Bool.{cases_lt, lt-ltb}
+use Rattle.std.proofs.lemmas.Bool.{lt-ltb}
 use Rattle.map_io.specs.declared.sink.PutFault.{PutFault}
 use Rattle.map_io.specs.declared.sink.PutFault.TheVariants.{Failed, NoMemory}
 use Rattle.map_defs.specs.Kind.{Kind}
@@ -10,10 +10,11 @@ use Rattle.map_defs.specs.Outside.{Files, held, Appended}
 use Rattle.map_defs.specs.State.{State, empty_state}
 use Rattle.map_defs.specs.Off.{mesh_of}
 use Rattle.map_defs.specs.Loading.{refusal_line}
-use Rattle.map_defs.specs.Program.{RunScript, Tells, Answers, told, ScriptAnswer, FileAnswer, MeshAnswer, CommandAnswer, IsFile, StartsFrom, Starts, nothing, whole, lines, Outcome, answered, unread, unwritten, no_memory, file_limit, cannot_read, too_long}
+use Rattle.map_defs.specs.Program.{RunScript, Tells, Answers, told, ScriptAnswer, FileAnswer, MeshAnswer, CommandAnswer, IsFile, StartsFrom, Starts, whole, lines, Outcome, answered, unread, unwritten, no_memory, cannot_read}
 use Rattle.map_run.specs.Going.{IsObeyed}
 use Rattle.map_run.specs.Texts.{IsMeshOf, IsFirst, TextsEnd, refused, starved, obeyed, EndsTexts}
 use Rattle.map_run.specs.Ending.{IsLast, WritesLast, Ends, EndsWhole, status_of}
+use Rattle.map_run.proofs.StartFacts.{starts-nothing}
 use Rattle.map_run.proofs.WritingFacts.{Appended-nothing, Appended-then, IsFront-all, IsFront-nothing}
 
 module _ (hook : Meaning) (words : List (List ℕ)) (files : Files) (shelf_rose sink_rose : Type 0) where
@@ -74,7 +75,8 @@ module _ (hook : Meaning) (words : List (List ℕ)) (files : Files) (shelf_rose 
     texts-outcome status piece (refused bytes' line is refusal last) =
         last-outcome line 3 status piece (told (RunScript k n mesh script) tells
         (refused-answers mesh bytes' line (subst (λ (o : Option (List ℕ)). IsMeshOf files mesh o) is mesh-is) refusal)) (lit≤ tt) last
-    texts-outcome status piece (starved seven none) = no_memory seven (inl none) (inl (nothing none))
+    texts-outcome status piece (starved seven none) =
+        no_memory seven (inl none) (inl (subst (Starts hook words files) (sym none) (starts-nothing hook words files k n script mesh tells)))
     texts-outcome status piece (obeyed start result first is p rose) =
         subst (λ (n : ℕ). Outcome hook words files shelf_rose sink_rose n piece) (sym is) (obeyed-outcome start result piece first rose p)
 
@@ -121,12 +123,12 @@ Ends-unread hook before after words files shelf_rose sink_rose result shelf w = 
   outcome = unread-outcome hook words files shelf_rose sink_rose result w.piece shelf w.is;
 }
 
-pub Ends-nothing : (hook : Meaning) (o : Option (List ℕ)) (words : List (List ℕ)) (files : Files) (shelf_rose sink_rose : Type 0)
-    → Ends hook o o words files shelf_rose sink_rose 7
-Ends-nothing hook o words files shelf_rose sink_rose = record {
+pub Ends-nothing : (hook : Meaning) (k : Kind) (n : ℕ) (mesh : Option (List ℕ)) (script : List ℕ) (o : Option (List ℕ)) (words : List (List ℕ)) (files : Files) (shelf_rose sink_rose : Type 0)
+    → Tells words (RunScript k n mesh script) → Ends hook o o words files shelf_rose sink_rose 7
+Ends-nothing hook k n mesh script o words files shelf_rose sink_rose tells = record {
   text = [];
   appended = Appended-nothing o;
-  outcome = no_memory refl (inl refl) (inl (nothing refl));
+  outcome = no_memory refl (inl refl) (inl (starts-nothing hook words files k n script mesh tells));
 }
 
 pub Ends-texts : (hook : Meaning) (k : Kind) (n : ℕ) (mesh : Option (List ℕ)) (script : List ℕ) (words : List (List ℕ)) (files : Files) (before after : Option (List ℕ)) (shelf_rose sink_rose : Type 0) (status : ℕ)

@@ -5,5 +5,7 @@ pub mod RowTexts
 pub mod LineFacts
 pub mod RunFacts
 pub mod Rest
+pub mod StartFacts
+pub mod FacePaths
 pub mod EndingFacts
 pub mod MeshFacts

@@ -3,7 +3,8 @@ use Rattle.std.specs.Prelude.{ℕ, List, [], Option, Some, None}
 use Rattle.std.specs.Borrow.{Bor}
 use Rattle.map_defs.specs.Script as machine
 use Rattle.map_defs.specs.Text as text
-use Rattle.script_text.specs.Meanings.{reply_meaning}
+use Rattle.script_text.specs.Meanings.{reply_meaning, Tell}
+use Rattle.script_text.specs.declared.line.Line.{Line}
 use Rattle.map_run.specs.declared.answer.Answer.{Answer}
 use Rattle.map_run.specs.declared.answer.Answer.TheVariants as given
 
@@ -15,3 +16,7 @@ lines_after (Some text) = machine.lines_of text.now
 abbrev pub answer_meaning : Answer → text.Reply
 answer_meaning (given.Line reply) = reply_meaning reply
 answer_meaning (given.Listing listing) = text.Shown listing
+
+-- some words tell this line
+unfoldable pub IsTold : Line → Type 0
+IsTold line = (words : List (List ℕ)) × Tell words line

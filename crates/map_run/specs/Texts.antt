@@ -1,5 +1,5 @@
 -- The files of a command, and how the program ends by them.
-use Rattle.std.specs.Prelude.{ℕ, ◌≡◌, ◌≤◌, ◌⊎◌, List, [], length, Option, Some, None, Result, Ok, Err, Bool, Vec}
+use Rattle.std.specs.Prelude.{ℕ, ◌≡◌, ◌≤◌, List, [], length, Option, Some, None, Result, Ok, Err, Bool, Vec}
 use Rattle.std.specs.declared.alloc.Global.{Global}
 use Rattle.map_io.specs.declared.shelf.FetchFault.{FetchFault}
 use Rattle.map_io.specs.declared.shelf.FetchFault.TheVariants as fetch
@@ -11,7 +11,7 @@ use Rattle.map_defs.specs.Values.{Meaning}
 use Rattle.map_defs.specs.State.{State, empty_state}
 use Rattle.map_defs.specs.Off.{mesh_of}
 use Rattle.map_defs.specs.Loading.{IsLoaded, refusal_line}
-use Rattle.map_defs.specs.Outside.{Files, held, Appended}
+use Rattle.map_defs.specs.Outside.{Files, Appended}
 use Rattle.map_defs.specs.Program.{Command, RunScript, CommandAnswer, IsFile, too_long, file_limit}
 use Rattle.map_run.specs.declared.files.Texts.{Texts}
 use Rattle.map_run.specs.Ending.{IsLast, status_of}

@@ -4,7 +4,7 @@ ghost use Rattle.map_defs.specs.Script.{words_of};
 ghost use Rattle.map_defs.specs.Machine.{Step};
 ghost use Rattle.map_io.specs.Cause.{HasCause};
 ghost use Rattle.script_text.specs.Meanings.{line_meaning};
-ghost use Rattle.map_run.specs.Lines.{answer_meaning};
+ghost use Rattle.map_run.specs.Lines.{answer_meaning, IsTold};
 ghost use Rattle.map_run.specs.Writing.{AnswersLine, Says};
 
 use crate::answer::{Answer, counts, darts, done, told, truth, worth};
@@ -12,15 +12,15 @@ use crate::reply;
 use attr_rules::Hook;
 use map_core::Map;
 use map_io::{PutFault, Sink};
-use map_kind::{Kind, Refusal, Refused};
+use map_kind::{Alpha, Refusal, Refused};
 use script_text::{Line, Reply, read_line};
 use std::alloc::{AllocError, Global};
 
 /// Obeys one line, writes its reply, and answers whether it was refused.
-pub fn obey_line<K: Kind, H: Hook, const DIM: usize, S: Sink>(
+pub fn obey_line<H: Hook, const DIM: usize, S: Sink>(
     alloc: Global,
     line: &[u8],
-    map: &mut Map<'_, K, H, DIM>,
+    map: &mut Map<'_, Alpha, H, DIM>,
     out: &mut S,
 ) -> Result<bool, PutFault>
     requires { H.ready map.old.hook }
@@ -51,12 +51,13 @@ fn say<S: Sink>(alloc: Global, out: &mut S, answer: &Answer) -> Result<bool, Put
 }
 
 /// Has the map obey a line that was read, and answers what it answers.
-fn step<K: Kind, H: Hook, const DIM: usize>(
+fn step<H: Hook, const DIM: usize>(
     alloc: Global,
     line: &Line,
-    map: &mut Map<'_, K, H, DIM>,
+    map: &mut Map<'_, Alpha, H, DIM>,
 ) -> Result<Answer, AllocError>
-    requires { H.ready map.old.hook }
+    requires ready { H.ready map.old.hook }
+    requires told { IsTold line.now }
     ensures hook { map.new.hook ≡ map.old.hook }
     ensures step { IfOk result (λ answer. Step (H.meaning map.old.hook) map.old.state (line_meaning line.now) (answer_meaning answer) map.new.state) }
 {
@@ -66,6 +67,9 @@ fn step<K: Kind, H: Hook, const DIM: usize>(
         Line::Del(dart) => done(map.del(alloc, *dart)),
         Line::Sew(link, one, other) => done(map.sew(alloc, *link, *one, *other)),
         Line::Unsew(link, dart) => done(map.unsew(alloc, *link, *dart)),
+        Line::Vertex(dart) => done(map.vertex(alloc, *dart)),
+        Line::Edge(one, other) => done(map.edge(alloc, *one, *other)),
+        Line::Face(path) => done(map.face(alloc, path)),
         Line::Rule(dim, merge, split) => {
             done(map.rule(alloc, *dim, merge.as_str(), split.as_str()))
         }
@@ -78,10 +82,7 @@ fn step<K: Kind, H: Hook, const DIM: usize>(
         Line::Sewable(link, one, other) => truth(map.sewable(alloc, *link, *one, *other)),
         Line::Count => counts(map.count(alloc)),
         Line::Show => Ok(Answer::Listing(map.listing(alloc)?)),
-        Line::Vertex(_)
-        | Line::Edge(_, _)
-        | Line::Face(_)
-        | Line::Remove(_, _)
+        Line::Remove(_, _)
         | Line::Contract(_, _)
         | Line::Dual
         | Line::Mark(_)

@@ -1,11 +1,15 @@
 //! The map of a mesh, and the line that refuses one.
-ghost use Rattle.std.specs.Prelude.{◌≡◌, ◌≤◌, ◌++◌, Some, length, codes, IfOk, IfErr, OnOk};
+ghost use Rattle.std.specs.Prelude.{◌≡◌, ◌≤◌, ◌++◌, [], ◌∷◌, Some, None, length, map, codes, IfOk, IfErr, OnOk};
+ghost use Rattle.map_defs.specs.Edits.{after_edit};
+ghost use Rattle.map_defs.specs.Edits as edits;
+ghost use Rattle.map_defs.specs.Rows.{links_of};
 ghost use Rattle.map_defs.specs.State.{empty_state};
 ghost use Rattle.map_defs.specs.Text.{ended, spaced};
 ghost use Rattle.map_defs.specs.Off.{Mesh as ReadMesh};
 ghost use Rattle.map_defs.specs.Outside.{Rose};
 ghost use Rattle.map_defs.specs.MeshMap.{MakesMesh};
 ghost use Rattle.map_defs.specs.Loading.{IsLoaded, text_fault_line};
+ghost use Rattle.cell_walk.specs.CellLists.{AreCellsOf, lists_of};
 ghost use Rattle.off_text.specs.Meanings.{meaning};
 ghost use Rattle.map_run.specs.Loads.{Refuses, IsRead, WritesFault, text_line, map_line, fault_line};
 
@@ -15,7 +19,7 @@ use list_text::append_spaced;
 use map_core::Map;
 use map_io::Sink;
 use map_kind::Kind;
-use mesh_build::{Built, MeshFault, mesh_rows};
+use mesh_build::{MeshFault, MeshMap, mesh_map};
 use off_text::{OffFault, OffWhat, read_off};
 use std::alloc::{AllocError, Global};
 
@@ -46,26 +50,31 @@ pub fn load_mesh<K: Kind, H: Hook, const DIM: usize>(
         Ok(built) => built,
         Err(fault) => return Err(fault),
     };
-    match map.load(alloc, &built.edit, &built.places) {
+    match map.load_links(alloc, built.links, &built.places, &built.cells) {
         Ok(_) => Ok(()),
         Err(_) => Err(LoadFault::Map(MeshFault::NoMemory)),
     }
 }
 
 /// The map of the mesh that a text tells.
-fn build_mesh<K: Kind, const DIM: usize>(alloc: Global, bytes: &[u8]) -> Result<Built, LoadFault>
+fn build_mesh<K: Kind, const DIM: usize>(
+    alloc: Global,
+    bytes: &[u8],
+) -> Result<MeshMap<K, DIM>, LoadFault>
     requires low { 2 ≤ DIM }
     requires high { DIM ≤ 8 }
     requires short { length bytes.now ≤ 16777216 }
     ensures built { IfOk result (λ built. (mesh : ReadMesh) × IsRead K.kind bytes.now mesh
-        × MakesMesh K.kind DIM mesh built.edit built.places.items) }
+        × (edit : edits.Edit) × MakesMesh K.kind DIM mesh edit built.places.items
+        × (built.links.rows ≡ after_edit DIM edit (None ∷ []))) }
+    ensures cells { IfOk result (λ built. AreCellsOf K.kind (links_of built.links.rows) 0 (map (λ place. place.dart) built.places.items) (lists_of built.cells.items)) }
     ensures refused { IfErr result (λ fault. Refuses K.kind bytes.now fault) }
 {
     let mesh = match read_off(alloc, bytes) {
         Ok(mesh) => mesh,
         Err(fault) => return Err(LoadFault::Text(fault)),
     };
-    match mesh_rows::<K, DIM>(alloc, &mesh) {
+    match mesh_map::<K, DIM>(alloc, &mesh) {
         Ok(built) => Ok(built),
         Err(fault) => Err(LoadFault::Map(fault)),
     }

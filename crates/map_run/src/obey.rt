@@ -36,14 +36,14 @@ pub fn obey_in_dimension<S: Sink, H: Hook>(
     ensures later { S.faults out.old ≤ S.faults out.new }
 {
     match dimension {
-        Dimension::Two => obey_texts::<Alpha, H, 2, S>(alloc, texts, out, hook),
-        Dimension::Three => obey_texts::<Alpha, H, 3, S>(alloc, texts, out, hook),
-        Dimension::Four => obey_texts::<Alpha, H, 4, S>(alloc, texts, out, hook),
+        Dimension::Two => obey_texts::<H, 2, S>(alloc, texts, out, hook),
+        Dimension::Three => obey_texts::<H, 3, S>(alloc, texts, out, hook),
+        Dimension::Four => obey_texts::<H, 4, S>(alloc, texts, out, hook),
     }
 }
 
-/// The same, in one kind and dimension.
-fn obey_texts<K: Kind, H: Hook, const DIM: usize, S: Sink>(
+/// The same, in one dimension.
+fn obey_texts<H: Hook, const DIM: usize, S: Sink>(
     alloc: Global,
     texts: &Texts,
     out: &mut S,
@@ -53,12 +53,12 @@ fn obey_texts<K: Kind, H: Hook, const DIM: usize, S: Sink>(
     requires low { 2 ≤ DIM }
     requires high { DIM ≤ 8 }
     requires short { AreShort texts.now }
-    ensures ends { EndsTexts (H.meaning hook.now) K.kind DIM (mesh_bytes texts.now.mesh) texts.now.script.items
+    ensures ends { EndsTexts (H.meaning hook.now) alpha DIM (mesh_bytes texts.now.mesh) texts.now.script.items
         (Rose (S.faults out.old) (S.faults out.new)) (S.written out.old) (S.written out.new) result }
     ensures unwritten { result ≡ 6 → Rose (S.faults out.old) (S.faults out.new) }
     ensures later { S.faults out.old ≤ S.faults out.new }
 {
-    match first_map::<K, H, DIM>(alloc, texts, hook) {
+    match first_map::<Alpha, H, DIM>(alloc, texts, hook) {
         Ok(map) => script_status(obey_script(alloc, map, &texts.script, out)),
         Err(fault) => refuse_mesh(alloc, out, fault),
     }
@@ -88,9 +88,9 @@ fn first_map<'h, K: Kind, H: Hook, const DIM: usize>(
 }
 
 /// Obeys a script from a map, writes the replies, and answers whether some line was refused.
-fn obey_script<K: Kind, H: Hook, const DIM: usize, S: Sink>(
+fn obey_script<H: Hook, const DIM: usize, S: Sink>(
     alloc: Global,
-    map: Map<'_, K, H, DIM>,
+    map: Map<'_, Alpha, H, DIM>,
     script: &[u8],
     out: &mut S,
 ) -> Result<bool, PutFault>

@@ -10,4 +10,4 @@ pub returns-clause-each : goal.returns-clause-each
 returns-clause-each c hook s lines replies new kept run = run-kept hook s lines replies new kept run
 
 pub returns-clause-mesh : goal.returns-clause-mesh
-returns-clause-mesh c k n text start loaded = loaded-kept k n text start loaded
+returns-clause-mesh c k n text start flat loaded = loaded-kept k n text start flat loaded

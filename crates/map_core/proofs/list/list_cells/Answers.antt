@@ -1,4 +1,4 @@
-use Rattle.std.proofs.Common.{◌≡◌, ℕ, ◌+◌, ◌<◌, ◌≤◌, List, length, get_or, take, refl, sym, subst, ap, ◌∙◌, ◌++◌, lit<, arith, take_all}
+use Rattle.std.proofs.Common.{◌≡◌, ℕ, ◌+◌, List, get_or, take, sym, subst, ap, ◌∙◌, ◌++◌, lit<, arith, take_all}
 use Rattle.map_defs.specs.Rows.{Rows}
 use Rattle.label_laws.specs.Stored.{worth}
 use Rattle.label_laws.specs.Lists.{AreListed, listed}

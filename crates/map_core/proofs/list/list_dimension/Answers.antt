@@ -1,4 +1,4 @@
-use Rattle.std.proofs.Common.{◌≡◌, Option, Some, None, IsSome, true, refl}
+use Rattle.std.proofs.Common.{◌≡◌, Option, Some, None, IsSome, refl}
 use Rattle.map_defs.specs.Values.{Rule}
 use Rattle.transport.specs.Groups.{rule_at}
 use Rattle.label_laws.proofs.Listed.{listed-bare}

@@ -1,6 +1,5 @@
-use Rattle.std.proofs.Common.{◌≡◌, ℕ, ◌+◌, ◌<◌, ◌≤◌, List, [], ◌∷◌, length, Option, true, false, refl, ap, sym, subst, ◌∙◌, inl, inr, lit<, arith, rules, Contains}
-use Rattle.std.proofs.lemmas.Bool.{false≢true}
-use Rattle.map_defs.specs.Rows.{Rows, IsLive, links_of}
+use Rattle.std.proofs.Common.{◌≡◌, ◌+◌, ◌<◌, List, [], ◌∷◌, length, Option, refl, ap, sym, subst, ◌∙◌, inl, inr, lit<, arith, rules}
+use Rattle.map_defs.specs.Rows.{Rows}
 use Rattle.map_defs.specs.Values.{Rule}
 use Rattle.link_rows.proofs.EditSound.{length-after}
 use Rattle.transport.specs.Groups.{Group}

@@ -1,4 +1,4 @@
-use Rattle.std.proofs.Common.{◌≡◌, ◌<◌, ◌≤◌, ℕ, List, length, get_or, take, Contains, refl, sym, ap, subst, ◌∙◌, lit<, arith}
+use Rattle.std.proofs.Common.{◌≡◌, ℕ, List, length, Contains, sym, subst, ◌∙◌, lit<, arith}
 use Rattle.transport.specs.Groups.{Group, group_at}
 use Rattle.label_laws.specs.Changing.{AreTaken, IsGroupedBelow}
 use Rattle.label_laws.proofs.Loops.{taken-groups-begun, taken-groups, item-group}

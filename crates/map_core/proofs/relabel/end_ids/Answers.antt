@@ -1,4 +1,4 @@
-use Rattle.std.proofs.Common.{◌≡◌, ◌<◌, ℕ, Contains, lit<, arith}
+use Rattle.std.proofs.Common.{Contains, lit<, arith}
 use Rattle.label_laws.proofs.Loops.{taken-dims-begun, taken-dims}
 use Rattle.map_core.proofs.relabel.end_ids.Goals as goal
 

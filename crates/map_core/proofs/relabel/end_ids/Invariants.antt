@@ -1,4 +1,4 @@
-use Rattle.std.proofs.Common.{◌<◌, ℕ, Contains}
+use Rattle.std.proofs.Common.{◌<◌, Contains}
 use Rattle.label_laws.specs.Changing.{AreTaken}
 use Rattle.map_core.proofs.relabel.end_ids.Given as goal
 

@@ -1,4 +1,4 @@
-use Rattle.std.proofs.Common.{◌≡◌, ◌<◌, ◌≤◌, ℕ, List, length, refl, sym, subst, ◌∙◌, lit<, arith, ◌+◌, suc}
+use Rattle.std.proofs.Common.{◌≡◌, ℕ, List, length, sym, subst, lit<, arith, ◌+◌, suc}
 use Rattle.transport.specs.Groups.{Group, group_at}
 use Rattle.label_laws.specs.Changing.{AreGroupsGiven, IsGroupGiven}
 use Rattle.label_laws.proofs.Giving.{groups-places}

@@ -1,4 +1,4 @@
-use Rattle.std.proofs.Common.{◌≡◌, ◌<◌, ℕ, List, length, get_or, take, Contains, Some, refl, sym, subst, lit<, arith, take_all}
+use Rattle.std.proofs.Common.{ℕ, List, Contains, Some, sym, subst, lit<, arith, take_all}
 use Rattle.attr_pool.specs.Labelings.{IsRelabelled}
 use Rattle.label_laws.specs.Changing.{HaveId}
 use Rattle.label_laws.proofs.Loops.{have-begun, have-more, item-dart}

@@ -1,4 +1,4 @@
-use Rattle.std.proofs.Common.{◌≡◌, ◌<◌, ℕ, List, length, get_or, take, Contains, refl, sym, subst, lit<, arith, take_all}
+use Rattle.std.proofs.Common.{◌≡◌, ℕ, List, Contains, sym, subst, lit<, arith, take_all}
 use Rattle.label_laws.specs.Changing.{AreTaken}
 use Rattle.label_laws.proofs.Loops.{taken-darts-begun, taken-darts, item-dart}
 use Rattle.map_core.proofs.relabel.take_ids.Goals as goal

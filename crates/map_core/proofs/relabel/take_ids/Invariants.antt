@@ -1,4 +1,4 @@
-use Rattle.std.proofs.Common.{◌≡◌, ℕ, take, Contains}
+use Rattle.std.proofs.Common.{◌≡◌, take, Contains}
 use Rattle.label_laws.specs.Changing.{AreTaken}
 use Rattle.map_core.proofs.relabel.take_ids.Given as goal
 

@@ -1,6 +1,6 @@
-use Rattle.std.proofs.Common.{ℕ, ◌≡◌, ◌⊎◌, List, Ok, Err, Result, inl, inr, ◌∙◌, sym, ap, subst, arith}
+use Rattle.std.proofs.Common.{ℕ, ◌≡◌, ◌⊎◌, List, Ok, Err, Result, inl, inr, ◌∙◌, sym, ap, subst}
 use Rattle.std.specs.Prelude.{OnOk}
-use Rattle.map_defs.specs.Kind.{Kind, beta}
+use Rattle.map_defs.specs.Kind.{Kind}
 use Rattle.map_defs.specs.Rows.{Rows}
 use Rattle.map_defs.specs.Edits.{Change}
 use Rattle.map_core.specs.Changing.{AreAdded, IsAtChange, IsBeside}

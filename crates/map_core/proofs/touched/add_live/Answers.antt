@@ -1,9 +1,6 @@
-use Rattle.std.proofs.Common.{ℕ, ◌≡◌, ◌∙◌, ap, refl, sym, subst, IsSome, Option, List, rules}
-use Rattle.std.proofs.lemmas.Bool.{false≢true}
-use Rattle.map_defs.specs.Rows.{Rows, row_at, IsLive}
-use Rattle.map_core.proofs.Adding.{added-none, added-one}
+use Rattle.std.proofs.Common.{◌≡◌, ◌∙◌, rules}
+use Rattle.map_core.proofs.Adding.{added-none}
 use Rattle.map_core.proofs.LiveDarts.{zero-dead}
-use Rattle.map_core.specs.Changing.{AreAdded}
 use Rattle.map_core.proofs.touched.add_live.Goals as goal
 
 pub returns-in_default : goal.returns-in_default

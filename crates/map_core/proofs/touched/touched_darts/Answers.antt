@@ -1,4 +1,4 @@
-use Rattle.std.proofs.Common.{ℕ, ◌≡◌, ◌⊎◌, ◌+◌, ◌-◌, ◌<◌, ◌≤◌, List, [], length, inl, inr, ◌∙◌, sym, ap, subst, arith}
+use Rattle.std.proofs.Common.{ℕ, ◌≡◌, ◌⊎◌, ◌+◌, ◌<◌, List, [], length, inl, inr, ◌∙◌, ap, subst, arith}
 use Rattle.map_defs.specs.Rows.{Rows}
 use Rattle.map_defs.specs.Edits.{Change, Edit}
 use Rattle.map_core.specs.Changing.{AreAdded, IsAtChange}

@@ -1,8 +1,13 @@
 use Rattle.map_defs.specs.Script.{words_of}
 use Rattle.script_text.specs.Meanings.{line_meaning}
-use Rattle.map_run.specs.Lines.{answer_meaning}
+use Rattle.std.proofs.Common.{lit<}
+use Rattle.map_run.specs.Lines.{answer_meaning, IsTold}
 use Rattle.map_run.proofs.LineFacts.{AnswersLine-told, AnswersLine-unread, AnswersLine-blank}
 use Rattle.map_run.proofs.machine.obey_line.Goals as goal
+
+pub step-requires : goal.step-requires
+unfolding IsTold
+step-requires g c = (lit< tt, (c.requires, (words_of c.args.line.now, rw c.in-Ok-Some.field-0-is at c.in-Ok-Some.ensures.told)))
 
 pub returns-in-Ok-clause-answered : goal.returns-in-Ok-clause-answered
 returns-in-Ok-clause-answered g c =

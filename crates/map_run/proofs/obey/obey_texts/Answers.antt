@@ -1,4 +1,4 @@
-use Rattle.std.proofs.Common.{ℕ, inl, inr}
+use Rattle.std.proofs.Common.{inl, inr}
 use Rattle.map_run.specs.Texts.{refused, starved, obeyed}
 use Rattle.map_run.proofs.obey.obey_texts.Goals as goal
 

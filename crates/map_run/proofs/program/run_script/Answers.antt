@@ -21,4 +21,5 @@ returns-in-Err-TooLong-clause-outcome g c = λ words files tells holds.
 
 pub returns-in-Err-NoMemory-clause-outcome : goal.returns-in-Err-NoMemory-clause-outcome
 returns-in-Err-NoMemory-clause-outcome g c = λ words files tells holds.
-    Ends-nothing (g.H.Rule.meaning c.args.hook.now) (g.S.Sink.written c.args.out.now) words files (Rose (g.F.Shelf.faults c.args.shelf.now) (g.F.Shelf.faults c.fetch_texts.new.shelf)) (Rose (g.S.Sink.faults c.args.out.now) (g.S.Sink.faults c.args.out.now))
+    Ends-nothing (g.H.Rule.meaning c.args.hook.now) alpha (number c.args.command.dimension) (mesh_name c.args.command.mesh) c.args.command.script.now (g.S.Sink.written c.args.out.now) words files
+    (Rose (g.F.Shelf.faults c.args.shelf.now) (g.F.Shelf.faults c.fetch_texts.new.shelf)) (Rose (g.S.Sink.faults c.args.out.now) (g.S.Sink.faults c.args.out.now)) tells

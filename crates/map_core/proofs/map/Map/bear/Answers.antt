@@ -1,7 +1,6 @@
-use Rattle.std.proofs.Common.{◌≡◌, ℕ, ◌+◌, ◌≤◌, ◌++◌, List, map, max, Option, Some, ap, sym, subst, ◌∙◌}
+use Rattle.std.proofs.Common.{◌≡◌, ℕ, ◌+◌, max, ap, sym, subst, ◌∙◌}
 use Rattle.map_defs.specs.Rows.{Rows, made}
 use Rattle.map_defs.specs.Edits.{Edit, after_edit}
-use Rattle.map_defs.specs.State.{Content, with_born}
 use Rattle.label_laws.specs.Contents.{content_of, state_of}
 use Rattle.label_laws.specs.Maps.{IsStoredMap}
 use Rattle.label_laws.proofs.Making.{bear-stored, bear-content}

@@ -1,6 +1,6 @@
-use Rattle.std.proofs.Common.{◌≡◌, ℕ, List, Option, None, refl, sym, ap, ◌∙◌, lit<}
+use Rattle.std.proofs.Common.{ℕ, refl, sym, ◌∙◌, lit<}
 use Rattle.map_defs.specs.Rows.{Rows, IsLive}
-use Rattle.label_laws.specs.Contents.{content_of, state_of}
+use Rattle.label_laws.specs.Contents.{content_of}
 use Rattle.label_laws.proofs.Valued.{none-valued, take-stored, take-valued, darts-within}
 use Rattle.map_core.proofs.CellIds.{none-of}
 use Rattle.map_core.proofs.map.Map.clear_value.Goals as goal

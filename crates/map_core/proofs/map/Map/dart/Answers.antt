@@ -1,4 +1,4 @@
-use Rattle.std.proofs.Common.{◌≡◌, ℕ, ◌+◌, lit<, refl, inr, ap, [], ◌∷◌, arith}
+use Rattle.std.proofs.Common.{ℕ, ◌+◌, lit<, refl, inr, ap, [], ◌∷◌, arith}
 use Rattle.map_defs.specs.Rows.{Rows}
 use Rattle.map_defs.specs.Edits.{free_row}
 use Rattle.map_defs.specs.Text.{Done}

@@ -1,7 +1,5 @@
-use Rattle.std.proofs.Common.{◌≡◌, ℕ, zero, suc, ◌<◌, ◌≤◌, List, [], ◌∷◌, length, ap, sym, subst, ◌∙◌, lit<, arith, Contains}
-use Rattle.map_defs.specs.Rows.{Rows, links_of, IsLive, made}
-use Rattle.map_defs.specs.Edits.{Edit, Change, after_edit}
-use Rattle.link_rows.proofs.EditPlain.{death_edit}
+use Rattle.std.proofs.Common.{◌≡◌, ℕ, zero, suc, [], ◌∷◌, ap, sym, subst, ◌∙◌, lit<, arith, Contains}
+use Rattle.map_defs.specs.Rows.{Rows, IsLive}
 use Rattle.label_laws.specs.Contents.{content_of, state_of}
 use Rattle.label_laws.specs.Maps.{IsStoredMap}
 use Rattle.label_laws.proofs.Making.{end-stored, end-content}

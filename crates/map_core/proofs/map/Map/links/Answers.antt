@@ -1,4 +1,4 @@
-use Rattle.map_defs.specs.Rows.{Rows, links_of}
+use Rattle.map_defs.specs.Rows.{links_of}
 use Rattle.link_laws.proofs.Told.{told_of_laws}
 use Rattle.label_laws.proofs.Showing.{kept-shown}
 use Rattle.map_core.proofs.map.Map.links.Goals as goal

@@ -1,16 +1,15 @@
-use Rattle.std.proofs.Common.{◌≡◌, ℕ, ◌+◌, ◌<◌, ◌≤◌, List, length, max, Option, ap, sym, subst, ◌∙◌, lit<, Contains}
+use Rattle.std.proofs.Common.{◌≡◌, ℕ, ◌+◌, ◌<◌, List, length, max, Option, ap, sym, subst, ◌∙◌, lit<}
 use Rattle.map_defs.specs.Rows.{Rows, IsLive, links_of, made}
 use Rattle.map_defs.specs.Edits.{Edit, IsLed, after_edit}
 use Rattle.map_defs.specs.Values.{Rule}
 use Rattle.map_defs.specs.State.{State}
 use Rattle.attr_pool.specs.Labelings.{id_of}
-use Rattle.transport.specs.Groups.{Group, group_at, HasCarriedValue}
+use Rattle.transport.specs.Groups.{group_at, HasCarriedValue}
 use Rattle.label_laws.specs.Contents.{content_of, state_of}
 use Rattle.label_laws.specs.Maps.{IsStoredMap}
 use Rattle.label_laws.specs.Touching.{AreAllTouched}
 use Rattle.label_laws.proofs.Making.{led, grown-stored, ended-within, groups-labelled, relink-stored, relink-carried}
 use Rattle.label_laws.proofs.Same.{content-alike, carried-pool}
-use Rattle.map_core.specs.Seen.{Seen}
 use Rattle.map_core.proofs.map.Map.relink.Goals as goal
 
 pub relabel-requires : goal.relabel-requires

@@ -1,9 +1,7 @@
-use Rattle.std.proofs.Common.{◌≡◌, ℕ, List, Option, Some, None, IsSome, refl, sym, subst, ap, ◌∙◌, lit<}
+use Rattle.std.proofs.Common.{ℕ, IsSome, refl, sym, lit<}
 use Rattle.map_defs.specs.Rows.{Rows, IsLive}
-use Rattle.map_defs.specs.Values.{Rule}
 use Rattle.map_defs.specs.State.{rule_at as rule_in}
-use Rattle.transport.specs.Groups.{rule_at}
-use Rattle.label_laws.specs.Contents.{content_of, state_of}
+use Rattle.label_laws.specs.Contents.{content_of}
 use Rattle.label_laws.proofs.Valued.{rule-there, replace-valued, darts-within, give-stored, give-valued}
 use Rattle.map_core.proofs.map.Map.set_value.Goals as goal
 

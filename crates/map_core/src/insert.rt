@@ -1,0 +1,122 @@
+//! Inserting a vertex, an edge and a face into a generalized map.
+ghost use Rattle.std.specs.Prelude.{◌≡◌, ◌≤◌, length};
+ghost use Rattle.map_defs.specs.Rows.{links_of};
+ghost use Rattle.map_defs.specs.Laws.{Laws};
+ghost use Rattle.map_defs.specs.Edits.{Fits, after_edit};
+ghost use Rattle.map_defs.specs.Script.{Vertex, Edge, Face};
+ghost use Rattle.map_core.specs.Calls.{Does};
+ghost use Rattle.map_core.specs.Growing.{Grows, AreLiveDarts};
+
+use crate::map::{Done, Map};
+use alpha_edit::{edge_plan, face_plan, vertex_plan};
+use attr_rules::Hook;
+use link_rows::{Edit, MADE_MAX};
+use map_kind::{Alpha, Dart, Kind, Refusal, Refused};
+use std::alloc::Global;
+
+impl<'h, H: Hook, const DIM: usize> Map<'h, Alpha, H, DIM> {
+    /// Puts a vertex on the edge of a dart. Each dart of the edge gets a new dart beyond the vertex, numbered on from those
+    /// that were made in the order of the edge's darts; the answer tells them. The values of the cells are carried to the
+    /// new cells. It costs the darts of the edge, and the cells of these darts where a dimension has a rule, times a
+    /// logarithm.
+    ///
+    /// Refused as `NoDart` exactly where no live dart has the number, and then as `Full` exactly where more than 4,194,304
+    /// darts would have been made.
+    pub fn vertex(&mut self, alloc: Global, dart: u64) -> Result<Done, Refused>
+        requires { H.ready self.old.hook }
+        ensures hook { self.new.hook ≡ self.old.hook }
+        ensures does { Does (H.meaning self.old.hook) self.old.state (Vertex dart) result self.new.state }
+    {
+        let Some(dart) = self.live_dart(dart) else {
+            return Err(Refused::Line(Refusal::NoDart));
+        };
+        let edit = vertex_plan(alloc, &self.links, dart)?;
+        self.insert(alloc, &edit)
+    }
+
+    /// Puts an edge into a face, from the corner of one dart to that of another. Each dart of the two corners, on all sides
+    /// of the face, gets a new dart, numbered on from those that were made in the order of the corners' darts; the answer
+    /// tells them. The values of the cells are carried to the new cells. It costs the darts of the two corners and those
+    /// of the face that lie between them, and the cells of the corners' darts where a dimension has a rule, times a
+    /// logarithm.
+    ///
+    /// Refused as `NoDart` exactly where no live dart has one of the numbers; then as `OtherCell` exactly where the darts do
+    /// not lie on one side of one face; then as `SameCorner` exactly where they lie in one corner; then as `Unpaired`
+    /// exactly where the darts of the corners cannot be paired; and then as `Full` exactly where more than 4,194,304 darts
+    /// would have been made.
+    pub fn edge(&mut self, alloc: Global, dart: u64, other: u64) -> Result<Done, Refused>
+        requires { H.ready self.old.hook }
+        ensures hook { self.new.hook ≡ self.old.hook }
+        ensures does { Does (H.meaning self.old.hook) self.old.state (Edge dart other) result self.new.state }
+    {
+        let Some(dart) = self.live_dart(dart) else {
+            return Err(Refused::Line(Refusal::NoDart));
+        };
+        let Some(other) = self.live_dart(other) else {
+            return Err(Refused::Line(Refusal::NoDart));
+        };
+        let edit = edge_plan(alloc, &self.links, dart, other)?;
+        self.insert(alloc, &edit)
+    }
+
+    /// Puts a face into a volume along a closed path of 1 to 4096 darts, one at the begin of each of its sides. Each dart of
+    /// these sides, with their copies on the other volumes, gets a new dart, numbered on from those that were made in the
+    /// order of the sides' darts; the answer tells them. The values of the cells are carried to the new cells. It costs
+    /// the darts of the path's vertices and sides, and the cells of the sides' darts where a dimension has a rule, times a
+    /// logarithm.
+    ///
+    /// Refused as `BadDim` exactly in a map of dimension 2; then as `NoDart` exactly where no live dart has one of the
+    /// numbers; then as `OtherCell` exactly where the darts do not lie on one side of one volume; then as `NotClosed`
+    /// exactly where some side does not end where the next begins; then as `Unpaired` exactly where a dart stands twice on
+    /// the path or the darts of the sides cannot be paired; and then as `Full` exactly where more than 4,194,304 darts
+    /// would have been made.
+    pub fn face(&mut self, alloc: Global, path: &[u64]) -> Result<Done, Refused>
+        requires ready { H.ready self.old.hook }
+        requires some { 1 ≤ length path.now }
+        requires few { length path.now ≤ 4096 }
+        ensures hook { self.new.hook ≡ self.old.hook }
+        ensures does { Does (H.meaning self.old.hook) self.old.state (Face path.now) result self.new.state }
+    {
+        if self.links.dimension() < 3 {
+            return Err(Refused::Line(Refusal::BadDim));
+        }
+        let darts = self.live_darts(alloc, path)?;
+        let edit = face_plan(alloc, &self.links, &darts)?;
+        self.insert(alloc, &edit)
+    }
+}
+
+impl<'h, K: Kind, H: Hook, const DIM: usize> Map<'h, K, H, DIM> {
+    /// Makes an edit that inserts, unless too many darts would have been made.
+    fn insert(&mut self, alloc: Global, edit: &Edit) -> Result<Done, Refused>
+        requires ready { H.ready self.old.hook }
+        requires fits { Fits K.kind DIM self.old.state.present.rows edit.now }
+        requires laws { Laws K.kind (links_of (after_edit DIM edit.now self.old.state.present.rows)) }
+        ensures hook { self.new.hook ≡ self.old.hook }
+        ensures grows { Grows (H.meaning self.old.hook) self.old.state edit.now result self.new.state }
+    {
+        let made = self.links.made();
+        if edit.births > MADE_MAX - made {
+            return Err(Refused::Line(Refusal::Full));
+        }
+        self.relink(alloc, edit)?;
+        Ok(Done {
+            first: made + 1,
+            count: edit.births,
+        })
+    }
+
+    /// The live darts of these numbers, in their order. `NoDart` comes exactly where no live dart has one of them.
+    fn live_darts(&self, alloc: Global, numbers: &[u64]) -> Result<Vec<Dart>, Refused>
+        ensures { AreLiveDarts self.now.state.present.rows numbers.now result }
+    {
+        let mut darts = Vec::new(alloc);
+        for number in numbers {
+            let Some(dart) = self.live_dart(*number) else {
+                return Err(Refused::Line(Refusal::NoDart));
+            };
+            darts.push(dart)?;
+        }
+        Ok(darts)
+    }
+}
