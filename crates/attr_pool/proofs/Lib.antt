@@ -1,2 +1,4 @@
 pub mod FreePlaces
+pub mod PairedLists
+pub mod PoolSteps
 pub mod ColumnFacts

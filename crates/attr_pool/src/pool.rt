@@ -1,4 +1,4 @@
-ghost use Rattle.std.specs.Prelude.{◌≡◌, ℕ, ◌+◌, ◌-◌, ◌^◌, ◌≤◌, ◌<◌, [], ◌∷◌, None, Some, IsOk, OnOk, OnErr};
+ghost use Rattle.std.specs.Prelude.{◌≡◌, ℕ, pos, ◌+◌, ◌-◌, ◌^◌, ◌≤◌, ◌<◌, [], ◌∷◌, None, Some, IsOk, OnOk, OnErr};
 ghost use Rattle.attr_pool.specs.Stores.{value_of, IsHeld, live_count, IsPut};
 
 use crate::id::AttrId;
@@ -6,13 +6,17 @@ use map_kind::Value;
 use std::alloc::{AllocError, Global};
 use std::marker::Model;
 
-/// Values under ids. A live id stands for one value. It costs about 40 bytes for each id that there is room for.
+/// Values under ids. A live id stands for one value. It costs 25 bytes for each id that there is room for, and
+/// room grows as that of a `Vec` does.
 #[derive(Drop)]
 pub struct Pool {
-    // The value of the id n is at place n - 1.
-    slots: Vec<Option<Value>>,
-    // The places of the ids that are not live.
-    free: Vec<u32>,
+    // The value of the id n is at place n - 1. At a place that is not live, `a` is the next such place: so the free
+    // places take no memory of their own, and none is reserved for those that are live.
+    values: Vec<Value>,
+    // Which places are live. They stand apart, since an Option<Value> takes 32 bytes.
+    lives: Vec<bool>,
+    // The place that came free last; of no meaning where all places are live.
+    free: u32,
     live: u32,
     // So many ids can live without further memory.
     room: u32,
@@ -24,9 +28,9 @@ impl Model for Pool {
 
     ghost Value = { Store };
 
-    ghost use Rattle.attr_pool.specs.Kept.{IsKept};
+    ghost use Rattle.attr_pool.specs.Kept.{IsKept, slots_of};
 
-    ghost view = { λ pool. record { slots = None ∷ pool.slots.items; spare = pool.room - pool.live } };
+    ghost view = { λ pool. record { slots = None ∷ slots_of pool.values.items pool.lives.items; spare = pool.room - pool.live } };
 
     ghost invariant = { IsKept };
 }
@@ -39,8 +43,9 @@ impl Pool {
         ensures spare { result.spare ≡ 0 }
     {
         Pool {
-            slots: Vec::new(alloc),
-            free: Vec::new(alloc),
+            values: Vec::new(alloc),
+            lives: Vec::new(alloc),
+            free: 0,
             live: 0,
             room: 0,
         }
@@ -70,9 +75,9 @@ impl Pool {
         if wanted <= self.room {
             return Ok(());
         }
-        let further = wanted as usize - self.slots.len();
-        self.slots.reserve(further)?;
-        self.free.reserve(wanted as usize - self.free.len())?;
+        let further = wanted as usize - self.values.len();
+        self.values.reserve(further)?;
+        self.lives.reserve(further)?;
         self.room = wanted;
         Ok(())
     }
@@ -85,24 +90,29 @@ impl Pool {
         ensures count { live_count self.new ≡ live_count self.old + 1 }
         ensures spare { self.new.spare + 1 ≡ self.old.spare }
     {
-        self.live += 1;
-        match self.free.pop() {
-            Some(place) => {
-                self.slots[place as usize] = Some(value);
-                AttrId::new(place + 1).unwrap()
-            }
-            None => {
-                self.slots.push_reserved(Some(value));
-                AttrId::new(self.slots.len() as u32).unwrap()
-            }
+        if (self.live as usize) < self.values.len() {
+            let place = self.free;
+            self.free = next_place(self.values[place as usize]);
+            self.values[place as usize] = value;
+            self.lives[place as usize] = true;
+            self.live += 1;
+            return AttrId::new(place + 1).unwrap();
         }
+        self.values.push_reserved(value);
+        self.lives.push_reserved(true);
+        self.live += 1;
+        AttrId::new(self.values.len() as u32).unwrap()
     }
 
     /// The value that an id stands for; none exactly where the id is not live.
     pub fn value(&self, id: AttrId) -> Option<Value>
         ensures { result ≡ value_of self.now id }
     {
-        *self.slots.get(place(id) as usize)?
+        let place = place(id) as usize;
+        if *self.lives.get(place)? {
+            return Some(self.values[place]);
+        }
+        None
     }
 
     /// Lets a live id stand for another value, and answers the one before. It takes no memory.
@@ -113,7 +123,10 @@ impl Pool {
         ensures count { live_count self.new ≡ live_count self.old }
         ensures spare { self.new.spare ≡ self.old.spare }
     {
-        self.slots[place(id) as usize].replace(value).unwrap()
+        let place = place(id) as usize;
+        let before = self.values[place];
+        self.values[place] = value;
+        before
     }
 
     /// Ends a live id, which can then be given again, and answers its value. It takes no memory.
@@ -124,8 +137,11 @@ impl Pool {
         ensures count { live_count self.new + 1 ≡ live_count self.old }
         ensures spare { self.new.spare ≡ self.old.spare + 1 }
     {
-        let value = self.slots[place(id) as usize].take().unwrap();
-        self.free.push_reserved(place(id));
+        let place = place(id);
+        let value = self.values[place as usize];
+        self.values[place as usize] = free_value(self.free);
+        self.lives[place as usize] = false;
+        self.free = place;
         self.live -= 1;
         value
     }
@@ -136,4 +152,23 @@ fn place(id: AttrId) -> u32
     ensures { result + 1 ≡ id }
 {
     id.number() - 1
+}
+
+/// What is written at a free place: the place that follows it.
+fn free_value(next: u32) -> Value
+    ensures { result.a ≡ pos next }
+{
+    Value {
+        a: i64::from(next),
+        b: 0,
+        c: 0,
+    }
+}
+
+/// The place that is written at a free place.
+fn next_place(value: Value) -> u32
+    requires { (next : ℕ) × (value.a ≡ pos next) × (next < 2 ^ 32) }
+    ensures { value.a ≡ pos result }
+{
+    value.a as u32
 }

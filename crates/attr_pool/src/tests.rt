@@ -28,6 +28,27 @@ fn gives_ids_that_are_not_live(rt: HostRuntime) -> Result<(), Fail> {
 }
 
 #[test]
+fn gives_each_released_id_again(rt: HostRuntime) -> Result<(), Fail> {
+    let mut pool = Pool::new(rt.alloc());
+    assert!(&rt; pool.reserve(3).is_ok());
+    let one = pool.make(value(1));
+    let two = pool.make(value(2));
+    let three = pool.make(value(3));
+    assert_eq!(&rt; pool.release(one), value(1));
+    assert_eq!(&rt; pool.release(three), value(3));
+    let four = pool.make(value(4));
+    let five = pool.make(value(5));
+    assert!(&rt; four != five);
+    assert_eq!(&rt; pool.value(two), Some(value(2)));
+    assert_eq!(&rt;
+        (pool.value(four), pool.value(five)),
+        (Some(value(4)), Some(value(5)))
+    );
+    assert_eq!(&rt; pool.live_count(), 3);
+    Ok(())
+}
+
+#[test]
 fn keeps_the_ids_of_darts(rt: HostRuntime) -> Result<(), Fail> {
     let dart = Dart::new(2).unwrap();
     let other = Dart::new(3).unwrap();

@@ -1,60 +1,83 @@
-use Rattle.std.proofs.Common.{◌≡◌, ◌+◌, ◌++◌, ◌∷◌, [], ℕ, set, ◌∙◌, None, IsSome, length, sym, ap, subst, arith, length-set, rules}
-use Rattle.dart_arena.proofs.RowLemmas.{row_behind, count-buried}
-use Rattle.attr_pool.specs.Kept.{AreFree}
-use Rattle.attr_pool.proofs.FreePlaces.{free_pushed, longer}
+use Rattle.std.proofs.Common.{◌∷◌, None, Some, false, sym, ap, ◌∙◌, arith, length-set}
+use Rattle.dart_arena.proofs.RowLemmas.{count-buried}
+use Rattle.attr_pool.specs.Kept.{slots_of}
+use Rattle.attr_pool.proofs.PairedLists.{set-slots}
+use Rattle.attr_pool.proofs.PoolSteps.{held, is_put_at, kept_released}
 use Rattle.attr_pool.proofs.pool.Pool.release.Goals as goal
 
-pub push_reserved-requires : goal.push_reserved-requires
-push_reserved-requires c =
-    let items = c.self.inside.slots.items in
+pub index-value-requires : goal.index-value-requires
+index-value-requires c =
+    let pool = c.self.inside in
     let live = rw (← c.self.view_is) at c.requires in
-    let found = subst IsSome (row_behind items c.args.id c.place.result c.place.ensures) live in
-    let kept = c.self.invariant in
-    let free = c.self.inside.free.ok.0 in
-    omega (arith, count-buried items c.place.result found, kept.live, kept.all, kept.placed, kept.free_room)
+    let h = held pool.values.items pool.lives.items c.args.id c.place-place.result c.self.invariant.kept.paired c.place-place.ensures live in
+    omega (arith, h.within, pool.values.ok.0)
+
+pub index_mut-requires : goal.index_mut-requires
+index_mut-requires c =
+    let pool = c.self.inside in
+    let live = rw (← c.self.view_is) at c.requires in
+    let h = held pool.values.items pool.lives.items c.args.id c.place-place.result c.self.invariant.kept.paired c.place-place.ensures live in
+    omega (arith, h.within, pool.values.ok.0)
+
+pub index_mut-requires-2 : goal.index_mut-requires-2
+index_mut-requires-2 c =
+    let pool = c.self.inside in
+    let live = rw (← c.self.view_is) at c.requires in
+    let same = c.self.invariant.kept.paired in
+    let h = held pool.values.items pool.lives.items c.args.id c.place-place.result same c.place-place.ensures live in
+    omega (arith, h.within, same, pool.lives.ok.0)
 
 pub overflow_sub-self : goal.overflow_sub-self
 overflow_sub-self c =
-    let items = c.self.inside.slots.items in
+    let pool = c.self.inside in
     let live = rw (← c.self.view_is) at c.requires in
-    let found = subst IsSome (row_behind items c.args.id c.place.result c.place.ensures) live in
-    let kept = c.self.invariant in
-    omega (arith, count-buried items c.place.result found, kept.live)
+    let k = c.self.invariant.kept in
+    let h = held pool.values.items pool.lives.items c.args.id c.place-place.result k.paired c.place-place.ensures live in
+    omega (arith, count-buried (slots_of pool.values.items pool.lives.items) c.place-place.result h.found, k.count)
 
 pub invariant_of-self : goal.invariant_of-self
 invariant_of-self c =
-    let items = c.self.inside.slots.items in
+    let pool = c.self.inside in
     let live = rw (← c.self.view_is) at c.requires in
-    let found = subst IsSome (row_behind items c.args.id c.place.result c.place.ensures) live in
-    let kept = c.self.invariant in
-    let same : c.place-2.result ≡ c.place.result = omega arith in
-    let buried = count-buried items c.place.result found in
-    let long = length-set items c.place.result None in
-    let further = longer c.self.inside.free.items c.place.result in
-    let capacity = c.push_reserved.ensures.capacity in
-    let pushed : c.push_reserved.new.self.items ≡ c.self.inside.free.items ++ c.place.result ∷ [] = c.push_reserved.ensures.items ∙ ap (λ (n : ℕ). c.self.inside.free.items ++ n ∷ []) same in
-    let size : length c.push_reserved.new.self.items ≡ length c.self.inside.free.items + 1 = ap length pushed ∙ further in
-    rw c.take.ensures.after (record {
-      free = subst (AreFree (set items c.place.result None)) (sym pushed) (free_pushed items c.self.inside.free.items c.place.result kept.free found);
-      live = omega (arith, kept.live);
-      all = omega (arith, kept.live, kept.all);
-      placed = omega (arith, kept.placed);
-      slots_room = search rules;
-      free_room = omega (arith, kept.free_room);
-      few = kept.few;
-    })
+    let k = c.self.invariant in
+    let h = held pool.values.items pool.lives.items c.args.id c.place-place.result k.kept.paired c.place-place.ensures live in
+    record {
+      places = c.place-place.result ∷ k.places;
+      kept = kept_released pool.values.items pool.lives.items pool.free pool.live c.args.id c.place-place.result k.places c.free_value.result k.kept h c.free_value.ensures;
+      placed = rw length-set k.placed;
+      values_room = k.values_room;
+      lives_room = k.lives_room;
+      few = k.few;
+    }
+
+pub returns-clause-before : goal.returns-clause-before
+returns-clause-before c =
+    let pool = c.self.inside in
+    let live = rw (← c.self.view_is) at c.requires in
+    let h = held pool.values.items pool.lives.items c.args.id c.place-place.result c.self.invariant.kept.paired c.place-place.ensures live in
+    rw (← c.self.view_is) (h.read c.index-value.result.now ∙ ap Some (sym c.index-value.ensures))
+
+pub returns-clause-released : goal.returns-clause-released
+returns-clause-released c =
+    let pool = c.self.inside in
+    let live = rw (← c.self.view_is) at c.requires in
+    let same = c.self.invariant.kept.paired in
+    let h = held pool.values.items pool.lives.items c.args.id c.place-place.result same c.place-place.ensures live in
+    let e = set-slots pool.values.items pool.lives.items c.place-place.result c.free_value.result false in
+    rw (← c.self.view_is) (is_put_at pool.values.items pool.lives.items _ _ _ c.args.id c.place-place.result None same h e c.place-place.ensures)
 
 pub returns-clause-count : goal.returns-clause-count
 returns-clause-count c =
-    let items = c.self.inside.slots.items in
+    let pool = c.self.inside in
     let live = rw (← c.self.view_is) at c.requires in
-    let found = subst IsSome (row_behind items c.args.id c.place.result c.place.ensures) live in
-    rw (← c.self.view_is, c.take.ensures.after) (count-buried items c.place.result found)
+    let h = held pool.values.items pool.lives.items c.args.id c.place-place.result c.self.invariant.kept.paired c.place-place.ensures live in
+    let e = set-slots pool.values.items pool.lives.items c.place-place.result c.free_value.result false in
+    rw (← c.self.view_is, e) (count-buried (slots_of pool.values.items pool.lives.items) c.place-place.result h.found)
 
 pub returns-clause-spare : goal.returns-clause-spare
 returns-clause-spare c =
-    let items = c.self.inside.slots.items in
+    let pool = c.self.inside in
     let live = rw (← c.self.view_is) at c.requires in
-    let found = subst IsSome (row_behind items c.args.id c.place.result c.place.ensures) live in
-    let kept = c.self.invariant in
-    rw (← c.self.view_is) (omega (arith, count-buried items c.place.result found, kept.live, kept.all, kept.placed))
+    let k = c.self.invariant in
+    let h = held pool.values.items pool.lives.items c.args.id c.place-place.result k.kept.paired c.place-place.ensures live in
+    rw (← c.self.view_is) (omega (arith, count-buried (slots_of pool.values.items pool.lives.items) c.place-place.result h.found, k.kept.count, k.kept.all, k.placed))

@@ -1,27 +1,59 @@
-use Rattle.std.proofs.Common.{Some, IsSome, subst, arith, length-set, rules}
-use Rattle.dart_arena.proofs.RowLemmas.{row_behind, count-replaced}
-use Rattle.attr_pool.proofs.FreePlaces.{free_replaced}
+use Rattle.std.proofs.Common.{Some, sym, ap, ◌∙◌, arith, length-set}
+use Rattle.dart_arena.proofs.RowLemmas.{count-replaced}
+use Rattle.attr_pool.specs.Kept.{slots_of}
+use Rattle.attr_pool.proofs.PairedLists.{set-slots_value}
+use Rattle.attr_pool.proofs.PoolSteps.{held, is_put_at, kept_replaced}
 use Rattle.attr_pool.proofs.pool.Pool.replace.Goals as goal
+
+pub index-before-requires : goal.index-before-requires
+index-before-requires c =
+    let pool = c.self.inside in
+    let live = rw (← c.self.view_is) at c.requires in
+    let h = held pool.values.items pool.lives.items c.args.id c.place-place.result c.self.invariant.kept.paired c.place-place.ensures live in
+    omega (arith, h.within, pool.values.ok.0)
+
+pub index_mut-requires : goal.index_mut-requires
+index_mut-requires c =
+    let pool = c.self.inside in
+    let live = rw (← c.self.view_is) at c.requires in
+    let h = held pool.values.items pool.lives.items c.args.id c.place-place.result c.self.invariant.kept.paired c.place-place.ensures live in
+    omega (arith, h.within, pool.values.ok.0)
 
 pub invariant_of-self : goal.invariant_of-self
 invariant_of-self c =
-    let items = c.self.inside.slots.items in
+    let pool = c.self.inside in
     let live = rw (← c.self.view_is) at c.requires in
-    let found = subst IsSome (row_behind items c.args.id c.place.result c.place.ensures) live in
-    let kept = c.self.invariant in
-    rw c.replace.ensures.after (record {
-      free = free_replaced items c.self.inside.free.items c.place.result c.args.value kept.free found;
-      live = omega (arith, count-replaced items c.place.result c.args.value found);
-      all = omega (arith, length-set items c.place.result (Some c.args.value));
-      placed = omega (arith, length-set items c.place.result (Some c.args.value));
-      slots_room = search rules;
-      free_room = kept.free_room;
-      few = kept.few;
-    })
+    let k = c.self.invariant in
+    let h = held pool.values.items pool.lives.items c.args.id c.place-place.result k.kept.paired c.place-place.ensures live in
+    record {
+      places = k.places;
+      kept = kept_replaced pool.values.items pool.lives.items pool.free pool.live c.args.id c.place-place.result k.places c.args.value k.kept h;
+      placed = rw length-set k.placed;
+      values_room = k.values_room;
+      lives_room = k.lives_room;
+      few = k.few;
+    }
+
+pub returns-clause-before : goal.returns-clause-before
+returns-clause-before c =
+    let pool = c.self.inside in
+    let live = rw (← c.self.view_is) at c.requires in
+    let h = held pool.values.items pool.lives.items c.args.id c.place-place.result c.self.invariant.kept.paired c.place-place.ensures live in
+    rw (← c.self.view_is) (h.read c.index-before.result.now ∙ ap Some (sym c.index-before.ensures))
+
+pub returns-clause-replaced : goal.returns-clause-replaced
+returns-clause-replaced c =
+    let pool = c.self.inside in
+    let live = rw (← c.self.view_is) at c.requires in
+    let k = c.self.invariant in
+    let h = held pool.values.items pool.lives.items c.args.id c.place-place.result k.kept.paired c.place-place.ensures live in
+    let e = set-slots_value pool.values.items pool.lives.items c.place-place.result c.args.value h.live in
+    rw (← c.self.view_is) (is_put_at pool.values.items pool.lives.items _ _ _ c.args.id c.place-place.result (Some c.args.value) k.kept.paired h e c.place-place.ensures)
 
 pub returns-clause-count : goal.returns-clause-count
 returns-clause-count c =
-    let items = c.self.inside.slots.items in
+    let pool = c.self.inside in
     let live = rw (← c.self.view_is) at c.requires in
-    let found = subst IsSome (row_behind items c.args.id c.place.result c.place.ensures) live in
-    rw (← c.self.view_is, c.replace.ensures.after) (count-replaced items c.place.result c.args.value found)
+    let h = held pool.values.items pool.lives.items c.args.id c.place-place.result c.self.invariant.kept.paired c.place-place.ensures live in
+    let e = set-slots_value pool.values.items pool.lives.items c.place-place.result c.args.value h.live in
+    rw (← c.self.view_is, e) (count-replaced (slots_of pool.values.items pool.lives.items) c.place-place.result c.args.value h.found)
