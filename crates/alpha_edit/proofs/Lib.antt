@@ -12,3 +12,8 @@ mod EdgePlan
 mod PathSides
 mod Apart
 mod FacePlan
+mod WalkTurns
+mod BridgeEntries
+mod EndingEdit
+mod CellEnds
+mod CellPlans

@@ -2,3 +2,5 @@ pub mod Stars
 pub mod Inserting
 pub mod Writing
 pub mod Circles
+pub mod Bridging
+pub mod Removing

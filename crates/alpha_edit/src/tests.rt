@@ -4,7 +4,9 @@ ghost use Rattle.map_defs.specs.Rows.{links_of, IsLive, IsSound};
 ghost use Rattle.map_defs.specs.Laws.{Laws};
 ghost use Rattle.map_defs.specs.Edits.{Fits};
 
-use crate::{edge_plan, face_plan, vertex_plan};
+use crate::{
+    contract_plan, contractible, edge_plan, face_plan, removable, remove_plan, vertex_plan,
+};
 use link_rows::{Edit, Links, polygon_edit};
 use map_kind::{Alpha, Dart, Refusal, Refused};
 use sewing::sew_plan;
@@ -210,6 +212,110 @@ fn a_face_parts_a_volume(rt: HostRuntime) -> Result<(), Fail> {
     assert_eq!(&rt;
         rows(&rt, alloc, &links, 1, 2)?.as_slice(),
         [2, 6, 19, 0].as_slice()
+    );
+    Ok(())
+}
+
+/// A cube: six squares of eight darts each, sewn along its twelve edges.
+fn cube(rt: &impl Abort, alloc: Global) -> Result<Links<Alpha, 2>, AllocError>
+    ensures { IfOk result (λ links. Laws alpha (links_of links.rows)) }
+{
+    let mut links = Links::<Alpha, 2>::new(alloc);
+    for _square in 0..6 {
+        polygon(rt, alloc, &mut links, 4)?;
+    }
+    sew(rt, alloc, &mut links, 1, 42);
+    sew(rt, alloc, &mut links, 3, 34);
+    sew(rt, alloc, &mut links, 5, 26);
+    sew(rt, alloc, &mut links, 7, 18);
+    sew(rt, alloc, &mut links, 9, 22);
+    sew(rt, alloc, &mut links, 11, 30);
+    sew(rt, alloc, &mut links, 13, 38);
+    sew(rt, alloc, &mut links, 15, 46);
+    sew(rt, alloc, &mut links, 19, 32);
+    sew(rt, alloc, &mut links, 23, 44);
+    sew(rt, alloc, &mut links, 27, 40);
+    sew(rt, alloc, &mut links, 35, 48);
+    Ok(links)
+}
+
+#[test]
+fn a_removed_vertex_gives_the_triangle_back(rt: HostRuntime) -> Result<(), Fail> {
+    let alloc = rt.alloc();
+    let mut links = Links::<Alpha, 2>::new(alloc);
+    polygon(&rt, alloc, &mut links, 3)?;
+    let edit = vertex_plan(alloc, &links, dart(&rt, &links, 2))?;
+    assert!(&rt; links.reserve(edit.births).is_ok());
+    links.apply(&edit);
+    let seventh = dart(&rt, &links, 7);
+    assert!(&rt; removable(alloc, &links, 0, seventh)?);
+    match remove_plan(alloc, &links, 0, seventh) {
+        Ok(edit) => apply(&rt, &mut links, &edit),
+        Err(_) => panic!(&rt; "not removed"),
+    }
+    assert_eq!(&rt; links.live_count(), 6);
+    assert_eq!(&rt;
+        rows(&rt, alloc, &links, 1, 7)?.as_slice(),
+        [2, 6, 0, 1, 3, 0, 4, 2, 0, 3, 5, 0, 6, 4, 0, 5, 1, 0].as_slice()
+    );
+    Ok(())
+}
+
+// Two triangles sewn along a side: without it, the walk across leads from each of its ends to the other triangle.
+#[test]
+fn a_removed_edge_joins_two_faces(rt: HostRuntime) -> Result<(), Fail> {
+    let alloc = rt.alloc();
+    let mut links = Links::<Alpha, 2>::new(alloc);
+    polygon(&rt, alloc, &mut links, 3)?;
+    polygon(&rt, alloc, &mut links, 3)?;
+    sew(&rt, alloc, &mut links, 1, 7);
+    match remove_plan(alloc, &links, 1, dart(&rt, &links, 1)) {
+        Ok(edit) => apply(&rt, &mut links, &edit),
+        Err(_) => panic!(&rt; "not removed"),
+    }
+    assert_eq!(&rt;
+        rows(&rt, alloc, &links, 3, 7)?.as_slice(),
+        [4, 9, 0, 3, 5, 0, 6, 4, 0, 5, 12, 0].as_slice()
+    );
+    assert_eq!(&rt;
+        rows(&rt, alloc, &links, 9, 13)?.as_slice(),
+        [10, 3, 0, 9, 11, 0, 12, 10, 0, 11, 6, 0].as_slice()
+    );
+    Ok(())
+}
+
+#[test]
+fn an_edge_of_a_cube_is_contracted(rt: HostRuntime) -> Result<(), Fail> {
+    let alloc = rt.alloc();
+    let mut links = cube(&rt, alloc)?;
+    let first = dart(&rt, &links, 1);
+    assert!(&rt; !removable(alloc, &links, 0, first)?);
+    assert!(&rt; removable(alloc, &links, 1, first)?);
+    assert!(&rt; !contractible(alloc, &links, 0, first)?);
+    assert!(&rt; !contractible(alloc, &links, 2, first)?);
+    assert_eq!(&rt;
+        refusal(remove_plan(alloc, &links, 0, first)),
+        Some(Refused::Line(Refusal::NotRemovable))
+    );
+    assert_eq!(&rt;
+        refusal(contract_plan(alloc, &links, 0, first)),
+        Some(Refused::Line(Refusal::NotContractible))
+    );
+    match contract_plan(alloc, &links, 1, first) {
+        Ok(edit) => apply(&rt, &mut links, &edit),
+        Err(_) => panic!(&rt; "not contracted"),
+    }
+    assert_eq!(&rt; links.live_count(), 44);
+    assert_eq!(&rt;
+        rows(&rt, alloc, &links, 3, 9)?.as_slice(),
+        [4, 8, 34, 3, 5, 33, 6, 4, 26, 5, 7, 25, 8, 6, 18, 7, 3, 17].as_slice()
+    );
+    assert_eq!(&rt;
+        rows(&rt, alloc, &links, 43, 49)?.as_slice(),
+        [
+            44, 48, 24, 43, 45, 23, 46, 44, 16, 45, 47, 15, 48, 46, 36, 47, 43, 35
+        ]
+        .as_slice()
     );
     Ok(())
 }
