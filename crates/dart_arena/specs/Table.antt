@@ -1,6 +1,6 @@
 -- How an arena keeps its rows: one behind another in one list of entries, and beside it which darts live. Source: this
 -- project's.
-use Rattle.std.specs.Prelude.{ℕ, zero, suc, ◌≡◌, ◌+◌, ◌*◌, ◌<◌, ◌≤◌, Bool, false, cond, List, [], ◌∷◌, length, take, drop, filter, Option, Some, None, is_some, slice_index, slice_index_or, slice_set}
+use Rattle.std.specs.Prelude.{ℕ, zero, suc, ◌≡◌, ◌+◌, ◌*◌, ◌<◌, ◌≤◌, Bool, false, cond, List, [], ◌∷◌, ◌++◌, length, take, drop, reverse, filter, Option, Some, None, is_some, slice_index, slice_index_or, slice_set}
 
 -- The rows behind place 0, from entries of which so many are each row's, where the list of tests says who lives.
 abbrev pub rows_of : ℕ → List ℕ → List Bool → List (Option (List ℕ))
@@ -23,3 +23,8 @@ pub record IsTable (width : ℕ) (entries : List ℕ) (live : List Bool) (count 
 abbrev pub zeroed : List ℕ → ℕ → ℕ → List ℕ
 zeroed entries from zero = entries
 zeroed entries from (suc count) = slice_set (zeroed entries from count) (from + count) 0
+
+-- the entries with each of the first rows in reverse order
+abbrev pub rows_reversed : ℕ → ℕ → List ℕ → List ℕ
+rows_reversed width zero entries = entries
+rows_reversed width (suc rows) entries = reverse (take width entries) ++ rows_reversed width rows (drop width entries)

@@ -1,8 +1,8 @@
-ghost use Rattle.std.specs.Prelude.{◌≡◌, ℕ, ◌+◌, ◌*◌, ◌^◌, ◌≤◌, ◌<◌, ◌↔◌, ◌++◌, [], ◌∷◌, None, length, replicate, slice_index_or, false, vec_len, vec_capacity, IsTrue, IfSome, IfNone, IsOk, OnOk, OnErr, IsErrOf};
+ghost use Rattle.std.specs.Prelude.{◌≡◌, ℕ, ◌+◌, ◌*◌, ◌^◌, ◌≤◌, ◌<◌, ◌↔◌, ◌++◌, [], ◌∷◌, None, length, replicate, take, drop, reverse, map, option_map, slice_index_or, false, vec_len, vec_capacity, IsTrue, IfSome, IfNone, IsOk, OnOk, OnErr, IsErrOf};
 ghost use Rattle.map_defs.specs.Rows.{links_of};
 ghost use Rattle.map_defs.specs.Edits.{free_row, with_entry};
 ghost use Rattle.dart_arena.specs.Stock.{made, row_at, IsLive, live_count, IsKept, born, unborn, buried, revived, IsNextLive};
-ghost use Rattle.dart_arena.specs.Table.{zeroed};
+ghost use Rattle.dart_arena.specs.Table.{zeroed, rows_reversed};
 
 use map_kind::Dart;
 use std::alloc::Global;
@@ -216,6 +216,16 @@ impl<const DIM: usize> Arena<DIM> {
             self.entries[at] = to;
         }
     }
+
+    /// Turns each row round: entry i of each live dart becomes its entry `DIM` - i. It takes no memory, and costs a few
+    /// steps for each entry of the darts that were made.
+    pub fn reverse_rows(&mut self)
+        ensures rows { self.new.rows ≡ map (option_map reverse) self.old.rows }
+        ensures spare { self.new.spare ≡ self.old.spare }
+        ensures room { self.new.room ≡ self.old.room }
+    {
+        reverse_all::<DIM>(&mut self.entries, self.live.len());
+    }
 }
 
 /// Where it stands whether a dart is live.
@@ -270,4 +280,24 @@ fn put_zeros(entries: &mut Vec<u32>, from: usize, count: usize)
     for offset in 0..count {
         entries[from + offset] = 0;
     }
+}
+
+/// Turns the first rows round, so many of them, each by itself.
+fn reverse_all<const DIM: usize>(entries: &mut [u32], rows: usize)
+    requires { length entries.old ≡ rows * (DIM + 1) }
+    ensures { entries.new ≡ rows_reversed (DIM + 1) rows entries.old }
+{
+    for row in 0..rows {
+        reverse_row::<DIM>(entries, row * (DIM + 1));
+    }
+}
+
+/// Turns the row round whose entries stand from a place on.
+fn reverse_row<const DIM: usize>(entries: &mut [u32], from: usize)
+    requires { from + (DIM + 1) ≤ length entries.old }
+    ensures { entries.new ≡ take from entries.old ++ reverse (take (DIM + 1) (drop from entries.old)) ++ drop (from + (DIM + 1)) entries.old }
+{
+    let (_, rest) = entries.split_at_mut(from);
+    let (row, _) = rest.split_at_mut(DIM + 1);
+    row.reverse();
 }

@@ -71,6 +71,6 @@ module _ (n : ℕ) (rows : Rows) (high : 2 ≤ n) where
   dual_cells alpha N wide w can b i d x h m = (alpha_cells n (links_of rows) N b i (n - i) d x (omega arith) m, alpha_cells n N (links_of rows) (dual_back alpha N wide w can b) (n - i) i d x (omega arith) m)
   dual_cells beta N wide w can b i d x h m = (beta_cells n (links_of rows) N (closed_map w can) b (dual_laws beta N w can b) i (n - i) d x (omega arith) m, beta_cells n N (links_of rows) (closed_dual N w can b) (dual_back beta N wide w can b) w (n - i) i d x (omega arith) m)
 
-pub dual_one : (k : Kind) (n : ℕ) (L N M : Links) → 2 ≤ n → IsDual k n L N → IsDual k n L M → (i d : ℕ) → N i d ≡ M i d
-dual_one alpha n L N M h b c i d = alpha_dual_one n L N M b c i d
-dual_one beta n L N M h b c i d = beta_dual_one n L N M h b c i d
+pub dual_one : (k : Kind) (n : ℕ) (L N M : Links) → IsDual k n L N → IsDual k n L M → (i d : ℕ) → N i d ≡ M i d
+dual_one alpha n L N M b c i d = alpha_dual_one n L N M b c i d
+dual_one beta n L N M b c i d = beta_dual_one n L N M b c i d

@@ -146,14 +146,17 @@ module _ (n : ℕ) (L N : Links) (c : IsClosedMap n L) (b : IsBetaDual n L N) wh
           go (inl l) = cc (b.kept d, b.reversed (n - i) (L n d) (omega arith) (omega arith), ap (λ s. L s (L n (L n d))) twice, top_twice n L c d l)
           go (inr z) = cc (z i, dual_free n L N c b d z n, nil n L N c b (n - i))
 
-pub beta_dual_one : (n : ℕ) (L N M : Links) → 2 ≤ n → IsBetaDual n L N → IsBetaDual n L M → (i d : ℕ) → N i d ≡ M i d
-beta_dual_one n L N M h b c i d = go (link_case i n)
-  where
-    one : (x : ℕ) → N 1 x ≡ M 1 x
-    one x = b.reversed 1 x (omega arith) (omega arith) ∙ sym (c.reversed 1 x (omega arith) (omega arith))
+-- the dual is told by the map, in every dimension
+module _ (n : ℕ) (L N M : Links) (b : IsBetaDual n L N) (c : IsBetaDual n L M) where
+  one_above : (i d : ℕ) → 1 ≤ i → N i d ≡ M i d
+  one_above i d h = go (link_case i n)
+    where
+      go : (i ≡ 0) ⊎ ((1 ≤ i) × (i < n)) ⊎ (i ≡ n) ⊎ (n < i) → N i d ≡ M i d
+      go (inl e) = absurd (omega arith)
+      go (inr (inl p)) = b.reversed i d p.0 p.1 ∙ sym (c.reversed i d p.0 p.1)
+      go (inr (inr (inl e))) = cc (e, b.kept d, c.kept d)
+      go (inr (inr (inr g))) = b.above i d g ∙ sym (c.above i d g)
 
-    go : (i ≡ 0) ⊎ ((1 ≤ i) × (i < n)) ⊎ (i ≡ n) ⊎ (n < i) → N i d ≡ M i d
-    go (inl e) = ap (λ s. N s d) e ∙ (turned_one N M b.turned c.turned one d ∙ ap (λ s. M s d) (sym e))
-    go (inr (inl p)) = b.reversed i d p.0 p.1 ∙ sym (c.reversed i d p.0 p.1)
-    go (inr (inr (inl e))) = cc (e, b.kept d, c.kept d)
-    go (inr (inr (inr g))) = b.above i d g ∙ sym (c.above i d g)
+  pub beta_dual_one : (i d : ℕ) → N i d ≡ M i d
+  beta_dual_one zero d = turned_one N M b.turned c.turned (λ x. one_above 1 x (omega arith)) d
+  beta_dual_one (suc i) d = one_above (suc i) d (omega arith)

@@ -33,11 +33,11 @@ pub fn dual_twice_is_the_map()
         → (t x : ℕ) → M t x ≡ links_of rows t x }
 {}
 
-/// There is one dual.
+/// There is one dual, in every dimension and whether or not the links obey the laws.
 ///
 /// For whoever compares a planned dual with another account of it.
 pub fn dual_is_one()
-    ensures { (k : Kind) (n : ℕ) (L N M : Links) → 2 ≤ n → IsDual k n L N → IsDual k n L M → (t x : ℕ)
+    ensures { (k : Kind) (n : ℕ) (L N M : Links) → IsDual k n L N → IsDual k n L M → (t x : ℕ)
         → N t x ≡ M t x }
 {}
 

@@ -3,7 +3,7 @@ ghost use Rattle.map_defs.specs.Kind.{alpha};
 ghost use Rattle.map_defs.specs.Rows.{links_of};
 ghost use Rattle.map_defs.specs.Laws.{Laws};
 
-use crate::{dual_plan, dualable};
+use crate::{dual_plan, dualable, take_dual};
 use link_rows::{Edit, Links, polygon_edit};
 use map_kind::{Alpha, Dart, Refusal, Refused};
 use sewing::sew_plan;
@@ -65,8 +65,8 @@ fn cube(rt: &impl Abort, alloc: Global, links: &mut Links<Alpha, 2>)
     sew(rt, alloc, links, 35, 48);
 }
 
-/// Makes the dual of a map that has one, and answers how many links changed.
-fn take_dual(rt: &impl Abort, alloc: Global, links: &mut Links<Alpha, 2>) -> usize
+/// Makes the dual of a map that has one by its edit, and answers how many links changed.
+fn apply_dual(rt: &impl Abort, alloc: Global, links: &mut Links<Alpha, 2>) -> usize
     requires { Laws alpha (links_of links.old.rows) }
     ensures { Laws alpha (links_of links.new.rows) }
 {
@@ -110,7 +110,7 @@ fn dual_of_a_cube_has_triangles(rt: HostRuntime) -> Result<(), Fail> {
     assert_eq!(&rt; row(&rt, &links, 1), [Some(2), Some(8), Some(42)]);
     assert_eq!(&rt; row(&rt, &links, 48), [Some(47), Some(41), Some(35)]);
     assert!(&rt; dualable(&links));
-    assert_eq!(&rt; take_dual(&rt, alloc, &mut links), 96);
+    assert_eq!(&rt; apply_dual(&rt, alloc, &mut links), 96);
     assert_eq!(&rt; row(&rt, &links, 1), [Some(42), Some(8), Some(2)]);
     assert_eq!(&rt; row(&rt, &links, 48), [Some(35), Some(41), Some(47)]);
     let one = dart(&rt, 1);
@@ -118,8 +118,32 @@ fn dual_of_a_cube_has_triangles(rt: HostRuntime) -> Result<(), Fail> {
     let three = next(&rt, &links, two);
     assert!(&rt; one != two && one != three && two != three);
     assert_eq!(&rt; next(&rt, &links, three), one);
-    assert_eq!(&rt; take_dual(&rt, alloc, &mut links), 96);
+    assert_eq!(&rt; apply_dual(&rt, alloc, &mut links), 96);
     assert_eq!(&rt; row(&rt, &links, 1), [Some(2), Some(8), Some(42)]);
+    Ok(())
+}
+
+#[test]
+fn dual_of_a_cube_is_made_in_place(rt: HostRuntime) -> Result<(), Fail> {
+    let alloc = rt.alloc();
+    let mut links = Links::<Alpha, 2>::new(alloc);
+    cube(&rt, alloc, &mut links);
+    assert_eq!(&rt; take_dual(&mut links), Ok(()));
+    assert_eq!(&rt; links.made(), 48);
+    assert_eq!(&rt; row(&rt, &links, 1), [Some(42), Some(8), Some(2)]);
+    assert_eq!(&rt; row(&rt, &links, 48), [Some(35), Some(41), Some(47)]);
+    assert_eq!(&rt; take_dual(&mut links), Ok(()));
+    assert_eq!(&rt; row(&rt, &links, 1), [Some(2), Some(8), Some(42)]);
+    Ok(())
+}
+
+#[test]
+fn a_triangle_alone_stays_as_it_is(rt: HostRuntime) -> Result<(), Fail> {
+    let alloc = rt.alloc();
+    let mut links = Links::<Alpha, 2>::new(alloc);
+    polygon(&rt, alloc, &mut links, 3);
+    assert_eq!(&rt; take_dual(&mut links), Err(Refusal::Boundary));
+    assert_eq!(&rt; row(&rt, &links, 1), [Some(2), Some(6), None]);
     Ok(())
 }
 

@@ -10,3 +10,4 @@ pub mod EditLinks
 pub mod BirthLinks
 pub mod PolygonEdit
 pub mod KeptLaws
+pub mod ReversedLinks

@@ -1,4 +1,5 @@
-ghost use Rattle.std.specs.Prelude.{◌≡◌, ℕ, ◌+◌, ◌-◌, ◌≤◌, ◌<◌, ◌↔◌, [], ◌∷◌, None, length, IsNone, IsOk, IsTrue, IfSome, IfNone, OnOk, OnErr, IsErrOf};
+ghost use Rattle.std.specs.Prelude.{◌≡◌, ℕ, ◌+◌, ◌-◌, ◌≤◌, ◌<◌, ◌↔◌, [], ◌∷◌, None, length, map, option_map, reverse, IsNone, IsOk, IsTrue, IfSome, IfNone, OnOk, OnErr, IsErrOf};
+ghost use Rattle.map_defs.specs.Kind.{alpha};
 ghost use Rattle.map_defs.specs.Rows.{Rows, links_of, made, live_count, IsLive, IsSound};
 ghost use Rattle.map_defs.specs.Edits.{after_edit, before_edit, Fits, IsLed};
 ghost use Rattle.dart_arena.specs.Stock.{IsNextLive};
@@ -6,7 +7,7 @@ ghost use Rattle.dart_arena.specs.Stock.{IsNextLive};
 use crate::edit::Edit;
 use crate::steps;
 use dart_arena::{Arena, MADE_MAX, ReserveFault};
-use map_kind::{Dart, Kind};
+use map_kind::{Alpha, Dart, Kind};
 use std::alloc::Global;
 use std::marker::{Model, PhantomData};
 
@@ -159,5 +160,22 @@ impl<K: Kind, const DIM: usize> Links<K, DIM> {
         steps::unbear(&mut self.rows, edit.births);
         steps::revive(&mut self.rows, &edit.deaths);
         steps::unlink(&mut self.rows, &edit.changes);
+    }
+}
+
+impl<const DIM: usize> Links<Alpha, DIM> {
+    /// Turns the links of each dart of a generalized map round: link i becomes link `DIM` - i. It takes no memory, and
+    /// costs a few steps for each link of the darts that were made.
+    pub fn reverse_links(&mut self)
+        ensures links { (i d : ℕ) → i ≤ DIM → links_of self.new.rows i d ≡ links_of self.old.rows (DIM - i) d }
+        ensures live { (d : ℕ) → IsLive self.new.rows d ↔ IsLive self.old.rows d }
+        ensures rows { self.new.rows ≡ map (option_map reverse) self.old.rows }
+        ensures low { 2 ≤ DIM }
+        ensures sound { IsSound alpha DIM self.new.rows }
+        ensures length { length self.new.rows ≡ length self.old.rows }
+        ensures spare { self.new.spare ≡ self.old.spare }
+        ensures room { self.new.room ≡ self.old.room }
+    {
+        self.rows.reverse_rows();
     }
 }

@@ -96,3 +96,20 @@ fn links_are_set_one_by_one(rt: HostRuntime) -> Result<(), Fail> {
     assert_eq!(&rt; (links.made(), links.link(one, 8)), (2, None));
     Ok(())
 }
+
+// Link 0 of a side leads to its other end, link 1 to the next side, and link 2 is free: turned round, link 0 is free.
+#[test]
+fn links_of_a_triangle_are_turned_round(rt: HostRuntime) -> Result<(), Fail> {
+    let alloc = rt.alloc();
+    let mut links = Links::<Alpha, 2>::new(alloc);
+    assert!(&rt; links.reserve(6).is_ok());
+    let triangle = polygon_edit(alloc, &links, 3)?;
+    links.apply(&triangle);
+    let six = Dart::new(6).unwrap();
+    links.reverse_links();
+    assert_eq!(&rt; (links.made(), links.live_count()), (6, 6));
+    assert_eq!(&rt; links.link(six, 0), None);
+    assert_eq!(&rt; links.link(six, 1), Dart::new(1));
+    assert_eq!(&rt; links.link(six, 2), Dart::new(5));
+    Ok(())
+}
