@@ -38,7 +38,8 @@ pub struct CellLists {
     pub darts: Vec<Vec<Dart>>,
 }
 
-/// All cells of dimension `dim`, each with its darts.
+/// All cells of dimension `dim`, each with its darts. It is linear in the darts that were made, and sorts the darts of each
+/// cell.
 pub fn cell_lists<K: Kind, const DIM: usize>(
     alloc: Global,
     links: &Links<K, DIM>,

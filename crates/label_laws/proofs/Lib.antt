@@ -14,3 +14,5 @@ pub mod Making
 pub mod Valued
 pub mod Listed
 pub mod Loading
+pub mod Turned
+pub mod TurnedBelow

@@ -5,3 +5,4 @@ pub mod Maps
 pub mod Touching
 pub mod Lists
 pub mod Placing
+pub mod Turning

@@ -11,15 +11,12 @@ use Rattle.map_defs.specs.Inserting.{VertexDarts, IsVertex, InCorner, EdgeDarts,
 use Rattle.map_defs.specs.Values.{Meaning}
 use Rattle.map_defs.specs.State.{Content}
 use Rattle.map_defs.specs.Relinking.{NoDart, IsRelinked}
-use Rattle.map_defs.specs.Script as says
-use Rattle.map_defs.specs.Script.{Line}
 use Rattle.insert_laws.proofs.AlphaInsert.{alpha_vertex_can, alpha_edge_can}
 use Rattle.insert_laws.proofs.Paths.{has_next}
 use Rattle.insert_laws.proofs.Face.{alpha_face_can, beta_face_can}
 use Rattle.insert_laws.proofs.Numbers.{numbered_at, numbered_above}
 use Rattle.insert_laws.proofs.BetaVertex.{edge_set}
 use Rattle.insert_laws.proofs.BetaEdgePairs.{edge_turning}
-use Rattle.machine_laws.specs.Needs.{NeedsLaws}
 use Rattle.machine_laws.proofs.Answers.{darts-one}
 use Rattle.machine_laws.proofs.Relinked.{relinked-one}
 use Rattle.machine_laws.proofs.Inserted.{AreAlike, TellsInserted, inserted-one, split-one, cut-one}
@@ -57,13 +54,13 @@ pub vertex-one : (k : Kind) (L : Links) (d : ℕ) → ((x : ℕ) → VertexDarts
 vertex-one alpha L d darts = inserted-one alpha 0 (InCell alpha L 1 d) NoPairs L (alpha_vertex_can L d (darts d here))
 vertex-one beta L d darts = split-one L (InCell beta L 1 d) (edge_set L d (darts d here))
 
-pub edge-one : (k : Kind) (L : Links) (d e : ℕ) → (NeedsLaws (says.Edge d e) k → Laws k L) → (InCorner k L d e → ⊥) → AreEdgePaired k L d e
+pub edge-one : (k : Kind) (L : Links) (d e : ℕ) → (k ≡ beta → Laws k L) → (InCorner k L d e → ⊥) → AreEdgePaired k L d e
     → ((x : ℕ) → EdgeDarts k L d e x → x ≢ 0) → TellsInserted (EdgeDarts k L d e) (λ star. IsEdge k d e star L)
 edge-one alpha L d e laws apart paired darts =
     inserted-one alpha 1 (AlphaEdgeDarts L d e) (AlphaEdgePairs L d e) L (alpha_edge_can L d e (darts d (inl here)) (darts e (inr here)) paired)
 edge-one beta L d e laws apart paired darts = cut-one L (BetaEdgeLeads L d e) (edge_turning L (laws refl) d e paired apart)
 
-pub face-one : (k : Kind) (L : Links) (path : List ℕ) → (NeedsLaws (says.Face path) k → Laws k L) → IsClosedPath k L path → IsFacePaired k L path
+pub face-one : (k : Kind) (L : Links) (path : List ℕ) → (k ≡ alpha → Laws k L) → IsClosedPath k L path → IsFacePaired k L path
     → ((x : ℕ) → FaceDarts k L path x → x ≢ 0) → TellsInserted (FaceDarts k L path) (λ star. IsFace k path star L)
 face-one alpha L path laws closed paired darts =
     inserted-one alpha 2 (FaceDarts alpha L path) (FacePairs alpha L path) L

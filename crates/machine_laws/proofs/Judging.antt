@@ -76,8 +76,8 @@ ordered s (says.Face path) = (
     ),
   ),
 )
-ordered s (says.Remove i d) = (unless-apart _, tt, tt)
-ordered s (says.Contract i d) = (unless-apart _, tt, tt)
+ordered s (says.Remove i d) = (if-apart _, (lit≤ tt, (lit≤ tt, tt)), (unless-apart _, (lit≤ tt, tt), (unless-apart _, tt, tt)))
+ordered s (says.Contract i d) = (if-apart _, (lit≤ tt, (lit≤ tt, tt)), (unless-apart _, (lit≤ tt, tt), (unless-apart _, tt, tt)))
 ordered s says.Dual = (unless-apart _, tt, tt)
 ordered s (says.Rule i merge split) = (if-apart _, (lit≤ tt, tt), (unless-apart _, tt, tt))
 ordered s (says.Set i d value) = (if-apart _, (lit≤ tt, (lit≤ tt, tt)), (unless-apart _, (lit≤ tt, tt), (if-apart _, tt, tt)))
@@ -86,8 +86,8 @@ ordered s (says.Mark name) = (unless-apart _, tt, tt)
 ordered s (says.Undo name) = (unless-apart _, tt, tt)
 ordered s (says.Log name) = (unless-apart _, tt, tt)
 ordered s (says.Value i d) = (if-apart _, (lit≤ tt, tt), (unless-apart _, tt, tt))
-ordered s (says.Removable i d) = (unless-apart _, tt, tt)
-ordered s (says.Contractible i d) = (unless-apart _, tt, tt)
+ordered s (says.Removable i d) = (if-apart _, (lit≤ tt, tt), (unless-apart _, tt, tt))
+ordered s (says.Contractible i d) = (if-apart _, (lit≤ tt, tt), (unless-apart _, tt, tt))
 ordered s says.Off = (unless-apart _, tt, tt)
 
 refused-is : (r q : Refusal) → Refused r ≡ Refused q → r ≡ q

@@ -7,7 +7,7 @@ use Rattle.link_laws.proofs.Basics.{same_or_not}
 use Rattle.map_defs.specs.Kind.{Kind}
 use Rattle.map_defs.specs.Links.{Links}
 use Rattle.map_defs.specs.Laws.{Laws, IsLawful}
-use Rattle.map_defs.specs.Rows.{Rows, row_at, IsLive, links_of, made, made_max, IsSound}
+use Rattle.map_defs.specs.Rows.{Rows, row_at, IsLive, links_of, AreWide, made, made_max, IsSound}
 use Rattle.map_defs.specs.Cells.{InCell}
 use Rattle.map_defs.specs.Values.{Value, Rule, Meaning, meaning_of}
 use Rattle.map_defs.specs.Carry.{AreEqualOnCells}
@@ -60,6 +60,16 @@ dead-at rows none live = by_row (row_at rows 0) none live
     by_row None h some = cc (some)
     by_row (Some row) h some = cc (h)
 
+-- rows whose links obey the laws are sound
+pub sound-of : (k : Kind) (n : ℕ) (rows : Rows) → Laws k (links_of rows) → AreWide n rows → (IsLive rows 0 → ⊥) → made rows ≤ made_max → IsSound k n rows
+sound-of k n rows lawful wide nothing few = record {
+  nothing = nothing-at rows nothing;
+  live = rows_lead_to_live k rows lawful;
+  back = lawful.back;
+  wide = wide;
+  few = few;
+}
+
 -- a change of links that keeps the laws
 module _ (hook : Meaning) (c : Content) (kept : IsKept c) (births : ℕ) (Ended : ℕ → Type 0) (Becomes : Links → Type 0) (next : Content)
     (few : made c.rows + births ≤ made_max) (lawful : Laws c.kind (links_of next.rows)) (r : IsRelinked hook c births Ended Becomes next) where
@@ -91,13 +101,7 @@ module _ (hook : Meaning) (c : Content) (kept : IsKept c) (births : ℕ) (Ended 
   ]
 
   sound : IsSound c.kind c.dim next.rows
-  sound = record {
-    nothing = nothing-at next.rows nothing;
-    live = rows_lead_to_live c.kind next.rows lawful;
-    back = lawful.back;
-    wide = r.wide;
-    few = omega (arith, r.long);
-  }
+  sound = sound-of c.kind c.dim next.rows lawful r.wide nothing (omega (arith, r.long))
 
   same-rules : length next.rules ≡ next.dim + 1
   same-rules = ap (λ (rules : List (Option Rule)). length rules) r.rules ∙ kept.ruled ∙ ap (λ (n : ℕ). n + 1) (sym r.dim)

@@ -8,6 +8,7 @@ pub mod GrownLaws
 pub mod Born
 pub mod Ended
 pub mod Begun
+pub mod Dualled
 pub mod Answers
 pub mod Steps
 pub mod Runs

@@ -19,13 +19,18 @@ use Rattle.map_defs.specs.State.{State, Content, with_born, without_dart, steps_
 use Rattle.map_defs.specs.Script as says
 use Rattle.map_defs.specs.Script.{Line}
 use Rattle.map_defs.specs.Listing.{ListValue, listing_with}
-use Rattle.map_defs.specs.Relinking.{NoDart}
+use Rattle.map_defs.specs.Relinking.{IsRelinked}
+use Rattle.map_defs.specs.Removal.{IsRemovable, IsRemoved}
+use Rattle.map_defs.specs.Contraction.{IsContractible, IsContracted}
 use Rattle.map_defs.specs.Kept.{IsKept, AreKept}
 use Rattle.map_defs.specs.Text.{Reply, Done, Truth, Darts, Counts, Shown, Refused}
-use Rattle.map_defs.specs.Machine.{Step, Effect, Gives, Tells, Relinks, Inserts, Values, AreFree, ArePaired, checks, links_in, with_polygon, with_dart}
+use Rattle.map_defs.specs.Machine.{Step, Effect, Gives, Tells, Inserts, Values, AreFree, ArePaired, checks, links_in, with_polygon, with_dart}
 use Rattle.link_laws.proofs.Sewn.{sewing_keeps}
 use Rattle.link_laws.proofs.Unsewn.{unsewing_keeps}
+use Rattle.link_laws.proofs.RowFacts.{rows_made}
 use Rattle.insert_laws.proofs.Face.{face_keeps}
+use Rattle.remove_laws.proofs.Removed.{removed_laws, contracted_laws}
+use Rattle.remove_laws.proofs.Unique.{removed_one, contracted_one}
 use Rattle.link_rows.proofs.EditSound.{after-sound}
 use Rattle.link_rows.proofs.EditPlain.{births_edit, death_edit, births-fit, death-fits}
 use Rattle.link_rows.proofs.KeptLaws.{births-keep}
@@ -34,12 +39,13 @@ use Rattle.machine_laws.proofs.Judging.{ordered, AllPass, judged-both, judged-ke
 use Rattle.machine_laws.proofs.ValueLists.{one-listing}
 use Rattle.machine_laws.proofs.Relinked.{TellsOne, sewn-one, unsewn-one, relinked-one, valued-one}
 use Rattle.machine_laws.proofs.Inserted.{TellsInserted}
-use Rattle.machine_laws.specs.Needs.{NeedsLaws}
+use Rattle.machine_laws.specs.Needs.{HasLaws, Needs}
 use Rattle.machine_laws.proofs.Grown.{births-one, grown-one, vertex-one, edge-one, face-one}
 use Rattle.machine_laws.proofs.GrownLaws.{vertex-lawful, edge-lawful, vertex-live, edge-live, face-live, kept-grown}
 use Rattle.machine_laws.proofs.Keeping.{laws-of, dead-at, kept-step, kept-relinked, kept-valued, kept-ruled}
 use Rattle.machine_laws.proofs.Born.{kept-born}
 use Rattle.machine_laws.proofs.Ended.{kept-ended}
+use Rattle.machine_laws.proofs.Dualled.{dualled-one, kept-dualled}
 use Rattle.machine_laws.proofs.Answers.{truth-one, darts-one, counts-one}
 
 pub effect-refuses : (hook : Meaning) (s : State) (line : Line) (r : Refusal) (new : State) → Effect hook s line (Refused r) new → ⊥
@@ -57,9 +63,9 @@ effect-refuses hook s says.Show r new e = let f = e.2 in cc
 effect-refuses hook s (says.Vertex d) r new f = let g = f.3 in cc
 effect-refuses hook s (says.Edge d e) r new f = let g = f.3 in cc
 effect-refuses hook s (says.Face path) r new f = let g = f.3 in cc
-effect-refuses hook s (says.Remove i d) r new f = f
-effect-refuses hook s (says.Contract i d) r new f = f
-effect-refuses hook s says.Dual r new f = f
+effect-refuses hook s (says.Remove i d) r new f = let g = f.2 in cc
+effect-refuses hook s (says.Contract i d) r new f = let g = f.2 in cc
+effect-refuses hook s says.Dual r new f = let g = f.2 in cc
 effect-refuses hook s (says.Rule i merge split) r new f = let g = f.4.0 in cc
 effect-refuses hook s (says.Set i d value) r new f = let g = f.2 in cc
 effect-refuses hook s (says.Clear i d) r new f = let g = f.2 in cc
@@ -67,9 +73,14 @@ effect-refuses hook s (says.Mark name) r new f = f
 effect-refuses hook s (says.Undo name) r new f = f
 effect-refuses hook s (says.Log name) r new f = f
 effect-refuses hook s (says.Value i d) r new f = let g = f.0 in cc
-effect-refuses hook s (says.Removable i d) r new f = f
-effect-refuses hook s (says.Contractible i d) r new f = f
+effect-refuses hook s (says.Removable i d) r new f = let g = f.2 in cc
+effect-refuses hook s (says.Contractible i d) r new f = let g = f.2 in cc
 effect-refuses hook s says.Off r new f = f
+
+-- A change of links by which no dart is born and those of Ended end: what sewing, unsewing, removal and contraction are.
+abbrev Changes : Meaning → State → (ℕ → Type 0) → (Links → Type 0) → Reply → State → Type 0
+Changes hook s Ended Becomes reply new =
+    (next : Content) × IsRelinked hook s.present 0 Ended Becomes next × (reply ≡ Done 0 0) × (new ≡ steps_to s next)
 
 -- what is told and leaves one state
 abbrev IsOne : State → (Reply → State → Type 0) → Type 0
@@ -107,6 +118,14 @@ module _ (c : Content) (kept : IsKept c) where
   unsewn-lawful : (i d : ℕ) → (N : Links) → IsUnsewn c.kind i d (links_in c) N → Laws c.kind N
   unsewn-lawful i d N unsewn = unsewing_keeps c.kind (links_in c) (laws-of c kept) i d N unsewn
 
+  removed-lawful : (i d : ℕ) → IsLive c.rows d → IsRemovable c.kind (links_in c) i d → (N : Links) → IsRemoved c.kind i d (links_in c) N → Laws c.kind N
+  removed-lawful i d live can N removed =
+      removed_laws c.kind (made c.rows) i d (links_in c) N (laws-of c kept) (rows_made c.rows) (dart-some d live) can removed
+
+  contracted-lawful : (i d : ℕ) → IsLive c.rows d → IsContractible c.kind (links_in c) i d → (N : Links) → IsContracted c.kind i d (links_in c) N → Laws c.kind N
+  contracted-lawful i d live can N contracted =
+      contracted_laws c.kind (made c.rows) i d (links_in c) N (laws-of c kept) (rows_made c.rows) (dart-some d live) can contracted
+
   wide : 1 ≤ c.dim
   wide = let flat = kept.flat in omega arith
 
@@ -136,9 +155,21 @@ module _ (c : Content) (kept : IsKept c) where
       (subst (λ (r : Rows). IsSound c.kind c.dim (slice_set r d None)) (append-nil c.rows) (after-sound c.kind c.dim c.rows (death_edit d) kept.begun kept.sound fits few))
 
 module _ (hook : Meaning) (s : State) where
-  relinks-one : (Becomes : Links → Type 0) → TellsOne Becomes → IsOne s (Relinks hook s Becomes)
-  relinks-one Becomes tells one other new new' e f =
-      (e.2 ∙ sym f.2, e.3 ∙ ap (steps_to s) (relinked-one hook s.present 0 NoDart Becomes Becomes tells e.0 f.0 e.1 f.1) ∙ sym f.3)
+  -- a change of links has one reply, and leads to one state where its links are told
+  changes-reply : (Ended : ℕ → Type 0) (Becomes : Links → Type 0) → HasOneReply (Changes hook s Ended Becomes)
+  changes-reply Ended Becomes one other new new' e f = e.2 ∙ sym f.2
+
+  changes-one : (Ended : ℕ → Type 0) (Becomes : Links → Type 0) → TellsOne Becomes → IsOne s (Changes hook s Ended Becomes)
+  changes-one Ended Becomes tells one other new new' e f =
+      (e.2 ∙ sym f.2, e.3 ∙ ap (steps_to s) (relinked-one hook s.present 0 Ended Becomes Becomes tells e.0 f.0 e.1 f.1) ∙ sym f.3)
+
+  removes-one : (i d : ℕ) → d ≢ 0 → HasLaws s.present → IsRemovable s.present.kind (links_in s.present) i d → IsOne s (Effect hook s (says.Remove i d))
+  removes-one i d dart laws can = changes-one _ _
+      (λ N M b c. removed_one (made s.present.rows) d (links_in s.present) N M (rows_made s.present.rows) dart s.present.kind i laws can b c)
+
+  contracts-one : (i d : ℕ) → d ≢ 0 → HasLaws s.present → IsContractible s.present.kind (links_in s.present) i d → IsOne s (Effect hook s (says.Contract i d))
+  contracts-one i d dart laws can = changes-one _ _
+      (λ N M b c. contracted_one (made s.present.rows) d (links_in s.present) N M (rows_made s.present.rows) dart s.present.kind i laws can b c)
 
   -- an insertion has one reply, and leads to one state where its links are told
   inserts-reply : (K : ℕ → Type 0) (Becomes : (ℕ → ℕ) → Links → Type 0) → HasOneReply (Inserts hook s K Becomes)
@@ -149,62 +180,65 @@ module _ (hook : Meaning) (s : State) where
   inserts-one K Becomes tells one other new new' e f =
       (inserts-reply K Becomes one other new new' e f, e.4 ∙ ap (steps_to s) (grown-one hook s.present K Becomes e.0 f.0 e.1 f.1 e.2 f.2 tells) ∙ sym f.4)
 
-  effect-one : (line : Line) → (NeedsLaws line s.present.kind → Laws s.present.kind (links_in s.present)) → AllPass (checks s line) → IsOne s (Effect hook s line)
-  effect-one (says.Polygon sides) laws p = gives-one s _ _
-  effect-one says.Dart laws p = gives-one s _ _
-  effect-one (says.Del d) laws p = gives-one s _ _
-  effect-one (says.Sew i d e) laws p = relinks-one _ (sewn-one s.present.kind i d e (links_in s.present))
-  effect-one (says.Unsew i d) laws p = relinks-one _ (unsewn-one s.present.kind i d (links_in s.present))
-  effect-one (says.Rule i merge split) laws p = λ one other new new' e f.
+  effect-one : (line : Line) → Needs line s.present → AllPass (checks s line) → IsOne s (Effect hook s line)
+  effect-one (says.Polygon sides) needs p = gives-one s _ _
+  effect-one says.Dart needs p = gives-one s _ _
+  effect-one (says.Del d) needs p = gives-one s _ _
+  effect-one (says.Sew i d e) needs p = changes-one _ _ (sewn-one s.present.kind i d e (links_in s.present))
+  effect-one (says.Unsew i d) needs p = changes-one _ _ (unsewn-one s.present.kind i d (links_in s.present))
+  effect-one (says.Rule i merge split) needs p = λ one other new new' e f.
       let merges = some-one (named_merge merge) e.0 f.0 e.2 f.2 in
       let splits = some-one (named_split split) e.1 f.1 e.3 f.3 in
       (e.4.0 ∙ sym f.4.0, e.4.1 ∙ rw (merges, splits) refl ∙ sym f.4.1)
-  effect-one (says.Set i d value) laws p = given-one s i d _
-  effect-one (says.Clear i d) laws p = given-one s i d _
-  effect-one (says.Value i d) laws p = gives-one s _ _
-  effect-one (says.Cell i d) laws p = λ one other new new' e f.
+  effect-one (says.Set i d value) needs p = given-one s i d _
+  effect-one (says.Clear i d) needs p = given-one s i d _
+  effect-one (says.Value i d) needs p = gives-one s _ _
+  effect-one (says.Cell i d) needs p = λ one other new new' e f.
       (e.3 ∙ ap Darts (darts-one _ e.0 f.0 e.1 f.1 e.2 f.2) ∙ sym f.3, e.4 ∙ sym f.4)
-  effect-one (says.Same i d e) laws p = tells-one s _
-  effect-one (says.Free i d) laws p = tells-one s _
-  effect-one (says.Sewable i d e) laws p = tells-one s _
-  effect-one says.Count laws p = λ one other new new' e f.
+  effect-one (says.Same i d e) needs p = tells-one s _
+  effect-one (says.Free i d) needs p = tells-one s _
+  effect-one (says.Sewable i d e) needs p = tells-one s _
+  effect-one says.Count needs p = λ one other new new' e f.
       (e.2 ∙ ap Counts (counts-one s.present.kind s.present.dim s.present.rows e.0 f.0 e.1 f.1) ∙ sym f.2, e.3 ∙ sym f.3)
-  effect-one says.Show laws p = λ one other new new' e f.
+  effect-one says.Show needs p = λ one other new new' e f.
       (e.2 ∙ ap (λ (values : List ListValue). Shown (listing_with s.present values)) (one-listing s.present e.0 f.0 e.1 f.1) ∙ sym f.2, e.3 ∙ sym f.3)
-  effect-one (says.Vertex d) laws p = inserts-one _ _ (vertex-one s.present.kind (links_in s.present) d)
-  effect-one (says.Edge d e) laws p = inserts-one _ _ (edge-one s.present.kind (links_in s.present) d e laws p.1.1.1.0 p.1.1.1.1.0)
-  effect-one (says.Face path) laws p = inserts-one _ _ (face-one s.present.kind (links_in s.present) path laws p.1.1.1.0 p.1.1.1.1.0)
-  effect-one (says.Remove i d) laws p = λ one other new new' e f. absurd e
-  effect-one (says.Contract i d) laws p = λ one other new new' e f. absurd e
-  effect-one says.Dual laws p = λ one other new new' e f. absurd e
-  effect-one (says.Mark name) laws p = λ one other new new' e f. absurd e
-  effect-one (says.Undo name) laws p = λ one other new new' e f. absurd e
-  effect-one (says.Log name) laws p = λ one other new new' e f. absurd e
-  effect-one (says.Removable i d) laws p = λ one other new new' e f. absurd e
-  effect-one (says.Contractible i d) laws p = λ one other new new' e f. absurd e
-  effect-one says.Off laws p = λ one other new new' e f. absurd e
+  effect-one (says.Vertex d) needs p = inserts-one _ _ (vertex-one s.present.kind (links_in s.present) d)
+  effect-one (says.Edge d e) needs p = inserts-one _ _ (edge-one s.present.kind (links_in s.present) d e needs p.1.1.1.0 p.1.1.1.1.0)
+  effect-one (says.Face path) needs p = inserts-one _ _ (face-one s.present.kind (links_in s.present) path needs p.1.1.1.0 p.1.1.1.1.0)
+  effect-one (says.Remove i d) needs p = removes-one i d (needs.0 p.1.0) needs.1 p.1.1.0
+  effect-one (says.Contract i d) needs p = contracts-one i d (needs.0 p.1.0) needs.1 p.1.1.0
+  effect-one says.Dual needs p = λ one other new new' e f.
+      (e.2 ∙ sym f.2, e.3 ∙ ap (steps_to s) (dualled-one s.present e.0 f.0 e.1 f.1) ∙ sym f.3)
+  effect-one (says.Mark name) needs p = λ one other new new' e f. absurd e
+  effect-one (says.Undo name) needs p = λ one other new new' e f. absurd e
+  effect-one (says.Log name) needs p = λ one other new new' e f. absurd e
+  effect-one (says.Removable i d) needs p = tells-one s _
+  effect-one (says.Contractible i d) needs p = tells-one s _
+  effect-one says.Off needs p = λ one other new new' e f. absurd e
 
   effect-reply : (line : Line) → AllPass (checks s line) → HasOneReply (Effect hook s line)
   effect-reply (says.Edge d e) p = inserts-reply _ _
   effect-reply (says.Face path) p = inserts-reply _ _
-  effect-reply line p = λ one other new new' e f. (effect-one line (λ needs. absurd needs) p one other new new' e f).0
+  effect-reply (says.Remove i d) p = changes-reply _ _
+  effect-reply (says.Contract i d) p = changes-reply _ _
+  effect-reply line p = λ one other new new' e f. (effect-one line tt p one other new new' e f).0
 
   pub step-reply : (line : Line) → HasOneReply (Step hook s line)
   step-reply line one other new new' =
       judged-both s (Effect hook s line) one other new new' (one ≡ other) (λ r e f here there. e ∙ sym f) (checks s line) (ordered s line)
       (λ passes. effect-reply line passes one other new new')
 
-  -- a step leads to one state, where its line needs no lawful links or they are lawful
-  pub step-lawful : (line : Line) → (NeedsLaws line s.present.kind → Laws s.present.kind (links_in s.present)) → IsOne s (Step hook s line)
-  step-lawful line laws one other new new' =
+  -- a step leads to one state where the present content has what its line needs
+  pub step-needed : (line : Line) → Needs line s.present → IsOne s (Step hook s line)
+  step-needed line needs one other new new' =
       judged-both s (Effect hook s line) one other new new' ((one ≡ other) × (new ≡ new')) (λ r e f here there. (e ∙ sym f, here ∙ sym there)) (checks s line) (ordered s line)
-      (λ passes. effect-one line laws passes one other new new')
+      (λ passes. effect-one line needs passes one other new new')
 
 module _ (hook : Meaning) (s : State) (kept : AreKept s) where
-  relinks-kept : (Becomes : Links → Type 0) → ((N : Links) → Becomes N → Laws s.present.kind N) → (reply : Reply) (new : State) → Relinks hook s Becomes reply new → AreKept new
-  relinks-kept Becomes lawful reply new e =
+  changes-kept : (Ended : ℕ → Type 0) (Becomes : Links → Type 0) → ((N : Links) → Becomes N → Laws s.present.kind N) → (reply : Reply) (new : State) → Changes hook s Ended Becomes reply new → AreKept new
+  changes-kept Ended Becomes lawful reply new e =
       let few : made s.present.rows + 0 ≤ made_max = (let f = kept.present.sound.few in omega arith) in
-      subst AreKept (sym e.3) (kept-step s e.0 kept (kept-relinked hook s.present kept.present 0 NoDart Becomes e.0 few (lawful (links_of e.0.rows) e.1.links) e.1))
+      subst AreKept (sym e.3) (kept-step s e.0 kept (kept-relinked hook s.present kept.present 0 Ended Becomes e.0 few (lawful (links_of e.0.rows) e.1.links) e.1))
 
   laws : Laws s.present.kind (links_in s.present)
   laws = laws-of s.present kept.present
@@ -215,9 +249,17 @@ module _ (hook : Meaning) (s : State) (kept : AreKept s) where
   inserts-kept K Becomes live room lawful reply new e =
       subst AreKept (sym e.4) (kept-step s e.1 kept (kept-grown hook s.present kept.present K live Becomes room lawful e.0 e.1 e.2))
 
+  -- such a state has what each line needs
+  needs-kept : (line : Line) → Needs line s.present
+  needs-kept (says.Edge d e) = λ is. laws
+  needs-kept (says.Face path) = λ is. laws
+  needs-kept (says.Remove i d) = (dart-some s.present kept.present d, laws)
+  needs-kept (says.Contract i d) = (dart-some s.present kept.present d, laws)
+  needs-kept line = tt
+
   -- every line leads to one state from a state that keeps what the machine's states keep
   pub step-one-kept : (line : Line) → IsOne s (Step hook s line)
-  step-one-kept line = step-lawful hook s line (λ needs. laws)
+  step-one-kept line = step-needed hook s line (needs-kept line)
 
   at-next : (next : Content) (new : State) → IsKept next → new ≡ steps_to s next → AreKept new
   at-next next new is e = subst AreKept (sym e) (kept-step s next kept is)
@@ -229,8 +271,8 @@ module _ (hook : Meaning) (s : State) (kept : AreKept s) where
   effect-kept (says.Polygon sides) p reply new e = at-next _ new (polygon-kept s.present kept.present sides (not-above p.1.0)) e.1
   effect-kept says.Dart p reply new e = at-next _ new (dart-kept s.present kept.present (not-above p.0)) e.1
   effect-kept (says.Del d) p reply new e = at-next _ new (ended-kept s.present kept.present d p.0 p.1.0) e.1
-  effect-kept (says.Sew i d e) p reply new f = relinks-kept _ (sewn-lawful s.present kept.present i d e p.1.0 p.1.1.0 p.1.1.1.0 p.1.1.1.1.0) reply new f
-  effect-kept (says.Unsew i d) p reply new f = relinks-kept _ (unsewn-lawful s.present kept.present i d) reply new f
+  effect-kept (says.Sew i d e) p reply new f = changes-kept _ _ (sewn-lawful s.present kept.present i d e p.1.0 p.1.1.0 p.1.1.1.0 p.1.1.1.1.0) reply new f
+  effect-kept (says.Unsew i d) p reply new f = changes-kept _ _ (unsewn-lawful s.present kept.present i d) reply new f
   effect-kept (says.Rule i merge split) p reply new e = at-next _ new (kept-ruled s.present kept.present i _ (not-above p.0)) e.4.1
   effect-kept (says.Set i d value) p reply new e = at-next _ new (kept-valued s.present kept.present i d p.1.0 (Some value) (λ none. absurd (p.1.1.0 none)) e.0 e.1) e.3
   effect-kept (says.Clear i d) p reply new e = at-next _ new (kept-valued s.present kept.present i d p.1.0 None (λ none. refl) e.0 e.1) e.3
@@ -252,14 +294,14 @@ module _ (hook : Meaning) (s : State) (kept : AreKept s) where
       (λ x h. face-live s.present.kind s.present.rows laws path x p.1.0 h) p.1.1.1.1.1.0
       (λ star N fresh becomes. face_keeps s.present.kind path star (links_in s.present) N laws
       (λ b h. dart-some s.present kept.present b (All-contains (IsLive s.present.rows) path b p.1.0 h)) p.1.1.1.0 p.1.1.1.1.0 fresh becomes) reply new f
-  effect-kept (says.Remove i d) p reply new e = absurd e
-  effect-kept (says.Contract i d) p reply new e = absurd e
-  effect-kept says.Dual p reply new e = absurd e
+  effect-kept (says.Remove i d) p reply new f = changes-kept _ _ (removed-lawful s.present kept.present i d p.1.0 p.1.1.0) reply new f
+  effect-kept (says.Contract i d) p reply new f = changes-kept _ _ (contracted-lawful s.present kept.present i d p.1.0 p.1.1.0) reply new f
+  effect-kept says.Dual p reply new e = at-next _ new (kept-dualled s.present kept.present p.0 e.0 e.1) e.3
   effect-kept (says.Mark name) p reply new e = absurd e
   effect-kept (says.Undo name) p reply new e = absurd e
   effect-kept (says.Log name) p reply new e = absurd e
-  effect-kept (says.Removable i d) p reply new e = absurd e
-  effect-kept (says.Contractible i d) p reply new e = absurd e
+  effect-kept (says.Removable i d) p reply new f = stays new f.3
+  effect-kept (says.Contractible i d) p reply new f = stays new f.3
   effect-kept says.Off p reply new e = absurd e
 
   pub step-kept : (line : Line) (reply : Reply) (new : State) → Step hook s line reply new → AreKept new

@@ -10,11 +10,10 @@ ghost use Rattle.map_defs.specs.Loading.{IsLoaded};
 ghost use Rattle.map_defs.specs.Kept.{AreKept};
 ghost use Rattle.map_defs.specs.Script.{Line};
 ghost use Rattle.map_defs.specs.Text.{Reply, Refused};
-ghost use Rattle.map_defs.specs.Laws.{Laws};
-ghost use Rattle.map_defs.specs.Machine.{Step, Run, FailsFor, checks, links_in};
+ghost use Rattle.map_defs.specs.Machine.{Step, Run, FailsFor, checks};
 ghost use Rattle.map_defs.specs.Outside.{Files, IsFront};
 ghost use Rattle.map_defs.specs.Program.{Answers, Starts};
-ghost use Rattle.machine_laws.specs.Needs.{NeedsLaws};
+ghost use Rattle.machine_laws.specs.Needs.{Needs};
 
 /// The refusal that a line gets is one whose condition holds, with the least number of all whose condition holds; and the
 /// state is as it was. So a user can read the table of refusals line by line.
@@ -33,15 +32,16 @@ pub fn accepted_without_refusal()
         ((r : Refusal) → reply ≡ Refused r → ⊥) → (q : Refusal) → FailsFor (checks s line) q → ⊥ }
 {}
 
-/// A line has one reply and leads to one state. Of an edge in a combinatorial map and of a face in a generalized map the
-/// second holds where the links obey the laws, as they do in every state of a run: in a map that breaks them such a line
-/// may leave a link of a new dart open.
+/// A line has one reply, in every state, and leads to one state where the present content has what the line needs. An edge
+/// in a combinatorial map and a face in a generalized map need links that obey the laws; a cell that is removed or
+/// contracted needs them in both kinds, and that its dart, if it lives, is not 0; no other line needs anything. Each content
+/// of a run has what all lines need. In a map that breaks the laws an edge or a face may leave a link of a new dart open,
+/// and a walk across the cell may go on for ever, so that nothing tells a link.
 pub fn one_step()
     ensures reply { (hook : Meaning) (s : State) (line : Line) (one other : Reply) (new new' : State) → Step hook s line one new
         → Step hook s line other new' → one ≡ other }
     ensures state { (hook : Meaning) (s : State) (line : Line) (one other : Reply) (new new' : State)
-        → (NeedsLaws line s.present.kind → Laws s.present.kind (links_in s.present)) → Step hook s line one new
-        → Step hook s line other new' → new ≡ new' }
+        → Needs line s.present → Step hook s line one new → Step hook s line other new' → new ≡ new' }
 {}
 
 /// Every state of a run keeps what the first one keeps: each content is a lawful map, whose entries name live darts, with

@@ -9,3 +9,5 @@ pub mod CellIds
 pub mod Loaded
 pub mod Planned
 pub mod InsertingSteps
+pub mod RemovingSteps
+pub mod DualSteps

@@ -7,6 +7,7 @@
 #![tactic(auto)]
 
 mod change;
+mod dual;
 mod insert;
 mod list;
 mod load;
@@ -14,6 +15,7 @@ mod make;
 mod map;
 mod question;
 mod relabel;
+mod remove;
 mod sew;
 #[cfg(test)]
 mod tests;

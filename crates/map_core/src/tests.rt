@@ -122,6 +122,43 @@ fn inserts_cells(rt: HostRuntime) -> Result<(), Fail> {
 }
 
 #[test]
+fn removes_and_contracts_cells(rt: HostRuntime) -> Result<(), Fail> {
+    let alloc = rt.alloc();
+    let mut map = Map::<'_, Alpha, FirstCopy, 2>::new(alloc, &FirstCopy);
+    assert!(&rt; map.polygon(alloc, 3).is_ok());
+    assert!(&rt; map.vertex(alloc, 1).is_ok());
+    assert_eq!(&rt; map.removable(alloc, 0, 7), Ok(true));
+    assert_eq!(&rt; map.contractible(alloc, 0, 7), Ok(false));
+    assert_eq!(&rt; map.remove(alloc, 0, 7), Ok(DONE));
+    assert_eq!(&rt;
+        map.remove(alloc, 0, 7),
+        Err(Refused::Line(Refusal::NoDart))
+    );
+    assert_eq!(&rt;
+        map.contract(alloc, 0, 1),
+        Err(Refused::Line(Refusal::NotContractible))
+    );
+    assert_eq!(&rt; map.contract(alloc, 1, 1), Ok(DONE));
+    assert_eq!(&rt; map.count(alloc)?.as_slice(), [4, 2, 2, 1, 1].as_slice());
+    Ok(())
+}
+
+#[test]
+fn takes_the_dual(rt: HostRuntime) -> Result<(), Fail> {
+    let alloc = rt.alloc();
+    let mut map = Map::<'_, Alpha, FirstCopy, 2>::new(alloc, &FirstCopy);
+    assert!(&rt; map.polygon(alloc, 3).is_ok());
+    assert_eq!(&rt; map.dual(), Err(Refused::Line(Refusal::Boundary)));
+    assert!(&rt; map.polygon(alloc, 3).is_ok());
+    for (dart, other) in [(1, 7), (3, 9), (5, 11)] {
+        assert_eq!(&rt; map.sew(alloc, 2, dart, other), Ok(DONE));
+    }
+    assert_eq!(&rt; map.dual(), Ok(DONE));
+    assert_eq!(&rt; map.count(alloc)?.as_slice(), [12, 2, 3, 3, 1].as_slice());
+    Ok(())
+}
+
+#[test]
 fn a_polygon_in_dimension_eight(rt: HostRuntime) -> Result<(), Fail> {
     let alloc = rt.alloc();
     let mut map = Map::<'_, Alpha, FirstCopy, 8>::new(alloc, &FirstCopy);

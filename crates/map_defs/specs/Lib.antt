@@ -10,6 +10,7 @@ pub mod Values
 pub mod RuleNames
 pub mod Refusal
 pub mod State
+pub mod Difference
 pub mod Polygon
 pub mod Listing
 pub mod Off
@@ -32,7 +33,9 @@ pub mod Closing
 pub mod Removal
 pub mod Contraction
 pub mod Dual
+pub mod Dualling
 pub mod Touched
 pub mod Carry
 pub mod Totals
+pub mod LogText
 pub mod Program

@@ -17,12 +17,16 @@ use Rattle.map_defs.specs.State.{State, Content, value_at, rule_at, with_born, w
 use Rattle.map_defs.specs.Relinking.{IsRelinked, NoDart}
 use Rattle.map_defs.specs.Insertion.{AreOnOneSide, FaceDarts, IsOnOneVolume, IsClosedPath, IsFacePaired, IsFace}
 use Rattle.map_defs.specs.Inserting.{VertexDarts, IsVertex, InCorner, EdgeDarts, AreEdgePaired, IsEdge, IsTooMany, IsGrown}
+use Rattle.map_defs.specs.Removal.{IsRemovable, IsRemoved}
+use Rattle.map_defs.specs.Contraction.{IsContractible, IsContracted}
+use Rattle.map_defs.specs.Dual.{IsDualable}
+use Rattle.map_defs.specs.Dualling.{IsDualOf}
 use Rattle.map_defs.specs.Valuing.{IsValued}
 use Rattle.map_defs.specs.Refusal as why
 use Rattle.map_defs.specs.Refusal.{Refusal}
 use Rattle.map_defs.specs.Listing.{ListValue, ListsValues, listing_with}
 use Rattle.map_defs.specs.Text.{Reply, Done, Truth, Darts, Worth, Counts, Shown, Refused}
-use Rattle.map_defs.specs.Script.{Line, Polygon, Dart, Del, Sew, Unsew, Vertex, Edge, Face, Rule, Set, Clear, Cell, Same, Free, Value, Sewable, Count, Show, words_of, line_of}
+use Rattle.map_defs.specs.Script.{Line, Polygon, Dart, Del, Sew, Unsew, Vertex, Edge, Face, Remove, Contract, Dual, Rule, Set, Clear, Cell, Same, Free, Value, Removable, Contractible, Sewable, Count, Show, words_of, line_of}
 
 -- a refusal with the condition under which a line fails by it, and that under which it passes
 pub record Check : Type 1 where
@@ -98,6 +102,11 @@ checks_on c (Face path) =
     refuse_if (c.dim < 3) why.BadDim ∷ path_check c path ∷ refuse_unless (IsOnOneVolume (links_in c) path) why.OtherCell
     ∷ refuse_unless (IsClosedPath c.kind (links_in c) path) why.NotClosed ∷ refuse_unless (IsFacePaired c.kind (links_in c) path) why.Unpaired
     ∷ room_check c (FaceDarts c.kind (links_in c) path) ∷ []
+checks_on c (Remove i d) =
+    dimension_check c i ∷ live_check c d ∷ refuse_unless (IsRemovable c.kind (links_in c) i d) why.NotRemovable ∷ []
+checks_on c (Contract i d) =
+    dimension_check c i ∷ live_check c d ∷ refuse_unless (IsContractible c.kind (links_in c) i d) why.NotContractible ∷ []
+checks_on c Dual = refuse_unless (IsDualable c.kind c.dim (links_in c) (IsLive c.rows)) why.Boundary ∷ []
 checks_on c (Rule i merge split) = dimension_check c i ∷ refuse_unless (AreNames merge split) why.NoRule ∷ []
 checks_on c (Set i d value) = dimension_check c i ∷ live_check c d ∷ rule_check c i ∷ []
 checks_on c (Clear i d) = dimension_check c i ∷ live_check c d ∷ rule_check c i ∷ []
@@ -105,6 +114,8 @@ checks_on c (Value i d) = dimension_check c i ∷ live_check c d ∷ []
 checks_on c (Cell i d) = dimension_check c i ∷ live_check c d ∷ []
 checks_on c (Same i d e) = dimension_check c i ∷ live_check c d ∷ live_check c e ∷ []
 checks_on c (Free i d) = dimension_check c i ∷ live_check c d ∷ []
+checks_on c (Removable i d) = dimension_check c i ∷ live_check c d ∷ []
+checks_on c (Contractible i d) = dimension_check c i ∷ live_check c d ∷ []
 checks_on c (Sewable i d e) = link_check c i ∷ live_check c d ∷ live_check c e ∷ []
 checks_on c Count = []
 checks_on c Show = []
@@ -138,6 +149,12 @@ abbrev pub Inserts : Meaning → State → (ℕ → Type 0) → ((ℕ → ℕ) �
 Inserts hook s K Becomes reply new = (births : ℕ) × (next : Content) × IsGrown hook s.present K Becomes births next
     × (reply ≡ Done (made s.present.rows + 1) births) × (new ≡ steps_to s next)
 
+-- A change of links by which the darts of the i-cell of d end.
+abbrev pub Ends : Meaning → State → ℕ → ℕ → (Links → Type 0) → Reply → State → Type 0
+Ends hook s i d Becomes reply new = (next : Content)
+    × IsRelinked hook s.present 0 (InCell s.present.kind (links_in s.present) i d) Becomes next
+    × (reply ≡ Done 0 0) × (new ≡ steps_to s next)
+
 -- A cell is given a value, or it is taken.
 abbrev pub Values : State → ℕ → ℕ → Option values.Value → Reply → State → Type 0
 Values s i d value reply new = (next : Content) × IsValued s.present i d value next × (reply ≡ Done 0 0) × (new ≡ steps_to s next)
@@ -160,6 +177,9 @@ Effect hook s (Edge d e) =
     Inserts hook s (EdgeDarts s.present.kind (links_in s.present) d e) (λ star. IsEdge s.present.kind d e star (links_in s.present))
 Effect hook s (Face path) =
     Inserts hook s (FaceDarts s.present.kind (links_in s.present) path) (λ star. IsFace s.present.kind path star (links_in s.present))
+Effect hook s (Remove i d) = Ends hook s i d (IsRemoved s.present.kind i d (links_in s.present))
+Effect hook s (Contract i d) = Ends hook s i d (IsContracted s.present.kind i d (links_in s.present))
+Effect hook s Dual = λ reply new. (next : Content) × IsDualOf s.present next × (reply ≡ Done 0 0) × (new ≡ steps_to s next)
 Effect hook s (Rule i merge split) = λ reply new. (m : values.Merge) × (p : values.Split)
     × (named_merge merge ≡ Some m) × (named_split split ≡ Some p)
     × Gives (Done 0 0) (steps_to s (with_rule s.present i (record { merge = m; split = p }))) reply new
@@ -170,6 +190,8 @@ Effect hook s (Cell i d) = λ reply new. (darts : List ℕ) × IsStrictlyIncreas
     × ((e : ℕ) → Contains darts e ↔ InCell s.present.kind (links_in s.present) i d e) × (reply ≡ Darts darts) × (new ≡ s)
 Effect hook s (Same i d e) = Tells s (InCell s.present.kind (links_in s.present) i d e)
 Effect hook s (Free i d) = Tells s (links_in s.present i d ≡ 0)
+Effect hook s (Removable i d) = Tells s (IsRemovable s.present.kind (links_in s.present) i d)
+Effect hook s (Contractible i d) = Tells s (IsContractible s.present.kind (links_in s.present) i d)
 Effect hook s (Sewable i d e) = Tells s (IsSewable s.present.kind (links_in s.present) i d e)
 Effect hook s Count = λ reply new. (counts : List ℕ) × AreCounts s.present.kind s.present.dim s.present.rows counts
     × (reply ≡ Counts counts) × (new ≡ s)

@@ -1,11 +1,11 @@
 -- The map of a mesh: its sides, its links, its faults and its points. Source: the usual reading of a face list.
-use Rattle.std.specs.Prelude.{ℕ, ◌≡◌, ◌≢◌, ◌+◌, ◌*◌, ◌<◌, ◌≤◌, min, max, ◌==◌, nat_lt, ◌&&◌, ◌⊎◌, ◌↔◌, Bool, true, false, List, [], ◌∷◌, ◌++◌, length, map, filter, All, Contains, Option, Some, None, slice_index, slice_get, if◌then◌else◌}
+use Rattle.std.specs.Prelude.{ℕ, ◌≡◌, ◌≢◌, ◌+◌, ◌*◌, ◌≤◌, min, max, ◌==◌, nat_lt, ◌&&◌, ◌⊎◌, ◌↔◌, Bool, true, false, List, [], ◌∷◌, ◌++◌, length, map, filter, All, Contains, Option, Some, None, slice_index, slice_get, if◌then◌else◌}
 use Rattle.std.specs.List.{AllPairs, list_any, range_with_len}
 use Rattle.std.specs.List.Sorted.{IsStrictlyIncreasing}
 use Rattle.map_defs.specs.Kind.{Kind, alpha, beta}
 use Rattle.map_defs.specs.Links.{Links, HasDimension}
 use Rattle.map_defs.specs.Laws.{Laws}
-use Rattle.map_defs.specs.Rows.{Rows, links_of, IsLive, made_max}
+use Rattle.map_defs.specs.Rows.{links_of, IsLive, made_max}
 use Rattle.map_defs.specs.Edits.{Edit, Fits, after_edit}
 use Rattle.map_defs.specs.Cells.{InCell, NamesCell}
 use Rattle.map_defs.specs.Polygon.{per_side, next_side, previous_side}

@@ -14,6 +14,8 @@ mod meshes;
 #[cfg(test)]
 mod polygons;
 #[cfg(test)]
+mod removals;
+#[cfg(test)]
 mod values;
 #[cfg(test)]
 mod words;

@@ -7,11 +7,11 @@ use std::alloc::{AllocError, Global};
 use std::process::Abort;
 
 /// A mesh, a script, what the program writes for them, and its status.
-struct MeshRow {
-    mesh: &'static str,
-    script: &'static str,
-    text: &'static str,
-    status: u8,
+pub struct MeshRow {
+    pub mesh: &'static str,
+    pub script: &'static str,
+    pub text: &'static str,
+    pub status: u8,
 }
 
 /// The files `m` and `s`.
@@ -40,7 +40,7 @@ impl Shelf for TwoFiles {
 }
 
 /// Runs each row in a dimension, and compares the text and the status.
-fn check_meshes(
+pub fn check_meshes(
     rt: &impl Abort,
     alloc: Global,
     dim: &str,
@@ -64,10 +64,13 @@ fn check_meshes(
     Ok(())
 }
 
+/// A cube, with a point that no face has.
+pub const CUBE: &str =
+    "OFF  # a cube of side two\n9 6 0\n\n0 0 0\n2.000 0 0\n2 2 0\n0 2.0 0\n0 0 2\n2 0 2\n2 2 2\n0 2 2\n9 9 9   # used by no face\n4  0 3 2 1  255 0 0\n4  4 5 6 7  0 255 0\n4  0 1 5 4\n4  1 2 6 5\n4  2 3 7 6\n4  3 0 4 7\n";
+
 const MESHES: [MeshRow; 14] = [
-    // a cube, with a point that no face has
     MeshRow {
-        mesh: "OFF  # a cube of side two\n9 6 0\n\n0 0 0\n2.000 0 0\n2 2 0\n0 2.0 0\n0 0 2\n2 0 2\n2 2 2\n0 2 2\n9 9 9   # used by no face\n4  0 3 2 1  255 0 0\n4  4 5 6 7  0 255 0\n4  0 1 5 4\n4  1 2 6 5\n4  2 3 7 6\n4  3 0 4 7\n",
+        mesh: CUBE,
         script: "count\ncell 0 1\nvalue 0 1\n",
         text: "count 48 8 12 6 1\ncell 1 8 17 24 42 43\nvalue 0 0 0\n",
         status: 0,

@@ -70,6 +70,9 @@ fn step<H: Hook, const DIM: usize>(
         Line::Vertex(dart) => done(map.vertex(alloc, *dart)),
         Line::Edge(one, other) => done(map.edge(alloc, *one, *other)),
         Line::Face(path) => done(map.face(alloc, path)),
+        Line::Remove(dim, dart) => done(map.remove(alloc, *dim, *dart)),
+        Line::Contract(dim, dart) => done(map.contract(alloc, *dim, *dart)),
+        Line::Dual => done(map.dual()),
         Line::Rule(dim, merge, split) => {
             done(map.rule(alloc, *dim, merge.as_str(), split.as_str()))
         }
@@ -79,17 +82,13 @@ fn step<H: Hook, const DIM: usize>(
         Line::Cell(dim, dart) => darts(map.cell(alloc, *dim, *dart)),
         Line::Same(dim, one, other) => truth(map.same(alloc, *dim, *one, *other)),
         Line::Free(link, dart) => told(map.free(*link, *dart)),
+        Line::Removable(dim, dart) => truth(map.removable(alloc, *dim, *dart)),
+        Line::Contractible(dim, dart) => truth(map.contractible(alloc, *dim, *dart)),
         Line::Sewable(link, one, other) => truth(map.sewable(alloc, *link, *one, *other)),
         Line::Count => counts(map.count(alloc)),
         Line::Show => Ok(Answer::Listing(map.listing(alloc)?)),
-        Line::Remove(_, _)
-        | Line::Contract(_, _)
-        | Line::Dual
-        | Line::Mark(_)
-        | Line::Undo(_)
-        | Line::Log(_)
-        | Line::Removable(_, _)
-        | Line::Contractible(_, _)
-        | Line::Off => Ok(Answer::Line(Reply::No(Refusal::Syntax))),
+        Line::Mark(_) | Line::Undo(_) | Line::Log(_) | Line::Off => Ok(Answer::Line(Reply::No(
+            Refusal::Syntax,
+        ))),
     }
 }

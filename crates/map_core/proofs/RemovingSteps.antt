@@ -1,0 +1,76 @@
+-- What the machine does where a cell is removed or contracted, by what the plans answer.
+use Rattle.std.proofs.Common.{◌≡◌, ℕ, ◌<◌, ◌⊎◌, ◌↔◌, length, List, Option, Result, Err, Contains, refl, subst, inl, inr}
+use Rattle.map_kind.specs.declared.refusal.Refusal.TheVariants as told
+use Rattle.map_kind.specs.declared.refusal.Refused.{Refused}
+use Rattle.map_kind.specs.declared.refusal.Refused.TheVariants as why
+use Rattle.map_defs.specs.Kind.{Kind}
+use Rattle.map_defs.specs.Links.{Links}
+use Rattle.map_defs.specs.Rows.{Rows, links_of, IsLive, IsSound}
+use Rattle.map_defs.specs.Cells.{InCell}
+use Rattle.map_defs.specs.Edits.{Edit, Fits, after_edit}
+use Rattle.map_defs.specs.State.{State, Content, steps_to}
+use Rattle.map_defs.specs.Values.{Rule, Meaning}
+use Rattle.map_defs.specs.Relinking.{IsRelinked}
+use Rattle.map_defs.specs.Removal.{IsRemovable, IsRemoved}
+use Rattle.map_defs.specs.Contraction.{IsContractible, IsContracted}
+use Rattle.map_defs.specs.Script.{Remove, Contract}
+use Rattle.map_defs.specs.Machine.{Step}
+use Rattle.map_defs.specs.Text as text
+use Rattle.attr_pool.specs.Stores.{Store}
+use Rattle.attr_pool.specs.Labelings.{Labeling}
+use Rattle.label_laws.specs.Contents.{content_of, state_of, IsCarriedOn}
+use Rattle.label_laws.proofs.Remaking.{relinked}
+use Rattle.map_core.specs.Calls.{Does}
+use Rattle.map_core.specs.declared.map.Done.{Done}
+
+module _ (k : Kind) (n : ℕ) (rows : Rows) (l : Labeling) (p : Store) (rules : List (Option Rule)) (hook : Meaning) (s : State) (view : state_of (content_of k n rows l p rules) ≡ s) (i d : ℕ)
+    (low : n < i → ⊥) (live : IsLive s.present.rows d) where
+  -- a removal that is refused
+  pub remove-refused : (x y : ℕ) → x ≡ i → y ≡ d → (r : Refused) (result : Result Done Refused) → result ≡ Err r
+      → (r ≡ why.Line told.NotRemovable → IsRemovable k (links_of rows) x y → ⊥)
+      → (r ≡ why.NoMemory) ⊎ (r ≡ why.Line told.NotRemovable) → Does hook s (Remove i d) result s
+  remove-refused x y is_x is_y r result is fails (inl memory) = rw (is, memory) refl
+  remove-refused x y is_x is_y r result is fails (inr blocked) =
+      let cannot : IsRemovable k (links_of rows) i d → ⊥ = rw (is_x, is_y) at fails blocked in
+      let living : IsLive rows d = rw (← view) at live in
+      rw (is, blocked, ← view) (inr (low, inr (living, inl (cannot, refl, refl))))
+
+  -- a contraction that is refused
+  pub contract-refused : (x y : ℕ) → x ≡ i → y ≡ d → (r : Refused) (result : Result Done Refused) → result ≡ Err r
+      → (r ≡ why.Line told.NotContractible → IsContractible k (links_of rows) x y → ⊥)
+      → (r ≡ why.NoMemory) ⊎ (r ≡ why.Line told.NotContractible) → Does hook s (Contract i d) result s
+  contract-refused x y is_x is_y r result is fails (inl memory) = rw (is, memory) refl
+  contract-refused x y is_x is_y r result is fails (inr blocked) =
+      let cannot : IsContractible k (links_of rows) i d → ⊥ = rw (is_x, is_y) at fails blocked in
+      let living : IsLive rows d = rw (← view) at live in
+      rw (is, blocked, ← view) (inr (low, inr (living, inl (cannot, refl, refl))))
+
+  module _ (edit : Edit) (sound : IsSound k n rows) (begun : 0 < length rows) (fits : Fits k n rows edit) (births : edit.births ≡ 0)
+      (new : State) (next : Content) (on : IsCarriedOn hook (content_of k n rows l p rules) (after_edit n edit rows) next)
+      (made : new ≡ steps_to (state_of (content_of k n rows l p rules)) next) where
+    -- no dart is born, and those of C end
+    cell-ended : (C : ℕ → Type 0) → ((x : ℕ) → Contains edit.deaths x ↔ C x) → (Becomes : Links → Type 0) → Becomes (links_of (after_edit n edit rows))
+        → IsRelinked hook (content_of k n rows l p rules) 0 C Becomes next
+    cell-ended C members Becomes becomes =
+        subst (λ (born : ℕ). IsRelinked hook (content_of k n rows l p rules) born C Becomes next) births
+        (relinked k n rows edit sound begun fits C (λ x. ((members x).1, (members x).0)) hook l p rules next on Becomes becomes)
+
+    -- a removal that is obeyed
+    pub remove-obeyed : (x y : ℕ) → x ≡ i → y ≡ d → IsRemovable k (links_of rows) x y → ((z : ℕ) → Contains edit.deaths z ↔ InCell k (links_of rows) x y z)
+        → IsRemoved k x y (links_of rows) (links_of (after_edit n edit rows)) → Step hook s (Remove i d) (text.Done 0 0) new
+    remove-obeyed x y is_x is_y able members removed =
+        let can : IsRemovable k (links_of rows) i d = rw (← is_x, ← is_y) able in
+        let ended : (z : ℕ) → Contains edit.deaths z ↔ InCell k (links_of rows) i d z = rw (← is_x, ← is_y) members in
+        let done : IsRemoved k i d (links_of rows) (links_of (after_edit n edit rows)) = rw (← is_x, ← is_y) removed in
+        let living : IsLive rows d = rw (← view) at live in
+        rw (← view, made) (inr (low, inr (living, inr (can, (next, cell-ended (InCell k (links_of rows) i d) ended (IsRemoved k i d (links_of rows)) done, refl, refl)))))
+
+    -- a contraction that is obeyed
+    pub contract-obeyed : (x y : ℕ) → x ≡ i → y ≡ d → IsContractible k (links_of rows) x y → ((z : ℕ) → Contains edit.deaths z ↔ InCell k (links_of rows) x y z)
+        → IsContracted k x y (links_of rows) (links_of (after_edit n edit rows)) → Step hook s (Contract i d) (text.Done 0 0) new
+    contract-obeyed x y is_x is_y able members contracted =
+        let can : IsContractible k (links_of rows) i d = rw (← is_x, ← is_y) able in
+        let ended : (z : ℕ) → Contains edit.deaths z ↔ InCell k (links_of rows) i d z = rw (← is_x, ← is_y) members in
+        let done : IsContracted k i d (links_of rows) (links_of (after_edit n edit rows)) = rw (← is_x, ← is_y) contracted in
+        let living : IsLive rows d = rw (← view) at live in
+        rw (← view, made) (inr (low, inr (living, inr (can, (next, cell-ended (InCell k (links_of rows) i d) ended (IsContracted k i d (links_of rows)) done, refl, refl)))))

@@ -1,0 +1,98 @@
+//! Removing and contracting the cells of a generalized map.
+ghost use Rattle.std.specs.Prelude.{◌≡◌};
+ghost use Rattle.map_defs.specs.Script.{Remove, Contract, Removable, Contractible};
+ghost use Rattle.map_defs.specs.Text.{Truth};
+ghost use Rattle.map_core.specs.Calls.{Does, Answers};
+
+use crate::map::{Done, Map};
+use alpha_edit::{contract_plan, contractible, removable, remove_plan};
+use attr_rules::Hook;
+use map_kind::{Alpha, Kind, Refusal, Refused};
+use std::alloc::Global;
+
+impl<'h, H: Hook, const DIM: usize> Map<'h, Alpha, H, DIM> {
+    /// Removes a dart's cell of a dimension: its darts end, and the cells of the next dimension that met there become one.
+    /// The link of the dimension of each remaining dart that led into the cell leads to the first dart outside it, on the
+    /// walk across the cell; where that is the dart itself, the link is free. The values of the cells are carried to the
+    /// new cells. It costs the darts of the cell and the walks across it, and the cells of the darts whose links change
+    /// where a dimension has a rule, times a logarithm.
+    ///
+    /// Refused as `BadDim` exactly where the dimension is above the map's, then as `NoDart` exactly where no live dart has
+    /// the number, and then as `NotRemovable` exactly where at some dart of the cell the next two links do not commute, so
+    /// that more than two cells of the next dimension meet there. A cell of the map's dimension, or of the one below, can
+    /// always be removed.
+    pub fn remove(&mut self, alloc: Global, dim: u64, dart: u64) -> Result<Done, Refused>
+        requires { H.ready self.old.hook }
+        ensures hook { self.new.hook ≡ self.old.hook }
+        ensures does { Does (H.meaning self.old.hook) self.old.state (Remove dim dart) result self.new.state }
+    {
+        let Some(dim) = self.dimension(dim) else {
+            return Err(Refused::Line(Refusal::BadDim));
+        };
+        let Some(dart) = self.live_dart(dart) else {
+            return Err(Refused::Line(Refusal::NoDart));
+        };
+        let edit = remove_plan(alloc, &self.links, dim, dart)?;
+        self.relink(alloc, &edit)?;
+        Ok(Done::NONE)
+    }
+
+    /// Contracts a dart's cell of a dimension: its darts end, and the cells of the dimension below that it joined become
+    /// one. The link of the dimension of each remaining dart that led into the cell leads to the first dart outside it, on
+    /// the walk across the cell; where that is the dart itself, the link is free. The values of the cells are carried to
+    /// the new cells. It costs the darts of the cell and the walks across it, and the cells of the darts whose links change
+    /// where a dimension has a rule, times a logarithm.
+    ///
+    /// Refused as `BadDim` exactly where the dimension is above the map's, then as `NoDart` exactly where no live dart has
+    /// the number, and then as `NotContractible` exactly where the cell is a vertex, or is no edge and at some dart of it
+    /// the two links below do not commute. An edge can always be contracted.
+    pub fn contract(&mut self, alloc: Global, dim: u64, dart: u64) -> Result<Done, Refused>
+        requires { H.ready self.old.hook }
+        ensures hook { self.new.hook ≡ self.old.hook }
+        ensures does { Does (H.meaning self.old.hook) self.old.state (Contract dim dart) result self.new.state }
+    {
+        let Some(dim) = self.dimension(dim) else {
+            return Err(Refused::Line(Refusal::BadDim));
+        };
+        let Some(dart) = self.live_dart(dart) else {
+            return Err(Refused::Line(Refusal::NoDart));
+        };
+        let edit = contract_plan(alloc, &self.links, dim, dart)?;
+        self.relink(alloc, &edit)?;
+        Ok(Done::NONE)
+    }
+
+    /// Whether a dart's cell of a dimension can be removed: whether `remove` would not be refused as `NotRemovable`. It
+    /// costs the darts of the cell times a logarithm.
+    ///
+    /// Refused as `BadDim` exactly where the dimension is above the map's, and then as `NoDart` exactly where no live dart
+    /// has the number.
+    pub fn removable(&self, alloc: Global, dim: u64, dart: u64) -> Result<bool, Refused>
+        ensures { Answers (H.meaning self.now.hook) self.now.state (Removable dim dart) Truth result }
+    {
+        let Some(dim) = self.dimension(dim) else {
+            return Err(Refused::Line(Refusal::BadDim));
+        };
+        let Some(dart) = self.live_dart(dart) else {
+            return Err(Refused::Line(Refusal::NoDart));
+        };
+        Ok(removable(alloc, &self.links, dim, dart)?)
+    }
+
+    /// Whether a dart's cell of a dimension can be contracted: whether `contract` would not be refused as
+    /// `NotContractible`. It costs the darts of the cell times a logarithm.
+    ///
+    /// Refused as `BadDim` exactly where the dimension is above the map's, and then as `NoDart` exactly where no live dart
+    /// has the number.
+    pub fn contractible(&self, alloc: Global, dim: u64, dart: u64) -> Result<bool, Refused>
+        ensures { Answers (H.meaning self.now.hook) self.now.state (Contractible dim dart) Truth result }
+    {
+        let Some(dim) = self.dimension(dim) else {
+            return Err(Refused::Line(Refusal::BadDim));
+        };
+        let Some(dart) = self.live_dart(dart) else {
+            return Err(Refused::Line(Refusal::NoDart));
+        };
+        Ok(contractible(alloc, &self.links, dim, dart)?)
+    }
+}
