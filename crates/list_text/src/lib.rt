@@ -7,4 +7,6 @@ mod tests;
 mod write;
 
 pub use listing::{ListRow, ListValue, Listing};
-pub use write::{append_header, append_row, append_spaced, append_value, write_listing};
+pub use write::{
+    append_header, append_number, append_row, append_spaced, append_value, write_listing,
+};

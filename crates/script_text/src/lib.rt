@@ -1,7 +1,8 @@
-//! The text of scripts: what a line tells, and the reply to it.
+//! The text of scripts: what a line tells, the reply to it, and logs.
 #![tactic(auto)]
 
 mod line;
+mod log;
 mod read;
 mod reply;
 #[cfg(test)]
@@ -9,5 +10,9 @@ mod tests;
 mod word;
 
 pub use line::Line;
+pub use log::{
+    append_born, append_dead, append_link_change, append_log_end, append_log_header,
+    append_rule_change, append_step_line, append_value_change, log_text,
+};
 pub use read::read_line;
 pub use reply::{Births, Reply, reply_text};

@@ -1,7 +1,12 @@
-//! What no clause says: that lines are read where memory is there, and that the grammar and the replies are as meant.
-use crate::{Births, Line, Reply, read_line, reply_text};
+//! What no clause says: that lines are read where memory is there, and that the grammar, the replies and the logs are as
+//! meant.
+use crate::{Births, Line, Reply, log_text, read_line, reply_text};
+use attr_rules::{Merge, Split, TableRule};
+use link_rows::{Change, Edit};
 use map_kind::{Dart, Refusal, Refused, Value};
+use std::alloc::{AllocError, Global};
 use std::test::Fail;
+use undo_journal::{RuleChange, Step, ValueChange};
 
 #[test]
 fn lines_of_the_grammar(rt: HostRuntime) -> Result<(), Fail> {
@@ -170,5 +175,126 @@ fn replies(rt: HostRuntime) -> Result<(), Fail> {
         assert_eq!(rt; reply_text(alloc, reply)?.as_slice(), text.as_bytes());
         assert_eq!(rt; reply.is_refused(), text.starts_with("no"));
     }
+    Ok(())
+}
+
+fn link_change(dart: u32, link: usize, old: u32, new: u32) -> Result<Change, Fail> {
+    let dart = Dart::new(dart).ok_or("no dart")?;
+    Ok(Change {
+        dart,
+        link,
+        old,
+        new,
+    })
+}
+
+fn empty_step(alloc: Global) -> Step {
+    Step {
+        first: 0,
+        edit: Edit {
+            births: 0,
+            deaths: Vec::new(alloc),
+            changes: Vec::new(alloc),
+        },
+        values: Vec::new(alloc),
+        rules: Vec::new(alloc),
+    }
+}
+
+#[test]
+fn log_of_a_vertex(rt: HostRuntime) -> Result<(), Fail> {
+    let alloc = rt.alloc();
+    let step = Step {
+        first: 7,
+        edit: Edit {
+            births: 2,
+            deaths: Vec::new(alloc),
+            changes: vec![in alloc;
+                link_change(1, 0, 2, 7)?,
+                link_change(2, 0, 1, 8)?,
+                link_change(7, 0, 0, 1)?,
+                link_change(7, 1, 0, 8)?,
+                link_change(8, 0, 0, 2)?,
+                link_change(8, 1, 0, 7)?,
+            ]?,
+        },
+        ..empty_step(alloc)
+    };
+    let steps = vec![in alloc; step]?;
+    assert_eq!(rt;
+        log_text(alloc, steps.as_slice())?.as_slice(),
+        b"log 1
+step 1
+born 7 2
+link 1 0 2 7
+link 2 0 1 8
+link 7 0 0 1
+link 7 1 0 8
+link 8 0 0 2
+link 8 1 0 7
+end
+"
+            .as_slice()
+    );
+    Ok(())
+}
+
+/// A step that changes the value of a dart in dimension 0.
+fn valued_step(
+    alloc: Global,
+    dart: Dart,
+    old: Option<Value>,
+    new: Option<Value>,
+) -> Result<Step, AllocError> {
+    Ok(Step {
+        values: vec![in alloc;
+            ValueChange {
+                dim: 0,
+                dart,
+                old,
+                new,
+            },
+        ]?,
+        ..empty_step(alloc)
+    })
+}
+
+#[test]
+fn log_of_a_rule_and_a_value(rt: HostRuntime) -> Result<(), Fail> {
+    let alloc = rt.alloc();
+    let dart = Dart::new(1).ok_or("no dart")?;
+    let value = Value { a: 1, b: 2, c: 3 };
+    let rule = TableRule {
+        merge: Merge::Sum,
+        split: Split::Copied,
+    };
+    let ruled = Step {
+        rules: vec![in alloc;
+            RuleChange {
+                dim: 0,
+                old: None,
+                new: Some(rule),
+            },
+        ]?,
+        ..empty_step(alloc)
+    };
+    let mut ended = valued_step(alloc, dart, Some(value), None)?;
+    ended.edit.deaths.push(dart)?;
+    let valued = valued_step(alloc, dart, None, Some(value))?;
+    let steps = vec![in alloc; ruled, valued, ended]?;
+    assert_eq!(rt;
+        log_text(alloc, steps.as_slice())?.as_slice(),
+        b"log 3
+step 1
+rule 0 - sum/copy
+step 2
+val 0 1 - 1,2,3
+step 3
+dead 1
+val 0 1 1,2,3 -
+end
+"
+            .as_slice()
+    );
     Ok(())
 }

@@ -1,4 +1,4 @@
-use Rattle.std.proofs.Common.{◌≡◌, ℤ, ℕ, ◌++◌, ◌∷◌, [], List, codes, w64, ap, ◌∙◌, append_assoc, FitsSigned}
+use Rattle.std.proofs.Common.{◌≡◌, ℕ, ◌++◌, ◌∷◌, [], List, codes, w64, append_assoc}
 use Rattle.std.proofs.lemmas.Int.{to_z-of_z}
 use Rattle.map_defs.specs.Text.{spaced_signed}
 use Rattle.script_text.proofs.reply.append_numbers.Goals as goal

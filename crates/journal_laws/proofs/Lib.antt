@@ -1,0 +1,12 @@
+pub mod InOrder
+pub mod OneDifference
+pub mod EditLives
+pub mod RowsOn
+pub mod ValuesOn
+pub mod RulesOn
+pub mod Leading
+pub mod Chains
+pub mod Led
+pub mod Reordered
+pub mod EditOrder
+pub mod EditDifference

@@ -1,0 +1,2 @@
+pub mod TrailFacts
+pub mod EntryFacts

@@ -1,0 +1,18 @@
+use Rattle.std.proofs.Common.{◌≡◌, ◌≤◌, ◌<◌, subst}
+use Rattle.undo_journal.specs.Trails.{Book, place_of}
+use Rattle.undo_journal.specs.Entries.{trail_of}
+use Rattle.undo_journal.proofs.EntryFacts.{place_listed}
+use Rattle.undo_journal.proofs.TrailFacts.{place_within}
+use Rattle.undo_journal.proofs.journal.Journal.place.Goals as goal
+
+pub returns-clause-place : goal.returns-clause-place
+returns-clause-place c = rw (← c.self.view_is) (place_listed c.self.inside.marks.entries c.args.mark c.index.result.now c.index.ensures)
+
+pub returns-clause-within : goal.returns-clause-within
+returns-clause-within c =
+    let inside = c.self.inside in
+    let t = trail_of inside.steps.items inside.at inside.marks.entries inside.standing in
+    let read : c.index.result.now ≡ place_of t c.args.mark = place_listed inside.marks.entries c.args.mark c.index.result.now c.index.ensures in
+    subst (λ (b : Book). c.args.mark < b.trail.standing → c.index.result.now ≤ b.trail.at) c.self.view_is
+    (λ h. rw read (place_within t c.args.mark c.self.invariant h))
+    c.requires

@@ -1,0 +1,3 @@
+pub use Rattle.map_defs.specs.Difference
+pub mod Trails
+pub mod Entries

@@ -1,0 +1,180 @@
+ghost use Rattle.std.specs.Prelude.{◌≡◌, ℕ, ◌+◌, ◌≤◌, ◌<◌, ◌↔◌, Some, length, slice_get, IsTrue, IsOk, IsErr, IfOk, IfErr, OnOk, OnErr, IfSome, IsNone, IsErrOf};
+ghost use Rattle.std.specs.Option.{option_map};
+ghost use Rattle.undo_journal.specs.Trails.{Book, empty_trail, standing_marks, mark_names, IsMark, HasMark, place_of, steps_since, noted, marked, back, IsOrdered};
+
+use crate::step::Step;
+use indexmap::IndexMap;
+use map_kind::{Refusal, Refused};
+use std::alloc::{AllocError, Global};
+use std::marker::Model;
+
+/// The steps of a map since its first mark, and marks with places among them. What an undo took back stays stored
+/// behind the steps and marks that stand, until the next step or mark. It is seen as its trail, beside the number of
+/// steps that can be noted without further memory.
+#[derive(Drop)]
+pub struct Journal {
+    steps: Vec<Step>,
+    // So many of the steps stand.
+    at: usize,
+    // For each mark its place: how many steps stood when it was set.
+    marks: IndexMap<String, usize>,
+    // So many of the marks stand.
+    standing: usize,
+}
+
+impl Model for Journal {
+    ghost use Rattle.std.specs.Prelude.{◌-◌, vec_capacity};
+    ghost use Rattle.undo_journal.specs.Trails.{Book, IsOrdered};
+    ghost use Rattle.undo_journal.specs.Entries.{trail_of};
+
+    ghost Value = { Book };
+
+    ghost view = { λ j. record { trail = trail_of j.steps.items j.at j.marks.entries j.standing; room = vec_capacity j.steps - j.at } };
+
+    ghost invariant = { λ j. IsOrdered (trail_of j.steps.items j.at j.marks.entries j.standing) };
+}
+
+impl Journal {
+    /// The journal without steps and marks. It takes no memory.
+    pub fn new(alloc: Global) -> Journal
+        ensures trail { result.trail ≡ empty_trail }
+        ensures room { result.room ≡ 0 }
+    {
+        Journal {
+            steps: Vec::new(alloc),
+            at: 0,
+            marks: IndexMap::new(alloc),
+            standing: 0,
+        }
+    }
+
+    /// How many marks stand. Here can be read what holds of every trail.
+    pub fn mark_count(&self) -> usize
+        ensures count { result ≡ length (standing_marks self.now.trail) }
+        ensures standing { result ≡ self.now.trail.standing }
+        ensures ordered { IsOrdered self.now.trail }
+    {
+        self.standing
+    }
+
+    /// Whether a mark stands.
+    pub fn has_marks(&self) -> bool
+        ensures { IsTrue result ↔ (0 < length (standing_marks self.now.trail)) }
+    {
+        self.standing > 0
+    }
+
+    /// The name of a standing mark by its number, from 0, oldest first; none exactly where there is no such mark.
+    pub fn mark_name(&self, place: usize) -> Option<&str>
+        ensures { option_map (λ name. name.now) result ≡ slice_get (mark_names self.now.trail) place }
+    {
+        if place >= self.standing {
+            return None;
+        }
+        let (name, _place) = self.marks.get_index(place)?;
+        Some(name.as_str())
+    }
+
+    /// The number of the standing mark of this name; none exactly where no standing mark has it.
+    fn standing_mark(&self, name: &str) -> Option<usize>
+        ensures found { IfSome result (λ k. IsMark self.now.trail name.now k) }
+        ensures within { IfSome result (λ k. k < self.now.trail.standing) }
+        ensures none { IsNone result ↔ (HasMark self.now.trail name.now → ⊥) }
+    {
+        let k = self.marks.get_index_of(name)?;
+        if k < self.standing { Some(k) } else { None }
+    }
+
+    /// How many steps stood when a standing mark was set.
+    fn place(&self, mark: usize) -> usize
+        requires { mark < self.now.trail.standing }
+        ensures place { result ≡ place_of self.now.trail mark }
+        ensures within { result ≤ self.now.trail.at }
+        ensures ordered { IsOrdered self.now.trail }
+    {
+        self.marks[mark]
+    }
+
+    /// Sets a mark of this name behind the steps that stand. What was taken back is gone. `MarkTaken` comes exactly
+    /// where a standing mark has the name. A refusal leaves the journal as it was. It costs a look-up of the name, and
+    /// what was taken back.
+    pub fn mark(&mut self, name: &str) -> Result<(), Refused>
+        ensures ok { OnOk result (self.new.trail ≡ marked self.old.trail name.now) }
+        ensures room { self.new.room ≡ self.old.room }
+        ensures refused { (r : Refusal) → IsErrOf result (Refused.Line r) ↔ ((r ≡ Refusal.MarkTaken) × HasMark self.old.trail name.now) }
+        ensures err { OnErr result (self.new ≡ self.old) }
+    {
+        if self.standing_mark(name).is_some() {
+            return Err(Refused::Line(Refusal::MarkTaken));
+        }
+        let key = String::from_str(*self.marks.allocator(), name)?;
+        self.marks.reserve(1)?;
+        let at = self.at;
+        let standing = self.standing;
+        self.steps.truncate(at);
+        self.marks.truncate(standing);
+        self.marks.insert(key, at).unwrap();
+        self.standing = self.marks.len();
+        Ok(())
+    }
+
+    /// Makes room for one step. A refusal leaves the journal as it was.
+    pub fn reserve(&mut self) -> Result<(), AllocError>
+        ensures trail { self.new.trail ≡ self.old.trail }
+        ensures ok { OnOk result (1 ≤ self.new.room) }
+        ensures room_stays { self.old.room ≤ self.new.room }
+        ensures had_room { 1 ≤ self.old.room → IsOk result }
+        ensures err { OnErr result (self.new ≡ self.old) }
+    {
+        if self.at < self.steps.len() {
+            return Ok(());
+        }
+        self.steps.reserve(1)
+    }
+
+    /// Notes a step behind those that stand. What was taken back is gone. It takes no memory: room was reserved. It
+    /// costs what was taken back.
+    pub fn note(&mut self, step: Step)
+        requires { 1 ≤ self.old.room }
+        ensures trail { self.new.trail ≡ noted self.old.trail step }
+        ensures room { self.new.room + 1 ≡ self.old.room }
+    {
+        self.steps.truncate(self.at);
+        self.marks.truncate(self.standing);
+        self.steps.push_reserved(step);
+        self.at = self.steps.len();
+    }
+
+    /// The standing steps since the mark of this name was set, oldest first. `NoMark` comes exactly where no standing
+    /// mark has the name. It takes no memory, and costs a look-up of the name.
+    pub fn entries_since(&self, name: &str) -> Result<&[Step], Refusal>
+        ensures since { IfOk result (λ steps. (k : ℕ) × IsMark self.now.trail name.now k × (steps.now ≡ steps_since self.now.trail k)) }
+        ensures unmarked { IsErr result ↔ (HasMark self.now.trail name.now → ⊥) }
+        ensures refused { IfErr result (λ r. r ≡ Refusal.NoMark) }
+    {
+        match self.standing_mark(name) {
+            Some(k) => Ok(&self.steps[self.place(k)..self.at]),
+            None => Err(Refusal::NoMark),
+        }
+    }
+
+    /// Goes back to the mark of this name, which stays: the steps since it was set and the later marks stand no longer.
+    /// `NoMark` comes exactly where no standing mark has the name, and leaves the journal as it was. It takes no memory,
+    /// and costs a look-up of the name.
+    pub fn back_to(&mut self, name: &str) -> Result<(), Refusal>
+        ensures back { OnOk result ((k : ℕ) × IsMark self.old.trail name.now k × (self.new.trail ≡ back self.old.trail k)) }
+        ensures room { self.new.room + self.new.trail.at ≡ self.old.room + self.old.trail.at }
+        ensures unmarked { IsErr result ↔ (HasMark self.old.trail name.now → ⊥) }
+        ensures refused { IfErr result (λ r. r ≡ Refusal.NoMark) }
+        ensures err { OnErr result (self.new ≡ self.old) }
+    {
+        match self.standing_mark(name) {
+            Some(k) => {
+                self.at = self.place(k);
+                self.standing = k + 1;
+                Ok(())
+            }
+            None => Err(Refusal::NoMark),
+        }
+    }
+}

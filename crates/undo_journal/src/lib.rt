@@ -1,0 +1,14 @@
+//! The journal of a map: what each step changed, and the marks that an undo goes back to.
+#![tactic(auto)]
+
+mod journal;
+mod rule_change;
+mod step;
+#[cfg(test)]
+mod tests;
+mod value_change;
+
+pub use journal::Journal;
+pub use rule_change::RuleChange;
+pub use step::Step;
+pub use value_change::ValueChange;

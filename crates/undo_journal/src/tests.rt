@@ -1,0 +1,78 @@
+use crate::{Journal, Step};
+use link_rows::Edit;
+use map_kind::{Refusal, Refused};
+use std::alloc::{AllocError, Global};
+use std::test::Fail;
+
+fn note(alloc: Global, journal: &mut Journal, first: u32) -> Result<(), AllocError> {
+    journal.reserve()?;
+    journal.note(Step {
+        first,
+        edit: Edit {
+            births: 0,
+            deaths: Vec::new(alloc),
+            changes: Vec::new(alloc),
+        },
+        values: Vec::new(alloc),
+        rules: Vec::new(alloc),
+    });
+    Ok(())
+}
+
+/// How many steps there are since a mark, and the number of the first new dart of the first.
+fn firsts(journal: &Journal, name: &str) -> Result<(usize, u32), Refusal> {
+    let steps = match journal.entries_since(name) {
+        Ok(steps) => steps,
+        Err(refusal) => return Err(refusal),
+    };
+    match steps.first() {
+        Some(step) => Ok((steps.len(), step.first)),
+        None => Ok((0, 0)),
+    }
+}
+
+fn names(journal: &Journal) -> (Option<&str>, Option<&str>, Option<&str>) {
+    (
+        journal.mark_name(0),
+        journal.mark_name(1),
+        journal.mark_name(2),
+    )
+}
+
+#[test]
+fn keeps_the_steps_since_marks(rt: HostRuntime) -> Result<(), Fail> {
+    let mut journal = Journal::new(rt.alloc());
+    assert!(&rt; !journal.has_marks());
+    assert!(&rt; journal.mark("one").is_ok());
+    note(rt.alloc(), &mut journal, 1)?;
+    assert!(&rt; journal.mark("two").is_ok());
+    note(rt.alloc(), &mut journal, 2)?;
+    note(rt.alloc(), &mut journal, 3)?;
+    assert_eq!(&rt; journal.mark("one"), Err(Refused::Line(Refusal::MarkTaken)));
+    assert!(&rt; journal.has_marks());
+    assert_eq!(&rt; journal.mark_count(), 2);
+    assert_eq!(&rt; names(&journal), (Some("one"), Some("two"), None));
+    assert_eq!(&rt; firsts(&journal, "one"), Ok((3, 1)));
+    assert_eq!(&rt; firsts(&journal, "two"), Ok((2, 2)));
+    assert_eq!(&rt; firsts(&journal, "three"), Err(Refusal::NoMark));
+    Ok(())
+}
+
+#[test]
+fn goes_back_and_on(rt: HostRuntime) -> Result<(), Fail> {
+    let mut journal = Journal::new(rt.alloc());
+    assert!(&rt; journal.mark("one").is_ok());
+    note(rt.alloc(), &mut journal, 1)?;
+    assert!(&rt; journal.mark("two").is_ok());
+    note(rt.alloc(), &mut journal, 2)?;
+    assert_eq!(&rt; journal.back_to("three"), Err(Refusal::NoMark));
+    assert_eq!(&rt; journal.back_to("one"), Ok(()));
+    assert_eq!(&rt; names(&journal), (Some("one"), None, None));
+    assert_eq!(&rt; journal.back_to("two"), Err(Refusal::NoMark));
+    note(rt.alloc(), &mut journal, 3)?;
+    assert!(&rt; journal.mark("two").is_ok());
+    note(rt.alloc(), &mut journal, 4)?;
+    assert_eq!(&rt; firsts(&journal, "one"), Ok((2, 3)));
+    assert_eq!(&rt; firsts(&journal, "two"), Ok((1, 4)));
+    Ok(())
+}
