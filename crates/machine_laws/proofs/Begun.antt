@@ -6,7 +6,7 @@ use Rattle.map_defs.specs.Values.{Value}
 use Rattle.map_defs.specs.Laws.{Laws}
 use Rattle.map_defs.specs.Rows.{Rows, links_of}
 use Rattle.map_defs.specs.State.{Content, empty_state, value_at}
-use Rattle.map_defs.specs.Kept.{IsKept, AreKept}
+use Rattle.map_defs.specs.Kept.{IsKept, AreMarksKept, AreKept}
 use Rattle.map_defs.specs.Loading.{first_state}
 use Rattle.link_laws.proofs.Told.{told_of_laws}
 use Rattle.machine_laws.proofs.Born.{no-value}
@@ -47,6 +47,16 @@ wide : (k : Kind) (n d : ℕ) → d < 1 → length (get_or (empty_state k n).pre
 wide k n zero h = length-replicate (n + 1) None
 wide k n (suc d) h = absurd (omega arith)
 
+-- no mark stands at first
+no-marks : (c : Content) → AreMarksKept [] [] c
+no-marks c = record {
+  named = λ i j z low h. absurd (omega arith);
+  rising = λ i j z low h. absurd (omega arith);
+  within = λ p z h. absurd (omega arith);
+  nothing = λ none. refl;
+  copies = λ p z h. absurd (omega arith);
+}
+
 pub empty-kept : (k : Kind) (n : ℕ) → 2 ≤ n → AreKept (empty_state k n)
 empty-kept k n flat = record {
   present = record {
@@ -67,9 +77,10 @@ empty-kept k n flat = record {
   };
   past = λ p z h. absurd (omega arith);
   marks = λ p z h. absurd (omega arith);
+  marked = no-marks (empty_state k n).present;
   undone = λ p z h. absurd (omega arith);
 }
 
 -- a content that is kept makes a state that is kept
 pub first-kept : (c : Content) → IsKept c → AreKept (first_state c)
-first-kept c kept = record { present = kept; past = λ i d h. absurd (omega arith); marks = λ i d h. absurd (omega arith); undone = λ i d h. absurd (omega arith) }
+first-kept c kept = record { present = kept; past = λ i d h. absurd (omega arith); marks = λ i d h. absurd (omega arith); marked = no-marks c; undone = λ i d h. absurd (omega arith) }

@@ -54,6 +54,9 @@ module _ (c : Content) (kept : IsKept c) (d : ℕ) (live : IsLive c.rows d) (alo
   same-row : (x : ℕ) → x ≢ d → get_or next.rows x None ≡ get_or c.rows x None
   same-row x other = get_or-set_other c.rows d x None None other
 
+  pub lived : (x : ℕ) → IsLive next.rows x → IsLive c.rows x
+  lived x lives = subst (λ (o : Option (List ℕ)). IsSome o) (same-row x (λ e. gone (subst (IsLive next.rows) e lives))) lives
+
   same-link : (t x : ℕ) → links_of next.rows t x ≡ links_of c.rows t x
   same-link = none-links c.rows d alone
 

@@ -20,6 +20,7 @@ use Rattle.link_laws.proofs.Told.{laws_of_told, told_of_laws}
 use Rattle.link_laws.proofs.RowFacts.{rows_lead_to_live}
 use Rattle.link_laws.proofs.CellFacts.{cell_back}
 use Rattle.link_laws.proofs.Orbits.{orbit_trans}
+use Rattle.machine_laws.proofs.Marked.{marks-stepped}
 use Rattle.value_laws.proofs.Touching.{cell_live}
 use Rattle.value_laws.proofs.MapValues.{one_value}
 use Rattle.value_laws.proofs.ValueFacts.{value-above, value-cases}
@@ -37,6 +38,7 @@ kept-step s next kept is = record {
   present = is;
   past = kept-past s.marks s.past s.present kept.past kept.present;
   marks = kept.marks;
+  marked = marks-stepped s.marks s.past s.present next kept.marked;
   undone = λ p z h. absurd (omega arith);
 }
 

@@ -2,6 +2,7 @@ pub mod Judging
 pub mod ValueLists
 pub mod Relinked
 pub mod Inserted
+pub mod Marked
 pub mod Keeping
 pub mod Grown
 pub mod GrownLaws
@@ -10,6 +11,10 @@ pub mod Ended
 pub mod Begun
 pub mod Dualled
 pub mod Answers
+pub mod Followed
+pub mod Traced
+pub mod Outcomes
 pub mod Steps
+pub mod Logs
 pub mod Runs
 pub mod Programs

@@ -6,7 +6,8 @@ use Rattle.map_defs.specs.Kept.{AreKept}
 use Rattle.map_defs.specs.Script.{Line, line_of, words_of}
 use Rattle.map_defs.specs.Text.{Reply}
 use Rattle.map_defs.specs.Machine.{Obeys, blank, unread, obeyed, Run, Step}
-use Rattle.machine_laws.proofs.Steps.{step-one-kept, step-kept}
+use Rattle.machine_laws.specs.Tracing.{AreTraced}
+use Rattle.machine_laws.proofs.Steps.{step-one-kept, step-kept, step-traced}
 
 pub obeys-one : (hook : Meaning) (s : State) (words : List (List ℕ)) (here here' : List Reply) (new new' : State) → AreKept s → Obeys hook s words here new → Obeys hook s words here' new' → (here ≡ here') × (new ≡ new')
 obeys-one hook s words here here' new new' kept (blank n e f) (blank n' e' f') = (e ∙ sym e', f ∙ sym f')
@@ -32,6 +33,17 @@ obeys-kept hook s words here new kept (obeyed line reply told step e) = step-kep
 pub run-kept : (hook : Meaning) (s : State) (lines : List (List ℕ)) (replies : List Reply) (new : State) → AreKept s → Run hook s lines replies new → AreKept new
 run-kept hook s [] replies new kept r = subst AreKept (sym r.1) kept
 run-kept hook s (line ∷ lines) replies new kept r = run-kept hook r.2 lines r.1 new (obeys-kept hook s (words_of line) r.0 r.2 kept r.3) r.4
+
+-- the contents that a state keeps follow one another in every state of a run
+obeys-traced : (hook : Meaning) (s : State) (words : List (List ℕ)) (here : List Reply) (new : State) → AreKept s → AreTraced s → Obeys hook s words here new → AreTraced new
+obeys-traced hook s words here new kept traced (blank n e f) = subst AreTraced (sym f) traced
+obeys-traced hook s words here new kept traced (unread first more are none e f) = subst AreTraced (sym f) traced
+obeys-traced hook s words here new kept traced (obeyed line reply told step e) = step-traced hook s kept traced line reply new step
+
+pub run-traced : (hook : Meaning) (s : State) (lines : List (List ℕ)) (replies : List Reply) (new : State) → AreKept s → AreTraced s → Run hook s lines replies new → AreTraced new
+run-traced hook s [] replies new kept traced r = subst AreTraced (sym r.1) traced
+run-traced hook s (line ∷ lines) replies new kept traced r =
+    run-traced hook r.2 lines r.1 new (obeys-kept hook s (words_of line) r.0 r.2 kept r.3) (obeys-traced hook s (words_of line) r.0 r.2 kept traced r.3) r.4
 
 pub run-one : (hook : Meaning) (s : State) (lines : List (List ℕ)) (replies replies' : List Reply) (new new' : State) → AreKept s → Run hook s lines replies new → Run hook s lines replies' new' → (replies ≡ replies') × (new ≡ new')
 run-one hook s [] replies replies' new new' kept r q = (r.0 ∙ sym q.0, r.1 ∙ sym q.1)

@@ -5,15 +5,19 @@ ghost use Rattle.std.specs.Prelude.{◌≡◌, ℕ, ◌≤◌, List};
 ghost use Rattle.map_defs.specs.Refusal.{Refusal, number};
 ghost use Rattle.map_defs.specs.Kind.{Kind};
 ghost use Rattle.map_defs.specs.Values.{Meaning};
-ghost use Rattle.map_defs.specs.State.{State, empty_state};
+ghost use Rattle.map_defs.specs.State.{State, Mark, empty_state};
 ghost use Rattle.map_defs.specs.Loading.{IsLoaded};
 ghost use Rattle.map_defs.specs.Kept.{AreKept};
-ghost use Rattle.map_defs.specs.Script.{Line};
-ghost use Rattle.map_defs.specs.Text.{Reply, Refused};
+ghost use Rattle.map_defs.specs.Script.{Line, Undo, Log};
+ghost use Rattle.map_defs.specs.Text.{Reply, Logged, Refused};
 ghost use Rattle.map_defs.specs.Machine.{Step, Run, FailsFor, checks};
 ghost use Rattle.map_defs.specs.Outside.{Files, IsFront};
 ghost use Rattle.map_defs.specs.Program.{Answers, Starts};
-ghost use Rattle.machine_laws.specs.Needs.{Needs};
+ghost use Rattle.map_defs.specs.Difference.{Difference, AreDifferences};
+ghost use Rattle.map_defs.specs.Marking.{IsMark, since};
+ghost use Rattle.journal_laws.specs.Following.{all_put_forward, all_taken_back};
+ghost use Rattle.machine_laws.specs.Needs.{Needs, NeedsForReply};
+ghost use Rattle.machine_laws.specs.Tracing.{AreTraced};
 
 /// The refusal that a line gets is one whose condition holds, with the least number of all whose condition holds; and the
 /// state is as it was. So a user can read the table of refusals line by line.
@@ -32,26 +36,49 @@ pub fn accepted_without_refusal()
         ((r : Refusal) → reply ≡ Refused r → ⊥) → (q : Refusal) → FailsFor (checks s line) q → ⊥ }
 {}
 
-/// A line has one reply, in every state, and leads to one state where the present content has what the line needs. An edge
-/// in a combinatorial map and a face in a generalized map need links that obey the laws; a cell that is removed or
-/// contracted needs them in both kinds, and that its dart, if it lives, is not 0; no other line needs anything. Each content
-/// of a run has what all lines need. In a map that breaks the laws an edge or a face may leave a link of a new dart open,
-/// and a walk across the cell may go on for ever, so that nothing tells a link.
+/// A line has one reply, and leads to one state where the state has what the line needs. An edge in a combinatorial map and
+/// a face in a generalized map need links that obey the laws; a cell that is removed or contracted needs them in both kinds,
+/// and that its dart, if it lives, is not 0; undo, and the reply of a log, need that no two marks have one name. No other
+/// line needs anything, and no other reply. Each state of a run has what all lines need. In a map that breaks the laws an
+/// edge or a face may leave a link of a new dart open, and a walk across the cell may go on for ever, so that nothing tells a
+/// link.
 pub fn one_step()
-    ensures reply { (hook : Meaning) (s : State) (line : Line) (one other : Reply) (new new' : State) → Step hook s line one new
-        → Step hook s line other new' → one ≡ other }
+    ensures reply { (hook : Meaning) (s : State) (line : Line) (one other : Reply) (new new' : State)
+        → NeedsForReply line s → Step hook s line one new → Step hook s line other new' → one ≡ other }
     ensures state { (hook : Meaning) (s : State) (line : Line) (one other : Reply) (new new' : State)
-        → Needs line s.present → Step hook s line one new → Step hook s line other new' → new ≡ new' }
+        → Needs line s → Step hook s line one new → Step hook s line other new' → new ≡ new' }
 {}
 
 /// Every state of a run keeps what the first one keeps: each content is a lawful map, whose entries name live darts, with
-/// equal values on each cell and none in a dimension without a rule. The state without darts keeps it, and so does that of
-/// a mesh.
+/// equal values on each cell and none in a dimension without a rule; and each mark has a name of its own, and its copy is
+/// the content at its place. The state without darts keeps it, and so does that of a mesh.
 pub fn runs_keep_the_laws()
     ensures first { (k : Kind) (n : ℕ) → 2 ≤ n → AreKept (empty_state k n) }
     ensures mesh { (k : Kind) (n : ℕ) (text : List ℕ) (start : State) → 2 ≤ n → IsLoaded k n text start → AreKept start }
     ensures each { (hook : Meaning) (s : State) (lines : List (List ℕ)) (replies : List Reply) (new : State) → AreKept s
         → Run hook s lines replies new → AreKept new }
+{}
+
+/// In every state of a run each content that is kept can follow the one before it in one step.
+pub fn runs_keep_the_trace()
+    ensures first { (k : Kind) (n : ℕ) → AreTraced (empty_state k n) }
+    ensures mesh { (k : Kind) (n : ℕ) (text : List ℕ) (start : State) → IsLoaded k n text start → AreTraced start }
+    ensures each { (hook : Meaning) (s : State) (lines : List (List ℕ)) (replies : List Reply) (new : State) → AreKept s
+        → AreTraced s → Run hook s lines replies new → AreTraced new }
+{}
+
+/// The steps that a log tells since a mark, taken back from the present content, the last first, lead to the mark's copy;
+/// and these put forward from the copy lead to the present content. So undo leads where the log's steps taken back do.
+///
+/// For whoever keeps the steps in place of the contents: undo needs no copy.
+pub fn undo_leads_back()
+    ensures back { (s : State) (name : List ℕ) (k : ℕ) (mark : Mark) (steps : List Difference) → AreKept s → AreTraced s
+        → IsMark s.marks name k mark → AreDifferences (since s mark) steps → all_taken_back steps s.present ≡ mark.content }
+    ensures forward { (s : State) (name : List ℕ) (k : ℕ) (mark : Mark) (steps : List Difference) → AreKept s → AreTraced s
+        → IsMark s.marks name k mark → AreDifferences (since s mark) steps → all_put_forward steps mark.content ≡ s.present }
+    ensures undone { (hook : Meaning) (s : State) (name : List ℕ) (steps : List Difference) (reply : Reply) (same new : State)
+        → AreKept s → AreTraced s → Step hook s (Log name) (Logged steps) same → Step hook s (Undo name) reply new
+        → all_taken_back steps s.present ≡ new.present }
 {}
 
 /// The program has one text and one status for its words and files.

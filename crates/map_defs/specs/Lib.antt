@@ -15,7 +15,10 @@ pub mod Polygon
 pub mod Listing
 pub mod Off
 pub mod MeshMap
+pub mod TextLines
+pub mod LogText
 pub mod Text
+pub mod Marking
 pub mod Script
 pub mod Relinking
 pub mod Valuing
@@ -37,5 +40,4 @@ pub mod Dualling
 pub mod Touched
 pub mod Carry
 pub mod Totals
-pub mod LogText
 pub mod Program

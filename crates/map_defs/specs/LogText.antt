@@ -6,7 +6,7 @@ use Rattle.map_defs.specs.Values.{Value, Rule}
 use Rattle.map_defs.specs.RuleNames.{merge_name, split_name}
 use Rattle.map_defs.specs.Edits.{Change}
 use Rattle.map_defs.specs.Difference.{ValueChange, RuleChange, Difference}
-use Rattle.map_defs.specs.Text.{ended, spaced}
+use Rattle.map_defs.specs.TextLines.{ended, spaced}
 
 -- a value is its three numbers between commas, and a hyphen is none
 abbrev pub logged_value : Option Value → List ℕ

@@ -13,7 +13,7 @@ use Rattle.map_defs.specs.Polygon.{per_side, polygon_rows}
 use Rattle.map_defs.specs.Values as values
 use Rattle.map_defs.specs.Values.{Meaning}
 use Rattle.map_defs.specs.RuleNames.{named_merge, named_split}
-use Rattle.map_defs.specs.State.{State, Content, value_at, rule_at, with_born, without_dart, steps_to}
+use Rattle.map_defs.specs.State.{State, Content, Mark as SetMark, value_at, rule_at, with_born, without_dart, steps_to}
 use Rattle.map_defs.specs.Relinking.{IsRelinked, NoDart}
 use Rattle.map_defs.specs.Insertion.{AreOnOneSide, FaceDarts, IsOnOneVolume, IsClosedPath, IsFacePaired, IsFace}
 use Rattle.map_defs.specs.Inserting.{VertexDarts, IsVertex, InCorner, EdgeDarts, AreEdgePaired, IsEdge, IsTooMany, IsGrown}
@@ -22,11 +22,13 @@ use Rattle.map_defs.specs.Contraction.{IsContractible, IsContracted}
 use Rattle.map_defs.specs.Dual.{IsDualable}
 use Rattle.map_defs.specs.Dualling.{IsDualOf}
 use Rattle.map_defs.specs.Valuing.{IsValued}
+use Rattle.map_defs.specs.Difference.{Difference, AreDifferences}
+use Rattle.map_defs.specs.Marking.{IsMark, HasMark, with_mark, back_to, since}
 use Rattle.map_defs.specs.Refusal as why
 use Rattle.map_defs.specs.Refusal.{Refusal}
 use Rattle.map_defs.specs.Listing.{ListValue, ListsValues, listing_with}
-use Rattle.map_defs.specs.Text.{Reply, Done, Truth, Darts, Worth, Counts, Shown, Refused}
-use Rattle.map_defs.specs.Script.{Line, Polygon, Dart, Del, Sew, Unsew, Vertex, Edge, Face, Remove, Contract, Dual, Rule, Set, Clear, Cell, Same, Free, Value, Removable, Contractible, Sewable, Count, Show, words_of, line_of}
+use Rattle.map_defs.specs.Text.{Reply, Done, Truth, Darts, Worth, Counts, Shown, Logged, Refused}
+use Rattle.map_defs.specs.Script.{Line, Polygon, Dart, Del, Sew, Unsew, Vertex, Edge, Face, Remove, Contract, Dual, Rule, Set, Clear, Mark, Undo, Log, Cell, Same, Free, Value, Removable, Contractible, Sewable, Count, Show, words_of, line_of}
 
 -- a refusal with the condition under which a line fails by it, and that under which it passes
 pub record Check : Type 1 where
@@ -121,7 +123,11 @@ checks_on c Count = []
 checks_on c Show = []
 checks_on c line = refuse_unless ⊥ why.Syntax ∷ []
 
+-- the table for all lines: those about marks look at the marks, the others at the present content
 abbrev pub checks : State → Line → List Check
+checks s (Mark name) = refuse_if (HasMark s.marks name) why.MarkTaken ∷ []
+checks s (Undo name) = refuse_unless (HasMark s.marks name) why.NoMark ∷ []
+checks s (Log name) = refuse_unless (HasMark s.marks name) why.NoMark ∷ []
 checks s line = checks_on s.present line
 
 -- the polygon's darts come after all that were made
@@ -185,6 +191,10 @@ Effect hook s (Rule i merge split) = λ reply new. (m : values.Merge) × (p : va
     × Gives (Done 0 0) (steps_to s (with_rule s.present i (record { merge = m; split = p }))) reply new
 Effect hook s (Set i d value) = Values s i d (Some value)
 Effect hook s (Clear i d) = Values s i d None
+Effect hook s (Mark name) = Gives (Done 0 0) (with_mark s name)
+Effect hook s (Undo name) = λ reply new. (k : ℕ) × (mark : SetMark) × IsMark s.marks name k mark × Gives (Done 0 0) (back_to s k mark) reply new
+Effect hook s (Log name) = λ reply new. (k : ℕ) × (mark : SetMark) × IsMark s.marks name k mark
+    × ((steps : List Difference) × AreDifferences (since s mark) steps × (reply ≡ Logged steps) × (new ≡ s))
 Effect hook s (Value i d) = Gives (Worth (value_at s.present i d)) s
 Effect hook s (Cell i d) = λ reply new. (darts : List ℕ) × IsStrictlyIncreasing darts
     × ((e : ℕ) → Contains darts e ↔ InCell s.present.kind (links_in s.present) i d e) × (reply ≡ Darts darts) × (new ≡ s)

@@ -2,13 +2,16 @@
 use Rattle.std.specs.Prelude.{ℕ, ℤ, List, [], ◌∷◌, ◌++◌, length, Option, Some, None, Bool, true, false, codes, ◌==◌, if◌then◌else◌}
 use Rattle.std.specs.Fmt.{decimal, signed_decimal}
 use Rattle.std.specs.List.{flat_map, list_any}
+pub use Rattle.map_defs.specs.TextLines.{ended, spaced, spaced_signed}
 use Rattle.map_defs.specs.Kind.{Kind, alpha, beta}
 use Rattle.map_defs.specs.Refusal.{Refusal, number, name}
 use Rattle.map_defs.specs.Values.{Value}
 use Rattle.map_defs.specs.Listing.{ListRow, ListValue, Listing}
+use Rattle.map_defs.specs.Difference.{Difference}
+use Rattle.map_defs.specs.LogText.{log_text}
 
 -- One reply: a changing line's first new dart and how many were made, both 0 if none was; an answer to a question of yes
--- or no; the darts of a cell, ascending; the value of a cell, or none; the counts of the map; a listing; or a refusal.
+-- or no; the darts of a cell, ascending; the value of a cell, or none; the counts of the map; a listing; the steps of a log, oldest first; or a refusal.
 pub data Reply : Type 0 where
   Done : ℕ → ℕ → Reply
   Truth : Bool → Reply
@@ -16,6 +19,7 @@ pub data Reply : Type 0 where
   Worth : Option Value → Reply
   Counts : List ℕ → Reply
   Shown : Listing → Reply
+  Logged : List Difference → Reply
   Refused : Refusal → Reply
 
 abbrev pub is_refused : Reply → Bool
@@ -25,18 +29,8 @@ is_refused (Darts darts) = false
 is_refused (Worth value) = false
 is_refused (Counts counts) = false
 is_refused (Shown listing) = false
+is_refused (Logged steps) = false
 is_refused (Refused r) = true
-
--- a line of text ends with a line feed
-abbrev pub ended : List ℕ → List ℕ
-ended text = text ++ 10 ∷ []
-
--- numbers on a line stand behind a space each
-abbrev pub spaced : ℕ → List ℕ
-spaced n = 32 ∷ decimal n
-
-abbrev pub spaced_signed : ℤ → List ℕ
-spaced_signed z = 32 ∷ signed_decimal z
 
 -- a kind's letter: g for generalized maps, c for combinatorial maps
 abbrev pub letter : Kind → ℕ
@@ -87,6 +81,7 @@ reply_text (Darts darts) = numbers_text (codes "cell") darts
 reply_text (Worth value) = worth_text value
 reply_text (Counts counts) = numbers_text (codes "count") counts
 reply_text (Shown listing) = listing_text listing
+reply_text (Logged steps) = log_text steps
 reply_text (Refused r) = refusal_text r
 
 abbrev pub replies_text : List Reply → List ℕ
