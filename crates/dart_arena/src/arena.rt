@@ -86,9 +86,10 @@ impl<const DIM: usize> Arena<DIM> {
         self.live.len() as u32
     }
 
-    /// How many darts are live.
+    /// How many darts are live. Those that ended can all live again without further memory.
     pub fn live_count(&self) -> u32
-        ensures { result ≡ live_count self.now }
+        ensures count { result ≡ live_count self.now }
+        ensures room { made self.now ≤ result + self.now.room }
     {
         self.count as u32
     }

@@ -65,5 +65,9 @@ module _ (k : Kind) (L N : Links) (w : Laws k L) (same : (t x : ℕ) → N t x �
   pub stored-ended : AreStored k N LiveAfter m q
   stored-ended = stored-taken k L N Live LiveAfter (λ i d. (i < n + 1) × (d ≡ dart)) l m p q s t ended-spared
 
+  -- the values of all other places stay
+  pub worth-beyond : (i d : ℕ) → ((i < n + 1) × (d ≡ dart) → ⊥) → worth q m i d ≡ worth p l i d
+  worth-beyond = worth-stays k L N Live LiveAfter (λ i d. (i < n + 1) × (d ≡ dart)) l m p q s t ended-spared
+
   pub worth-ended : (i d : ℕ) → d ≢ dart → worth q m i d ≡ worth p l i d
-  worth-ended i d other = worth-stays k L N Live LiveAfter (λ i d. (i < n + 1) × (d ≡ dart)) l m p q s t ended-spared i d (λ h. other h.1)
+  worth-ended i d other = worth-beyond i d (λ h. other h.1)

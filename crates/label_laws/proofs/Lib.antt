@@ -16,3 +16,4 @@ pub mod Listed
 pub mod Loading
 pub mod Turned
 pub mod TurnedBelow
+pub mod Restored

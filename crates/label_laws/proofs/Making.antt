@@ -21,7 +21,7 @@ use Rattle.value_laws.proofs.Covering.{touching_covers}
 use Rattle.attr_pool.specs.Stores.{Store}
 use Rattle.attr_pool.specs.Labelings.{Labeling, id_of, KeepsIds, KeepsPlaces}
 use Rattle.transport.specs.Groups.{Group, group_at, rule_at, HasCarriedValue}
-use Rattle.label_laws.specs.Stored.{AreStored}
+use Rattle.label_laws.specs.Stored.{AreStored, worth}
 use Rattle.label_laws.specs.Changing.{AreTaken, AreRelabelled, IsGroupedBelow}
 use Rattle.label_laws.specs.Contents.{content_of, IsCarriedOn}
 use Rattle.label_laws.specs.Maps.{IsStoredMap}
@@ -29,7 +29,7 @@ use Rattle.label_laws.specs.Touching.{CanLabel, AreAllTouched}
 use Rattle.label_laws.proofs.Taking.{taken-as}
 use Rattle.label_laws.proofs.Showing.{ruled-low}
 use Rattle.label_laws.proofs.Same.{content-alike}
-use Rattle.label_laws.proofs.Steps.{stored-grown, born-stored, born-content, ended-stored, ended-content, relinked-stored, relinked-carried}
+use Rattle.label_laws.proofs.Steps.{stored-grown, born-stored, born-content, ended-stored, ended-content, relinked-stored, relinked-outside, relinked-carried, ended-outside}
 use Rattle.label_laws.proofs.Remaking.{not-ended}
 
 out-more : (x : ℕ) (ds : List ℕ) (d : ℕ) → x ≢ d → All (λ (y : ℕ). d ≢ y) ds → All (λ (y : ℕ). d ≢ y) (x ∷ ds)
@@ -118,6 +118,11 @@ module _ (k : Kind) (n : ℕ) (rows : Rows) (e : Edit) (l : Labeling) (p : Store
           relink-stored =
               relinked-stored k n rows New m m' q q' rules grown-stored laws (Contains e.deaths) gone-for-good live-or-ended touched.0 touched.1 groups touched.2 touched.3 r labels-long begun-new sound-new
 
+          -- the values of places whose ids are not given anew stay
+          pub relink-outside : (i d : ℕ) → (((i < n + 1) × Contains e.deaths d) ⊎ IsGroupedBelow (length groups) groups i d → ⊥) → worth q' m' i d ≡ worth q m i d
+          relink-outside =
+              relinked-outside k n rows New m m' q q' rules grown-stored laws (Contains e.deaths) gone-for-good live-or-ended touched.0 touched.1 groups touched.2 touched.3 r labels-long begun-new sound-new
+
           pub relink-carried : (hook : Meaning) → KeepsWhole hook → ((g : ℕ) → g < length groups → HasCarriedValue k (links_of New) (IsLive New) (id_of m) q hook rules (group_at groups g))
               → IsCarriedOn hook (content_of k n rows l p rules) New (content_of k n New m' q' rules)
           relink-carried hook whole carried =
@@ -154,6 +159,10 @@ module _ (k : Kind) (n : ℕ) (rows : Rows) (dart : ℕ) (l m : Labeling) (p q :
 
   pub end-stored : IsStoredMap k n After m q rules
   end-stored = ended-stored k n rows After l m p q rules s dart live alone after-is sound-one laws-one taken-one
+
+  -- the values of other darts stay
+  pub end-outside : (i d : ℕ) → ((i < n + 1) × Contains (dart ∷ []) d → ⊥) → worth q m i d ≡ worth p l i d
+  end-outside i d out = ended-outside k n rows After l m p q rules s dart live alone after-is sound-one laws-one taken-one i d (λ here. out ((only i d).1 here))
 
   pub end-content : content_of k n After m q rules ≡ without_dart (content_of k n rows l p rules) dart
   end-content = ended-content k n rows After l m p q rules s dart live alone after-is sound-one laws-one taken-one

@@ -160,6 +160,12 @@ module _ (k : Kind) (n : ℕ) (old new : Rows) (w : Laws k (links_of old)) (wn :
           let g = groups-places groups (length groups) mid m rest q given in
           (g.0 ∙ taken.made, λ i. ((λ h. (taken.places i).0 ((g.1 i).0 h)), λ h. (g.1 i).1 ((taken.places i).1 h)))
 
+      -- the values at places outside stay
+      pub worth-outside : (i d : ℕ) → (Place i d → ⊥) → worth q m i d ≡ worth p l i d
+      worth-outside i d out =
+          upto.others i d (λ g. out (inr g))
+          ∙ worth-stays k (links_of old) (links_of new) (IsLive old) (IsLive new) Place l mid p rest s taken spared i d out
+
       -- a dimension without a rule has no ids
       pub bare-after : (i d : ℕ) → rule_at rules i ≡ None → id_of m i d ≡ None
       bare-after i d none = upto.ids i d out ∙ left-none (taken.each i d)
@@ -211,10 +217,7 @@ module _ (k : Kind) (n : ℕ) (old new : Rows) (w : Laws k (links_of old)) (wn :
             let o = old-cell i d (subst (λ (z : Option Rule). IsSome z) (sym is) refl) h out in
             let kept = kept_is_carried k i (meaning_of hook rule) (links_of old) (links_of new) (IsLive old) (IsLive new) w wn (rows_lead_to_live k new wn)
             (λ x. worth p l i x) (worth-equal i) d h o (keeps_whole hook rule whole) (told i d out) in
-            let same : worth q m i d ≡ worth p l i d =
-            upto.others i d (λ g. out (inr g))
-            ∙ worth-stays k (links_of old) (links_of new) (IsLive old) (IsLive new) Place l mid p rest s taken spared i d out in
-            subst (λ (v : Option Value). Goal i rule d v) (sym same) kept
+            subst (λ (v : Option Value). Goal i rule d v) (sym (worth-outside i d out)) kept
 
         pub carried-after : (i : ℕ) (rule : Rule) → rule_at rules i ≡ Some rule
             → AreCarried k i (meaning_of hook rule) (links_of old) (IsLive old) (λ x. worth p l i x) (links_of new) (IsLive new) (λ x. worth q m i x)

@@ -95,6 +95,10 @@ module _ (k : Kind) (n : ℕ) (rows : Rows) (l : Labeling) (p : Store) (rules : 
       (λ i d high. none-unless i d (λ c e. let low = id-low i d c e in omega arith))
       (λ i d past. worth-dead i d (λ live. let within = live-within rows d live in omega arith))
 
+  -- above the dimension of the map there are no values
+  pub value-low : (i d : ℕ) → n + 1 ≤ i → value_at (content_of k n rows l p rules) i d ≡ None
+  value-low i d above = value-shown i d ∙ none-unless i d (λ c e. let low = id-low i d c e in omega arith)
+
   pub places-shown : HasPlaces (content_of k n rows l p rules)
   places-shown = record {
     long = table-long n (length rows) (worth p l);

@@ -25,11 +25,11 @@ use Rattle.label_laws.specs.Contents.{content_of, all_rules, IsCarriedOn}
 use Rattle.label_laws.specs.Maps.{IsStoredMap}
 use Rattle.label_laws.proofs.Showing.{id-low, value-shown, places-shown, kept-shown, worth-dead, rule-shown, rules-long, ruled-low}
 use Rattle.label_laws.proofs.Same.{worth-alike, stored-alike, carried-alike, content-alike}
-use Rattle.label_laws.proofs.Bearing.{stored-born, stored-ended, worth-ended}
+use Rattle.label_laws.proofs.Bearing.{stored-born, stored-ended, worth-ended, worth-beyond}
 use Rattle.label_laws.proofs.Setting.{IsSetIn}
 use Rattle.map_defs.specs.Touched.{Touches}
 use Rattle.std.proofs.Common.{Contains}
-use Rattle.label_laws.proofs.Relabelling.{stored-after, places-after, bare-after, carried-after}
+use Rattle.label_laws.proofs.Relabelling.{stored-after, places-after, bare-after, carried-after, worth-outside}
 
 content-equal : (c : Content) (rows other : Rows) (values more : List (List (Option Value))) → rows ≡ other → values ≡ more
     → record c { rows = rows; values = values } ≡ record c { rows = other; values = more }
@@ -170,6 +170,10 @@ module _ (k : Kind) (n : ℕ) (rows new : Rows) (l m : Labeling) (p q : Store) (
       ∙ worth-ended k (links_of rows) (links_of new) s.laws same-links (IsLive rows) (IsLive new) n dart alone other-lives l m p q s.stored (id-low k n rows l p rules s) taken i d other
       ∙ sym (value-shown k n rows l p rules s i d) ∙ sym (same-value Old kept-old dart live alone i d other)
 
+  -- the values of other darts stay
+  pub ended-outside : (i d : ℕ) → ((i < n + 1) × (d ≡ dart) → ⊥) → worth q m i d ≡ worth p l i d
+  ended-outside = worth-beyond k (links_of rows) (links_of new) s.laws same-links (IsLive rows) (IsLive new) n dart alone other-lives l m p q s.stored (id-low k n rows l p rules s) taken
+
   pub ended-content : content_of k n new m q rules ≡ without_dart Old dart
   ended-content =
       content-equal Old new (slice_set rows dart None) _ _ is
@@ -258,6 +262,10 @@ module _ (k : Kind) (n : ℕ) (old new : Rows) (l m : Labeling) (p q : Store) (r
     placed = λ i some. (after.1 i).1 (s.placed i some);
     long = omega (arith, long, after.0);
   }
+
+  -- the values of all other places stay
+  pub relinked-outside : (i d : ℕ) → (((i < n + 1) × Ended d) ⊎ IsGroupedBelow (length groups) groups i d → ⊥) → worth q m i d ≡ worth p l i d
+  relinked-outside = worth-outside k n old new s.laws laws l p s.stored Ended ends lives-on rules s.bare (λ i some. ruled-low n i rules s.ruled some) touched live groups t touches r.0 r.1 r.2 m q r.3
 
   module _ (hook : Meaning) (whole : KeepsWhole hook) (carried : (g : ℕ) → g < length groups → HasCarriedValue k (links_of new) (IsLive new) (id_of l) p hook rules (group_at groups g)) where
     values-carried : (i : ℕ) (o : Option Rule) → rule_at rules i ≡ o → AreCarriedBy hook (content_of k n old l p rules) (content_of k n new m q rules) i o

@@ -1,10 +1,10 @@
--- The state that a map shows: the values of its cells are told by the ids of their darts.
+-- The content that a map shows: the values of its cells are told by the ids of their darts.
 use Rattle.std.specs.Prelude.{ℕ, ◌≡◌, ◌+◌, ◌≤◌, List, [], ◌∷◌, length, Option, None, map, replicate}
 use Rattle.std.specs.List.{range_with_len}
 use Rattle.map_defs.specs.Kind.{Kind}
 use Rattle.map_defs.specs.Rows.{Rows}
 use Rattle.map_defs.specs.Values.{Value, Rule, Meaning}
-use Rattle.map_defs.specs.State.{Content, State, HasPlaces, rule_at}
+use Rattle.map_defs.specs.State.{Content, HasPlaces, rule_at}
 use Rattle.map_defs.specs.Relinking.{AreCarriedBy}
 use Rattle.attr_pool.specs.Stores.{Store}
 use Rattle.attr_pool.specs.Labelings.{Labeling}
@@ -21,10 +21,6 @@ all_rules n (rule ∷ rules) = rule ∷ rules
 
 abbrev pub content_of : Kind → ℕ → Rows → Labeling → Store → List (Option Rule) → Content
 content_of k n rows labels pool rules = record { kind = k; dim = n; rows = rows; values = table n (length rows) (worth pool labels); rules = all_rules n rules }
-
--- without marks
-abbrev pub state_of : Content → State
-state_of c = record { present = c; past = []; marks = []; undone = [] }
 
 -- the content with these rows, and with the values that the rules carry to its cells
 pub record IsCarriedOn (hook : Meaning) (c : Content) (rows : Rows) (next : Content) : Type 0 where

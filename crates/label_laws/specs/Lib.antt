@@ -6,3 +6,4 @@ pub mod Touching
 pub mod Lists
 pub mod Placing
 pub mod Turning
+pub mod Restoring

@@ -14,3 +14,4 @@ mod touched;
 pub use carrying::carry;
 pub use group::{Group, RuleRow};
 pub use laws::groups_carry_the_whole_map;
+pub use touched::touched_cells;

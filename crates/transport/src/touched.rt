@@ -13,7 +13,7 @@ use std::collections::BTreeSet;
 
 /// The cells of dimension `dim` that hold a touched dart, each once and without a value yet, ascending by their least
 /// darts. It costs these cells times a logarithm.
-pub(crate) fn touched_cells<K: Kind, const DIM: usize>(
+pub fn touched_cells<K: Kind, const DIM: usize>(
     alloc: Global,
     links: &Links<K, DIM>,
     dim: usize,
