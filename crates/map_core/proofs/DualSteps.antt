@@ -1,17 +1,18 @@
 -- What the machine does where the dual is taken, by what the plan answers.
-use Rattle.std.proofs.Common.{◌≡◌, ℕ, ◌↔◌, length, reverse, List, Option, refl, inr}
+use Rattle.std.proofs.Common.{◌≡◌, ℕ, ◌↔◌, length, reverse, List, Option, refl, subst, inr}
 use Rattle.map_defs.specs.Kind.{Kind}
 use Rattle.map_defs.specs.Laws.{Laws}
 use Rattle.map_defs.specs.Rows.{Rows, links_of, IsLive, IsSound}
-use Rattle.map_defs.specs.State.{State}
+use Rattle.map_defs.specs.State.{State, Content, steps_to}
 use Rattle.map_defs.specs.Values.{Rule, Meaning}
 use Rattle.map_defs.specs.Dual.{IsDual, IsDualable}
+use Rattle.map_defs.specs.Dualling.{IsDualOf}
 use Rattle.map_defs.specs.Script.{Dual}
 use Rattle.map_defs.specs.Machine.{Step}
 use Rattle.map_defs.specs.Text as text
 use Rattle.attr_pool.specs.Stores.{Store}
 use Rattle.attr_pool.specs.Labelings.{Labeling}
-use Rattle.label_laws.specs.Contents.{content_of, state_of}
+use Rattle.label_laws.specs.Contents.{content_of}
 use Rattle.label_laws.specs.Maps.{IsStoredMap}
 use Rattle.label_laws.specs.Turning.{AreTurned}
 use Rattle.label_laws.proofs.Turned.{stored-turned, shown-turned}
@@ -24,7 +25,10 @@ module _ (k : Kind) (n : ℕ) (rows after : Rows) (l m : Labeling) (p : Store) (
   dual-stored turned are = rw are (stored-turned k n rows after l m p rules stored turns able dual long live sound laws)
 
   -- and shows what the machine does
-  pub dual-obeyed : (hook : Meaning) (s : State) → state_of (content_of k n rows l p rules) ≡ s → (turned : List (Option Rule)) → turned ≡ reverse rules
-      → Step hook s Dual (text.Done 0 0) (state_of (content_of k n after m p turned))
-  dual-obeyed hook s view turned are =
-      rw (← view, are) (inr (able, (content_of k n after m p (reverse rules), shown-turned k n rows after l m p rules stored turns able dual long live sound laws, refl, refl)))
+  pub dual-obeyed : (hook : Meaning) (s : State) → content_of k n rows l p rules ≡ s.present → (turned : List (Option Rule)) → turned ≡ reverse rules
+      → (new : State) → new ≡ steps_to s (content_of k n after m p turned) → Step hook s Dual (text.Done 0 0) new
+  dual-obeyed hook s view turned are new made =
+      let next : Content = content_of k n after m p turned in
+      let is : IsDualOf (content_of k n rows l p rules) next = rw are (shown-turned k n rows after l m p rules stored turns able dual long live sound laws) in
+      let facts = subst (λ (c : Content). IsDualable c.kind c.dim (links_of c.rows) (IsLive c.rows) × IsDualOf c next) view (able, is) in
+      inr (facts.0, (next, facts.1, refl, made))

@@ -7,14 +7,14 @@ use Rattle.map_defs.specs.Laws.{Laws}
 use Rattle.map_defs.specs.Rows.{Rows, IsLive, IsSound, links_of, made}
 use Rattle.map_defs.specs.Cells.{NamesCell}
 use Rattle.map_defs.specs.Values.{Place, Rule}
-use Rattle.map_defs.specs.State.{State, empty_state}
+use Rattle.map_defs.specs.State.{Content, empty_content}
 use Rattle.map_defs.specs.Loading.{first_copy}
 use Rattle.cell_walk.specs.CellLists.{AreCellsOf}
 use Rattle.attr_pool.specs.Stores.{Store}
 use Rattle.attr_pool.specs.Labelings.{Labeling, KeepsIds, HasPlaces}
 use Rattle.transport.specs.Groups.{Group}
 use Rattle.label_laws.specs.Changing.{AreGroupsGiven}
-use Rattle.label_laws.specs.Contents.{all_rules, content_of, state_of}
+use Rattle.label_laws.specs.Contents.{all_rules, content_of}
 use Rattle.label_laws.specs.Maps.{IsStoredMap}
 use Rattle.label_laws.specs.Placing.{ArePlacedCells}
 use Rattle.label_laws.specs.Touching.{CanLabel}
@@ -26,13 +26,13 @@ use Rattle.map_core.specs.Placed.{placed_group, placed_groups}
 use Rattle.map_core.proofs.PlacedGroups.{length-placed, placed-at, placed-cells}
 
 module _ (k : Kind) (n : ℕ) (rows : Rows) (before : Labeling) (was : Store) (rules : List (Option Rule)) (s : IsStoredMap k n rows before was rules)
-    (empty : state_of (content_of k n rows before was rules) ≡ empty_state k n)
+    (empty : content_of k n rows before was rules ≡ empty_content k n)
     (new : Rows) (begun : 0 < length new) (sound : IsSound k n new) (laws : Laws k (links_of new)) where
   no-rows : rows ≡ None ∷ []
-  no-rows = ap (λ (t : State). t.present.rows) empty
+  no-rows = ap (λ (c : Content). c.rows) empty
 
   no-rules : all_rules n rules ≡ replicate (n + 1) None
-  no-rules = ap (λ (t : State). t.present.rules) empty
+  no-rules = ap (λ (c : Content). c.rules) empty
 
   module _ (l : Labeling) (p : Store) (ids : KeepsIds before l) (long : made new ≤ l.made) (here : HasPlaces l 0) (places : List Place)
       (members : (d : ℕ) → Contains (map (λ (place : Place). place.dart) places) d ↔ (IsLive new d × NamesCell k (links_of new) 0 d))

@@ -1,5 +1,5 @@
 -- What the machine does where a cell is removed or contracted, by what the plans answer.
-use Rattle.std.proofs.Common.{◌≡◌, ℕ, ◌<◌, ◌⊎◌, ◌↔◌, length, List, Option, Result, Err, Contains, refl, subst, inl, inr}
+use Rattle.std.proofs.Common.{◌≡◌, ℕ, ◌<◌, ◌⊎◌, ◌↔◌, length, List, Option, Result, Err, Contains, refl, sym, subst, inl, inr}
 use Rattle.map_kind.specs.declared.refusal.Refusal.TheVariants as told
 use Rattle.map_kind.specs.declared.refusal.Refused.{Refused}
 use Rattle.map_kind.specs.declared.refusal.Refused.TheVariants as why
@@ -18,12 +18,12 @@ use Rattle.map_defs.specs.Machine.{Step}
 use Rattle.map_defs.specs.Text as text
 use Rattle.attr_pool.specs.Stores.{Store}
 use Rattle.attr_pool.specs.Labelings.{Labeling}
-use Rattle.label_laws.specs.Contents.{content_of, state_of, IsCarriedOn}
+use Rattle.label_laws.specs.Contents.{content_of, IsCarriedOn}
 use Rattle.label_laws.proofs.Remaking.{relinked}
 use Rattle.map_core.specs.Calls.{Does}
 use Rattle.map_core.specs.declared.map.Done.{Done}
 
-module _ (k : Kind) (n : ℕ) (rows : Rows) (l : Labeling) (p : Store) (rules : List (Option Rule)) (hook : Meaning) (s : State) (view : state_of (content_of k n rows l p rules) ≡ s) (i d : ℕ)
+module _ (k : Kind) (n : ℕ) (rows : Rows) (l : Labeling) (p : Store) (rules : List (Option Rule)) (hook : Meaning) (s : State) (view : content_of k n rows l p rules ≡ s.present) (i d : ℕ)
     (low : n < i → ⊥) (live : IsLive s.present.rows d) where
   -- a removal that is refused
   pub remove-refused : (x y : ℕ) → x ≡ i → y ≡ d → (r : Refused) (result : Result Done Refused) → result ≡ Err r
@@ -32,8 +32,8 @@ module _ (k : Kind) (n : ℕ) (rows : Rows) (l : Labeling) (p : Store) (rules : 
   remove-refused x y is_x is_y r result is fails (inl memory) = rw (is, memory) refl
   remove-refused x y is_x is_y r result is fails (inr blocked) =
       let cannot : IsRemovable k (links_of rows) i d → ⊥ = rw (is_x, is_y) at fails blocked in
-      let living : IsLive rows d = rw (← view) at live in
-      rw (is, blocked, ← view) (inr (low, inr (living, inl (cannot, refl, refl))))
+      let fail = subst (λ (c : Content). (c.dim < i → ⊥) × (IsRemovable c.kind (links_of c.rows) i d → ⊥)) view (low, cannot) in
+      rw (is, blocked) (inr (fail.0, inr (live, inl (fail.1, refl, refl))))
 
   -- a contraction that is refused
   pub contract-refused : (x y : ℕ) → x ≡ i → y ≡ d → (r : Refused) (result : Result Done Refused) → result ≡ Err r
@@ -42,12 +42,15 @@ module _ (k : Kind) (n : ℕ) (rows : Rows) (l : Labeling) (p : Store) (rules : 
   contract-refused x y is_x is_y r result is fails (inl memory) = rw (is, memory) refl
   contract-refused x y is_x is_y r result is fails (inr blocked) =
       let cannot : IsContractible k (links_of rows) i d → ⊥ = rw (is_x, is_y) at fails blocked in
-      let living : IsLive rows d = rw (← view) at live in
-      rw (is, blocked, ← view) (inr (low, inr (living, inl (cannot, refl, refl))))
+      let fail = subst (λ (c : Content). (c.dim < i → ⊥) × (IsContractible c.kind (links_of c.rows) i d → ⊥)) view (low, cannot) in
+      rw (is, blocked) (inr (fail.0, inr (live, inl (fail.1, refl, refl))))
 
   module _ (edit : Edit) (sound : IsSound k n rows) (begun : 0 < length rows) (fits : Fits k n rows edit) (births : edit.births ≡ 0)
-      (new : State) (next : Content) (on : IsCarriedOn hook (content_of k n rows l p rules) (after_edit n edit rows) next)
-      (made : new ≡ steps_to (state_of (content_of k n rows l p rules)) next) where
+      (new : State) (next : Content) (carried : IsCarriedOn hook s.present (after_edit n edit s.present.rows) next)
+      (made : new ≡ steps_to s next) where
+    on : IsCarriedOn hook (content_of k n rows l p rules) (after_edit n edit rows) next
+    on = subst (λ (c : Content). IsCarriedOn hook c (after_edit n edit c.rows) next) (sym view) carried
+
     -- no dart is born, and those of C end
     cell-ended : (C : ℕ → Type 0) → ((x : ℕ) → Contains edit.deaths x ↔ C x) → (Becomes : Links → Type 0) → Becomes (links_of (after_edit n edit rows))
         → IsRelinked hook (content_of k n rows l p rules) 0 C Becomes next
@@ -62,8 +65,10 @@ module _ (k : Kind) (n : ℕ) (rows : Rows) (l : Labeling) (p : Store) (rules : 
         let can : IsRemovable k (links_of rows) i d = rw (← is_x, ← is_y) able in
         let ended : (z : ℕ) → Contains edit.deaths z ↔ InCell k (links_of rows) i d z = rw (← is_x, ← is_y) members in
         let done : IsRemoved k i d (links_of rows) (links_of (after_edit n edit rows)) = rw (← is_x, ← is_y) removed in
-        let living : IsLive rows d = rw (← view) at live in
-        rw (← view, made) (inr (low, inr (living, inr (can, (next, cell-ended (InCell k (links_of rows) i d) ended (IsRemoved k i d (links_of rows)) done, refl, refl)))))
+        let passes = subst (λ (c : Content). (c.dim < i → ⊥) × IsRemovable c.kind (links_of c.rows) i d
+        × IsRelinked hook c 0 (InCell c.kind (links_of c.rows) i d) (IsRemoved c.kind i d (links_of c.rows)) next) view
+        (low, can, cell-ended (InCell k (links_of rows) i d) ended (IsRemoved k i d (links_of rows)) done) in
+        inr (passes.0, inr (live, inr (passes.1, (next, passes.2, refl, made))))
 
     -- a contraction that is obeyed
     pub contract-obeyed : (x y : ℕ) → x ≡ i → y ≡ d → IsContractible k (links_of rows) x y → ((z : ℕ) → Contains edit.deaths z ↔ InCell k (links_of rows) x y z)
@@ -72,5 +77,7 @@ module _ (k : Kind) (n : ℕ) (rows : Rows) (l : Labeling) (p : Store) (rules : 
         let can : IsContractible k (links_of rows) i d = rw (← is_x, ← is_y) able in
         let ended : (z : ℕ) → Contains edit.deaths z ↔ InCell k (links_of rows) i d z = rw (← is_x, ← is_y) members in
         let done : IsContracted k i d (links_of rows) (links_of (after_edit n edit rows)) = rw (← is_x, ← is_y) contracted in
-        let living : IsLive rows d = rw (← view) at live in
-        rw (← view, made) (inr (low, inr (living, inr (can, (next, cell-ended (InCell k (links_of rows) i d) ended (IsContracted k i d (links_of rows)) done, refl, refl)))))
+        let passes = subst (λ (c : Content). (c.dim < i → ⊥) × IsContractible c.kind (links_of c.rows) i d
+        × IsRelinked hook c 0 (InCell c.kind (links_of c.rows) i d) (IsContracted c.kind i d (links_of c.rows)) next) view
+        (low, can, cell-ended (InCell k (links_of rows) i d) ended (IsContracted k i d (links_of rows)) done) in
+        inr (passes.0, inr (live, inr (passes.1, (next, passes.2, refl, made))))

@@ -1,5 +1,5 @@
 -- What the machine does where darts are sewn or unsewn, by what the plans answer.
-use Rattle.std.proofs.Common.{◌≡◌, ◌≢◌, ℕ, ◌<◌, ◌⊎◌, length, List, [], Option, Result, Err, refl, ap, subst, inl, inr, arith}
+use Rattle.std.proofs.Common.{◌≡◌, ◌≢◌, ℕ, ◌<◌, ◌⊎◌, length, List, [], Option, Result, Err, refl, sym, ap, subst, inl, inr, arith}
 use Rattle.map_kind.specs.declared.refusal.Refusal.TheVariants as told
 use Rattle.map_kind.specs.declared.refusal.Refused.{Refused}
 use Rattle.map_kind.specs.declared.refusal.Refused.TheVariants as why
@@ -13,16 +13,20 @@ use Rattle.map_defs.specs.Links.{Links}
 use Rattle.map_defs.specs.Relinking.{IsRelinked, NoDart}
 use Rattle.map_defs.specs.Sewing.{SewnPairs, IsSewable, IsSewn, IsUnsewn}
 use Rattle.map_defs.specs.Script.{Sew, Unsew}
-use Rattle.map_defs.specs.Machine.{Step}
+use Rattle.map_defs.specs.Machine.{Step, AreFree, ArePaired, links_in}
 use Rattle.map_defs.specs.Text as text
 use Rattle.attr_pool.specs.Stores.{Store}
 use Rattle.attr_pool.specs.Labelings.{Labeling}
-use Rattle.label_laws.specs.Contents.{content_of, state_of, IsCarriedOn}
+use Rattle.label_laws.specs.Contents.{content_of, IsCarriedOn}
 use Rattle.map_core.specs.Calls.{Does}
 use Rattle.map_core.specs.declared.map.Done.{Done}
 use Rattle.label_laws.proofs.Remaking.{relinked}
 
-module _ (k : Kind) (n : ℕ) (rows : Rows) (l : Labeling) (p : Store) (rules : List (Option Rule)) (hook : Meaning) (s : State) (view : state_of (content_of k n rows l p rules) ≡ s) (i d : ℕ)
+-- the number is no link that can be sewn
+abbrev IsNoLink : Content → ℕ → Type 0
+IsNoLink c i = (c.dim < i) ⊎ ((c.kind ≡ beta) × (i ≡ 0))
+
+module _ (k : Kind) (n : ℕ) (rows : Rows) (l : Labeling) (p : Store) (rules : List (Option Rule)) (hook : Meaning) (s : State) (view : content_of k n rows l p rules ≡ s.present) (i d : ℕ)
     (link : ((n < i) ⊎ ((k ≡ beta) × (i ≡ 0))) → ⊥) (one : IsLive s.present.rows d) where
   -- a sewing that is refused
   pub sew-refused : (e : ℕ) → IsLive s.present.rows e → (x y z : ℕ) → x ≡ i → y ≡ d → z ≡ e
@@ -36,14 +40,12 @@ module _ (k : Kind) (n : ℕ) (rows : Rows) (l : Labeling) (p : Store) (rules : 
   sew-refused e other x y z is_x is_y is_z r result is not-free unsewable (inr (inl blocked)) =
       let free : (links_of rows i d ≡ 0) × (links_of rows (inverse k i) e ≡ 0) → ⊥ = λ ends.
       elim (rw (is_x, is_y, is_z) at not-free blocked) [ inl near ↦ near ends.0 | inr far ↦ far ends.1 ] in
-      let living : IsLive rows d = rw (← view) at one in
-      let others : IsLive rows e = rw (← view) at other in
-      rw (is, blocked, ← view) (inr (link, inr (living, inr (others, inl (free, refl, refl)))))
+      let fails = subst (λ (c : Content). (IsNoLink c i → ⊥) × (AreFree c i d e → ⊥)) view (link, free) in
+      rw (is, blocked) (inr (fails.0, inr (one, inr (other, inl (fails.1, refl, refl)))))
   sew-refused e other x y z is_x is_y is_z r result is not-free unsewable (inr (inr unpaired)) =
       let bad = rw (is_x, is_y, is_z) at unsewable unpaired in
-      let living : IsLive rows d = rw (← view) at one in
-      let others : IsLive rows e = rw (← view) at other in
-      rw (is, unpaired, ← view) (inr (link, inr (living, inr (others, inr ((bad.0, bad.1), inl (bad.2, refl, refl))))))
+      let fails = subst (λ (c : Content). (IsNoLink c i → ⊥) × AreFree c i d e × (ArePaired c i d e → ⊥)) view (link, (bad.0, bad.1), bad.2) in
+      rw (is, unpaired) (inr (fails.0, inr (one, inr (other, inr (fails.1, inl (fails.2, refl, refl))))))
 
   -- an unsewing that is refused
   pub unsew-refused : (x y : ℕ) → x ≡ i → y ≡ d → (r : Refused) (result : Result Done Refused) → result ≡ Err r
@@ -52,12 +54,15 @@ module _ (k : Kind) (n : ℕ) (rows : Rows) (l : Labeling) (p : Store) (rules : 
   unsew-refused x y is_x is_y r result is free (inl memory) = rw (is, memory) refl
   unsew-refused x y is_x is_y r result is free (inr already) =
       let none : links_of rows i d ≡ 0 = rw (is_x, is_y) at free already in
-      let living : IsLive rows d = rw (← view) at one in
-      rw (is, already, ← view) (inr (link, inr (living, inl (none, refl, refl))))
+      let fails = subst (λ (c : Content). (IsNoLink c i → ⊥) × (links_in c i d ≡ 0)) view (link, none) in
+      rw (is, already) (inr (fails.0, inr (one, inl (fails.1, refl, refl))))
 
   module _ (edit : Edit) (sound : IsSound k n rows) (begun : 0 < length rows) (fits : Fits k n rows edit) (births : edit.births ≡ 0)
-      (deaths : edit.deaths ≡ []) (new : State) (next : Content) (on : IsCarriedOn hook (content_of k n rows l p rules) (after_edit n edit rows) next)
-      (made : new ≡ steps_to (state_of (content_of k n rows l p rules)) next) where
+      (deaths : edit.deaths ≡ []) (new : State) (next : Content) (carried : IsCarriedOn hook s.present (after_edit n edit s.present.rows) next)
+      (made : new ≡ steps_to s next) where
+    on : IsCarriedOn hook (content_of k n rows l p rules) (after_edit n edit rows) next
+    on = subst (λ (c : Content). IsCarriedOn hook c (after_edit n edit c.rows) next) (sym view) carried
+
     -- no dart is born and none ends
     links-alone : (Becomes : Links → Type 0) → Becomes (links_of (after_edit n edit rows))
         → IsRelinked hook (content_of k n rows l p rules) 0 NoDart Becomes next
@@ -71,24 +76,9 @@ module _ (k : Kind) (n : ℕ) (rows : Rows) (l : Labeling) (p : Store) (rules : 
     sew-obeyed e other x y z is_x is_y is_z able sewn =
         let can : IsSewable k (links_of rows) i d e = rw (← is_x, ← is_y, ← is_z) able in
         let done : IsSewn k i d e (links_of rows) (links_of (after_edit n edit rows)) = rw (← is_x, ← is_y, ← is_z) sewn in
-        let living : IsLive rows d = rw (← view) at one in
-        let others : IsLive rows e = rw (← view) at other in
-        rw (← view, made) (inr (
-          link,
-          inr (
-            living,
-            inr (
-              others,
-              inr (
-                (can.near, can.far),
-                inr (
-                  can.good,
-                  (next, links-alone (IsSewn k i d e (links_of rows)) done, refl, refl),
-                ),
-              ),
-            ),
-          ),
-        ))
+        let passes = subst (λ (c : Content). (IsNoLink c i → ⊥) × AreFree c i d e × ArePaired c i d e × IsRelinked hook c 0 NoDart (IsSewn c.kind i d e (links_in c)) next) view
+        (link, (can.near, can.far), can.good, links-alone (IsSewn k i d e (links_of rows)) done) in
+        inr (passes.0, inr (one, inr (other, inr (passes.1, inr (passes.2, (next, passes.3, refl, made))))))
 
     -- an unsewing that is obeyed
     pub unsew-obeyed : (x y : ℕ) → x ≡ i → y ≡ d → links_of rows x y ≢ 0
@@ -96,14 +86,6 @@ module _ (k : Kind) (n : ℕ) (rows : Rows) (l : Labeling) (p : Store) (rules : 
     unsew-obeyed x y is_x is_y linked unsewn =
         let there : links_of rows i d ≢ 0 = rw (← is_x, ← is_y) linked in
         let done : IsUnsewn k i d (links_of rows) (links_of (after_edit n edit rows)) = rw (← is_x, ← is_y) unsewn in
-        let living : IsLive rows d = rw (← view) at one in
-        rw (← view, made) (inr (
-          link,
-          inr (
-            living,
-            inr (
-              there,
-              (next, links-alone (IsUnsewn k i d (links_of rows)) done, refl, refl),
-            ),
-          ),
-        ))
+        let passes = subst (λ (c : Content). (IsNoLink c i → ⊥) × (links_in c i d ≢ 0) × IsRelinked hook c 0 NoDart (IsUnsewn c.kind i d (links_in c)) next) view
+        (link, there, links-alone (IsUnsewn k i d (links_of rows)) done) in
+        inr (passes.0, inr (one, inr (passes.1, (next, passes.2, refl, made))))

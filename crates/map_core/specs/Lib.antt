@@ -4,3 +4,5 @@ pub mod Calls
 pub mod Made
 pub mod Growing
 pub mod Placed
+pub mod Noted
+pub mod Undoing

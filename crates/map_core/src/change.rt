@@ -29,7 +29,7 @@ impl<'h, K: Kind, H: Hook, const DIM: usize> Map<'h, K, H, DIM> {
         }
         let first = self.links.made() + 1;
         let edit = polygon_edit(alloc, &self.links, sides as u32)?;
-        self.bear(&edit)?;
+        self.bear(alloc, &edit)?;
         Ok(Done { first, count })
     }
 
@@ -49,7 +49,7 @@ impl<'h, K: Kind, H: Hook, const DIM: usize> Map<'h, K, H, DIM> {
             deaths: Vec::new(alloc),
             changes: Vec::new(alloc),
         };
-        self.bear(&edit)?;
+        self.bear(alloc, &edit)?;
         Ok(Done { first, count: 1 })
     }
 

@@ -13,15 +13,16 @@ mod list;
 mod load;
 mod make;
 mod map;
+mod mark;
+mod note;
 mod question;
 mod relabel;
 mod remove;
+mod restore;
 mod sew;
-#[cfg(test)]
-mod tests;
 mod touched;
+mod undo;
 mod value;
-#[cfg(test)]
-mod whole_map;
 
 pub use map::{Done, Map};
+pub use undo_journal::{RuleChange, Step, ValueChange};

@@ -22,6 +22,7 @@ use link_rows::{Edit, Links, MADE_MAX};
 use map_kind::{Dart, Kind, Place};
 use std::alloc::{AllocError, Global};
 use transport::RuleRow;
+use undo_journal::Journal;
 
 impl<'h, K: Kind, H: Hook, const DIM: usize> Map<'h, K, H, DIM> {
     /// Makes a map from nothing by an edit, gives dimension 0 the rule `first copy` and each 0-cell its value: `places` has
@@ -81,6 +82,7 @@ impl<'h, K: Kind, H: Hook, const DIM: usize> Map<'h, K, H, DIM> {
             places.len(),
         )?;
         self.links = links;
+        self.journal = Journal::new(alloc);
         give_cells(&mut self.labels, &mut self.pool, places, cells);
         put_rule(&mut self.rules, 0, FIRST_COPY);
         Ok(Done {

@@ -9,8 +9,10 @@ ghost use Rattle.transport.specs.Groups.{group_at, HasCarriedValue};
 ghost use Rattle.label_laws.specs.Maps.{IsStoredMap};
 ghost use Rattle.label_laws.specs.Contents.{IsCarriedOn};
 ghost use Rattle.label_laws.specs.Touching.{AreAllTouched};
+ghost use Rattle.map_core.specs.Noted.{AreOldValues, IsRelabelledPlace};
 
 use crate::map::Map;
+use crate::note::{keep, new_values, noted_edit, old_values};
 use crate::relabel::{end_ids, relabel};
 use crate::touched::touched_darts;
 use crate::value::has_places;
@@ -20,11 +22,12 @@ use link_rows::{Edit, Links, MADE_MAX};
 use map_kind::{Dart, Kind};
 use std::alloc::{AllocError, Global};
 use transport::{Group, RuleRow, carry};
+use undo_journal::{Journal, ValueChange};
 
 impl<'h, K: Kind, H: Hook, const DIM: usize> Map<'h, K, H, DIM> {
     /// Makes an edit that only adds darts, linked among each other alone. They have no values, and no value changes. All
     /// memory is taken before anything changes.
-    pub(crate) fn bear(&mut self, edit: &Edit) -> Result<(), AllocError>
+    pub(crate) fn bear(&mut self, alloc: Global, edit: &Edit) -> Result<(), AllocError>
         requires fits { Fits K.kind DIM self.old.state.present.rows edit.now }
         requires laws { Laws K.kind (links_of (after_edit DIM edit.now self.old.state.present.rows)) }
         requires few { made self.old.state.present.rows + edit.now.births ≤ MADE_MAX }
@@ -36,11 +39,20 @@ impl<'h, K: Kind, H: Hook, const DIM: usize> Map<'h, K, H, DIM> {
             → OnOk result (self.new.state ≡ steps_to self.old.state (with_born self.old.state.present born)) }
         ensures err { OnErr result (self.new ≡ self.old) }
     {
+        let noted = noted_edit(alloc, &mut self.journal, edit)?;
+        let made = self.links.made();
         if self.links.reserve(edit.births).is_err() {
             return Err(AllocError);
         }
-        self.labels.grow(self.links.made() + edit.births)?;
+        self.labels.grow(made + edit.births)?;
         self.links.apply(edit);
+        keep(
+            &mut self.journal,
+            made,
+            noted,
+            Vec::new(alloc),
+            Vec::new(alloc),
+        );
         Ok(())
     }
 
@@ -55,22 +67,27 @@ impl<'h, K: Kind, H: Hook, const DIM: usize> Map<'h, K, H, DIM> {
             (after_edit DIM edit.now self.old.state.present.rows) next × (self.new.state ≡ steps_to self.old.state next)) }
         ensures err { OnErr result (self.new ≡ self.old) }
     {
+        let noted = noted_edit(alloc, &mut self.journal, edit)?;
+        let made = self.links.made();
         if self.links.reserve(edit.births).is_err() {
             return Err(AllocError);
         }
-        self.labels.grow(self.links.made() + edit.births)?;
+        self.labels.grow(made + edit.births)?;
         self.links.apply(edit);
-        match carried(
+        match moved(
             alloc,
             &self.links,
             &self.labels,
             &mut self.pool,
             &self.rules,
             self.hook,
+            &self.journal,
             edit,
         ) {
-            Ok(groups) => {
+            Ok((groups, olds)) => {
                 relabel(&mut self.labels, &mut self.pool, &edit.deaths, &groups);
+                let values = new_values(&self.labels, &self.pool, olds);
+                keep(&mut self.journal, made, noted, values, Vec::new(alloc));
                 Ok(())
             }
             Err(error) => {
@@ -93,10 +110,53 @@ impl<'h, K: Kind, H: Hook, const DIM: usize> Map<'h, K, H, DIM> {
             deaths: vec![in alloc; dart]?,
             changes: Vec::new(alloc),
         };
+        let noted = noted_edit(alloc, &mut self.journal, &edit)?;
+        let made = self.links.made();
+        let olds = old_values(
+            alloc,
+            &self.journal,
+            &self.labels,
+            &self.pool,
+            &edit.deaths,
+            &[],
+        )?;
         self.links.apply(&edit);
         end_ids(&mut self.labels, &mut self.pool, &edit.deaths);
+        let values = new_values(&self.labels, &self.pool, olds);
+        keep(&mut self.journal, made, noted, values, Vec::new(alloc));
         Ok(())
     }
+}
+
+/// The cells whose darts the edit touched, with the values that are carried to them, and room in the pool for these
+/// values; and where a mark stands, the values that change with them, as they were.
+fn moved<K: Kind, H: Hook, const DIM: usize>(
+    alloc: Global,
+    links: &Links<K, DIM>,
+    labels: &Labels<DIM>,
+    pool: &mut Pool,
+    rules: &RuleRow,
+    hook: &H,
+    journal: &Journal,
+    edit: &Edit,
+) -> Result<(Vec<Group>, Vec<ValueChange>), AllocError>
+    requires ready { H.ready hook.now }
+    requires led { (old : Rows) × IsLed K.kind DIM edit.now old links.now.rows
+        × IsStoredMap K.kind DIM old labels.now pool.old rules.now }
+    requires laws { Laws K.kind (links_of links.now.rows) }
+    ensures cells { IfOk result (λ moved. (old : Rows) → IsLed K.kind DIM edit.now old links.now.rows
+        → Laws K.kind (links_of old) → AreAllTouched K.kind old links.now.rows rules.now moved.0.items) }
+    ensures values { IfOk result (λ moved. (n : ℕ) → n < length moved.0.items
+        → HasCarriedValue K.kind (links_of links.now.rows) (IsLive links.now.rows) (id_of labels.now) pool.old
+        (H.meaning hook.now) rules.now (group_at moved.0.items n)) }
+    ensures room { IfOk result (λ moved. length moved.0.items ≤ pool.new.spare) }
+    ensures slots { pool.new.slots ≡ pool.old.slots }
+    ensures olds { IfOk result (λ moved. 0 < journal.now.trail.standing
+        → AreOldValues (IsRelabelledPlace DIM edit.now.deaths moved.0.items) labels.now pool.new moved.1.items) }
+{
+    let groups = carried(alloc, links, labels, pool, rules, hook, edit)?;
+    let olds = old_values(alloc, journal, labels, pool, &edit.deaths, &groups)?;
+    Ok((groups, olds))
 }
 
 /// The cells whose darts the edit touched, with the values that are carried to them, and room in the pool for these

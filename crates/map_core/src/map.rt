@@ -12,6 +12,7 @@ use map_kind::{Dart, Kind};
 use std::alloc::Global;
 use std::marker::Model;
 use transport::RuleRow;
+use undo_journal::Journal;
 
 /// What a changing line made: its first new dart and how many, the darts being numbered on from the first. Both are 0
 /// where no dart is made.
@@ -28,7 +29,8 @@ impl Done {
 
 /// A map of a kind and a dimension from 2 to 8 with values on its cells, seen as the state of the plain map machine
 /// beside the hook that was handed in. Its type keeps the laws of a map: at every moment its links obey them, and the
-/// darts of a cell have one value or none.
+/// darts of a cell have one value or none. Of the past it keeps what each step since the first mark changed, and tells
+/// all else from that.
 #[derive(Drop)]
 pub struct Map<'h, K: Kind, H: Hook, const DIM: usize> {
     pub(crate) links: Links<K, DIM>,
@@ -38,18 +40,21 @@ pub struct Map<'h, K: Kind, H: Hook, const DIM: usize> {
     // Without places until some dimension gets a rule.
     pub(crate) rules: RuleRow,
     pub(crate) hook: &'h H,
+    // The steps since the first mark. Without a mark none is noted.
+    pub(crate) journal: Journal,
 }
 
 impl<'h, K: Kind, H: Hook, const DIM: usize> Model for Map<'h, K, H, DIM> {
     ghost use Rattle.map_core.specs.Seen.{Seen};
-    ghost use Rattle.label_laws.specs.Contents.{state_of, content_of};
-    ghost use Rattle.label_laws.specs.Maps.{IsStoredMap};
+    ghost use Rattle.label_laws.specs.Contents.{content_of};
+    ghost use Rattle.trail_laws.specs.Told.{told};
+    ghost use Rattle.map_core.specs.Noted.{IsJournaled};
 
     ghost Value = { Seen H };
 
-    ghost view = { λ map. record { state = state_of (content_of K.kind DIM map.links.rows map.labels map.pool map.rules); hook = map.hook.now } };
+    ghost view = { λ map. record { state = told (content_of K.kind DIM map.links.rows map.labels map.pool map.rules) map.journal.trail; hook = map.hook.now } };
 
-    ghost invariant = { λ map. IsStoredMap K.kind DIM map.links.rows map.labels map.pool map.rules };
+    ghost invariant = { λ map. IsJournaled K.kind DIM map.links.rows map.labels map.pool map.rules map.journal.trail };
 }
 
 impl<'h, K: Kind, H: Hook, const DIM: usize> Map<'h, K, H, DIM> {
@@ -68,6 +73,7 @@ impl<'h, K: Kind, H: Hook, const DIM: usize> Map<'h, K, H, DIM> {
                 rules: Vec::new(alloc),
             },
             hook,
+            journal: Journal::new(alloc),
         }
     }
 

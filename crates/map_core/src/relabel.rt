@@ -102,7 +102,12 @@ pub(crate) fn take_ids<const DIM: usize>(
 }
 
 /// Takes the id of a dart in a dimension away, if it has one, and with it the value that it stands for.
-fn take_id<const DIM: usize>(labels: &mut Labels<DIM>, pool: &mut Pool, dim: usize, dart: Dart)
+pub(crate) fn take_id<const DIM: usize>(
+    labels: &mut Labels<DIM>,
+    pool: &mut Pool,
+    dim: usize,
+    dart: Dart,
+)
     requires dim { dim ≤ DIM }
     requires dart { dart ≤ labels.old.made }
     ensures { AreTaken (λ i d. (i ≡ dim) × (d ≡ dart)) labels.old labels.new pool.old pool.new }

@@ -49,7 +49,7 @@ fn add_born<K: Kind, const DIM: usize>(
 }
 
 /// Adds the darts that a change touched.
-fn add_at_change<K: Kind, const DIM: usize>(
+pub(crate) fn add_at_change<K: Kind, const DIM: usize>(
     links: &Links<K, DIM>,
     change: Change,
     touched: &mut Vec<Dart>,
@@ -96,7 +96,7 @@ fn add_linked<K: Kind, const DIM: usize>(
 }
 
 /// Adds the dart of a number, if it is live.
-fn add_live<K: Kind, const DIM: usize>(
+pub(crate) fn add_live<K: Kind, const DIM: usize>(
     links: &Links<K, DIM>,
     number: u32,
     touched: &mut Vec<Dart>,

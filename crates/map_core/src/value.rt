@@ -7,13 +7,18 @@ ghost use Rattle.map_defs.specs.Machine.{with_rule};
 ghost use Rattle.map_defs.specs.Script.{Rule as SetRule, Set, Clear, Value as AskValue};
 ghost use Rattle.map_defs.specs.Text.{Worth};
 ghost use Rattle.transport.specs.Groups.{rule_at as rule_of};
+ghost use Rattle.label_laws.specs.Contents.{content_of};
+ghost use Rattle.label_laws.specs.Maps.{IsStoredMap};
 ghost use Rattle.map_core.specs.Calls.{Does, Tells};
 
 use crate::make::make_room;
 use crate::map::{Done, Map};
+use crate::note::{cell_values, keep, new_values, no_edit, reserve_step, rule_changes};
 use crate::relabel::{give_id, take_ids, worth};
+use attr_pool::{Labels, Pool};
 use attr_rules::{Hook, TableRule, merge_named, split_named};
 use cell_walk::cell;
+use link_rows::Links;
 use map_kind::{Dart, Kind, Refusal, Refused, Value};
 use std::alloc::{AllocError, Global};
 use transport::RuleRow;
@@ -47,8 +52,8 @@ impl<'h, K: Kind, H: Hook, const DIM: usize> Map<'h, K, H, DIM> {
         Ok(Done::NONE)
     }
 
-    /// Gives the cell of a dart in a dimension a value, in place of the one that it had. Where the cell has a value, it
-    /// takes no memory; else it costs the size of the cell times a logarithm.
+    /// Gives the cell of a dart in a dimension a value, in place of the one that it had. Where the cell has a value and
+    /// no mark stands, it takes no memory; else it costs the size of the cell times a logarithm.
     ///
     /// Refused as `BadDim` exactly where the dimension is above the map's, then as `NoDart` exactly where no live dart
     /// has the number, and then as `NoRule` exactly where the dimension has no rule.
@@ -70,7 +75,7 @@ impl<'h, K: Kind, H: Hook, const DIM: usize> Map<'h, K, H, DIM> {
     }
 
     /// Takes the value of the cell of a dart in a dimension away; where it has none, nothing changes. Where it has one,
-    /// it costs the size of the cell times a logarithm.
+    /// or a mark stands, it costs the size of the cell times a logarithm.
     ///
     /// Refused as `BadDim` exactly where the dimension is above the map's, then as `NoDart` exactly where no live dart
     /// has the number, and then as `NoRule` exactly where the dimension has no rule.
@@ -115,9 +120,19 @@ impl<'h, K: Kind, H: Hook, const DIM: usize> Map<'h, K, H, DIM> {
         ensures err { OnErr result (self.new ≡ self.old) }
     {
         let dimension = self.links.dimension();
+        let made = self.links.made();
+        reserve_step(&mut self.journal)?;
+        let changes = rule_changes(alloc, &self.journal, &self.rules, dim, rule)?;
         self.labels.open(dim)?;
         make_places(alloc, &mut self.rules, dimension + 1)?;
         put_rule(&mut self.rules, dim, rule);
+        keep(
+            &mut self.journal,
+            made,
+            no_edit(alloc),
+            Vec::new(alloc),
+            changes,
+        );
         Ok(())
     }
 
@@ -137,13 +152,35 @@ impl<'h, K: Kind, H: Hook, const DIM: usize> Map<'h, K, H, DIM> {
             × (self.new.state ≡ steps_to self.old.state next)) }
         ensures err { OnErr result (self.new ≡ self.old) }
     {
-        if let Some(id) = self.labels.id(dim, dart) {
-            self.pool.replace(id, value);
-            return Ok(());
-        }
-        let darts = cell(alloc, &self.links, dim, dart)?;
-        make_room(&mut self.pool, 1)?;
-        give_id(&mut self.labels, &mut self.pool, dim, &darts, value);
+        reserve_step(&mut self.journal)?;
+        let made = self.links.made();
+        let olds = cell_values(
+            alloc,
+            &self.journal,
+            &self.links,
+            &self.labels,
+            &self.pool,
+            dim,
+            dart,
+        )?;
+        put_value(
+            alloc,
+            &self.links,
+            &mut self.labels,
+            &mut self.pool,
+            &self.rules,
+            dim,
+            dart,
+            value,
+        )?;
+        let values = new_values(&self.labels, &self.pool, olds);
+        keep(
+            &mut self.journal,
+            made,
+            no_edit(alloc),
+            values,
+            Vec::new(alloc),
+        );
         Ok(())
     }
 
@@ -156,13 +193,97 @@ impl<'h, K: Kind, H: Hook, const DIM: usize> Map<'h, K, H, DIM> {
             × (self.new.state ≡ steps_to self.old.state next)) }
         ensures err { OnErr result (self.new ≡ self.old) }
     {
-        if self.labels.id(dim, dart).is_none() {
-            return Ok(());
-        }
-        let darts = cell(alloc, &self.links, dim, dart)?;
-        take_ids(&mut self.labels, &mut self.pool, dim, &darts);
+        reserve_step(&mut self.journal)?;
+        let made = self.links.made();
+        let olds = cell_values(
+            alloc,
+            &self.journal,
+            &self.links,
+            &self.labels,
+            &self.pool,
+            dim,
+            dart,
+        )?;
+        drop_value(
+            alloc,
+            &self.links,
+            &mut self.labels,
+            &mut self.pool,
+            &self.rules,
+            dim,
+            dart,
+        )?;
+        let values = new_values(&self.labels, &self.pool, olds);
+        keep(
+            &mut self.journal,
+            made,
+            no_edit(alloc),
+            values,
+            Vec::new(alloc),
+        );
         Ok(())
     }
+}
+
+/// Lets the darts of the cell of a live dart have an id for this value. Where the cell has an id, it takes no memory;
+/// else all memory is taken before anything changes.
+fn put_value<K: Kind, const DIM: usize>(
+    alloc: Global,
+    links: &Links<K, DIM>,
+    labels: &mut Labels<DIM>,
+    pool: &mut Pool,
+    rules: &RuleRow,
+    dim: usize,
+    dart: Dart,
+    value: Value,
+) -> Result<(), AllocError>
+    requires dim { dim ≤ DIM }
+    requires live { IsLive links.now.rows dart }
+    requires ruled { IsSome (rule_of rules.now dim) }
+    requires stored { IsStoredMap K.kind DIM links.now.rows labels.old pool.old rules.now }
+    ensures stored { IsStoredMap K.kind DIM links.now.rows labels.new pool.new rules.now }
+    ensures valued { OnOk result (IsValued (content_of K.kind DIM links.now.rows labels.old pool.old rules.now) dim dart (Some value)
+        (content_of K.kind DIM links.now.rows labels.new pool.new rules.now)) }
+    ensures err { OnErr result (content_of K.kind DIM links.now.rows labels.new pool.new rules.now
+        ≡ content_of K.kind DIM links.now.rows labels.old pool.old rules.now) }
+{
+    let _ = rules;
+    if let Some(id) = labels.id(dim, dart) {
+        pool.replace(id, value);
+        return Ok(());
+    }
+    let darts = cell(alloc, links, dim, dart)?;
+    make_room(pool, 1)?;
+    give_id(labels, pool, dim, &darts, value);
+    Ok(())
+}
+
+/// Takes the ids of the darts of the cell of a live dart away.
+fn drop_value<K: Kind, const DIM: usize>(
+    alloc: Global,
+    links: &Links<K, DIM>,
+    labels: &mut Labels<DIM>,
+    pool: &mut Pool,
+    rules: &RuleRow,
+    dim: usize,
+    dart: Dart,
+) -> Result<(), AllocError>
+    requires dim { dim ≤ DIM }
+    requires live { IsLive links.now.rows dart }
+    requires stored { IsStoredMap K.kind DIM links.now.rows labels.old pool.old rules.now }
+    ensures stored { IsStoredMap K.kind DIM links.now.rows labels.new pool.new rules.now }
+    ensures valued { OnOk result (IsValued (content_of K.kind DIM links.now.rows labels.old pool.old rules.now) dim dart None
+        (content_of K.kind DIM links.now.rows labels.new pool.new rules.now)) }
+    ensures err { OnErr result (content_of K.kind DIM links.now.rows labels.new pool.new rules.now
+        ≡ content_of K.kind DIM links.now.rows labels.old pool.old rules.now) }
+{
+    let _ = rules;
+    if labels.id(dim, dart).is_none() {
+        return Ok(());
+    }
+    let darts = cell(alloc, links, dim, dart)?;
+    take_ids(labels, pool, dim, &darts);
+    Ok(())
 }
 
 /// Whether a dimension has a rule.

@@ -1,52 +1,45 @@
-use Rattle.std.proofs.Common.{ℕ, refl, sym, ◌∙◌, lit<}
-use Rattle.map_defs.specs.Rows.{Rows, IsLive}
+use Rattle.std.proofs.Common.{◌≡◌, ℕ, ◌<◌, List, Option, None, ap, sym, subst, ◌∙◌}
+use Rattle.map_defs.specs.Rows.{Rows, links_of}
+use Rattle.map_defs.specs.Cells.{InCell}
+use Rattle.map_defs.specs.Values.{Value, Rule}
+use Rattle.map_defs.specs.Difference.{ValueChange}
+use Rattle.undo_journal.specs.Trails.{Trail}
+use Rattle.trail_laws.specs.Told.{told}
 use Rattle.label_laws.specs.Contents.{content_of}
-use Rattle.label_laws.proofs.Valued.{none-valued, take-stored, take-valued, darts-within}
-use Rattle.map_core.proofs.CellIds.{none-of}
+use Rattle.map_core.specs.Noted.{IsJournaled, AreOldValues}
+use Rattle.map_core.proofs.JournaledValues.{value-journaled, value-stepped}
 use Rattle.map_core.proofs.map.Map.clear_value.Goals as goal
 
-pub returns-then-is_none-clause-cleared : goal.returns-then-is_none-clause-cleared
-returns-then-is_none-clause-cleared g c =
+pub invariant_of-self-2 : goal.invariant_of-self-2
+invariant_of-self-2 g c =
     let k = g.K.Kind.kind in
     let n : ℕ = g.row.DIM in
     let rows : Rows = c.self.inside.links.rows in
-    let none = sym c.id.ensures.id ∙ none-of c.id.result c.is_none.result c.is_none.ensures c.if-is_none.true in
-    rw (← c.self.view_is) (
-      content_of k n rows c.self.inside.labels c.self.inside.pool c.self.inside.rules,
-      none-valued k n rows c.self.inside.labels c.self.inside.pool c.self.inside.rules c.self.invariant c.args.dim c.args.dart none,
-      refl,
-    )
-
-pub take_ids-requires : goal.take_ids-requires
-take_ids-requires g c =
-    let rows : Rows = c.self.inside.links.rows in
-    let live : IsLive rows c.args.dart = rw (← c.self.view_is) at c.requires.live in
-    rw (c.deref.ensures.value) (
-      lit< tt,
-      (
-        c.requires.dim,
-        darts-within g.K.Kind.kind g.row.DIM rows c.self.inside.labels c.self.inside.pool c.self.inside.rules c.self.invariant c.args.dim c.args.dart live c.in_ok-darts.darts.items c.in_ok-darts.ensures.members,
-      ),
-    )
-
-pub invariant_of-self : goal.invariant_of-self
-invariant_of-self g c =
-    let rows : Rows = c.self.inside.links.rows in
-    let live : IsLive rows c.args.dart = rw (← c.self.view_is) at c.requires.live in
-    let taken = rw (c.deref.ensures.value) at c.take_ids.ensures in
-    take-stored g.K.Kind.kind g.row.DIM rows c.self.inside.labels c.self.inside.pool c.self.inside.rules c.self.invariant c.args.dim c.args.dart live
-    c.in_ok-darts.darts.items c.in_ok-darts.ensures.members c.take_ids.new.labels c.take_ids.new.pool taken
+    let t : Trail = c.self.inside.journal.trail in
+    let rules : List (Option Rule) = c.self.inside.rules in
+    let values : List ValueChange = c.new_values-values.result.items in
+    let old : 0 < t.standing → AreOldValues (λ i d. (i ≡ c.args.dim) × InCell k (links_of rows) c.args.dim c.args.dart d) c.self.inside.labels c.self.inside.pool c.in_ok-olds.olds.items =
+    rw (c.reserve_step.ensures.trail) at c.in_ok-olds.ensures in
+    let kept = rw (c.made-made.ensures.made, c.no_edit.ensures, c.new.ensures.items, c.reserve_step.ensures.trail) at c.keep.ensures in
+    subst (IsJournaled k n rows c.drop_value.new.labels c.drop_value.new.pool rules) (sym kept)
+    (value-journaled k n rows c.self.inside.labels c.drop_value.new.labels c.self.inside.pool c.drop_value.new.pool rules t c.self.invariant c.reserve_step.ensures.ordered c.drop_value.ensures.stored
+    c.args.dim c.args.dart (let none : Option Value = None in none) c.in_ok-drop_value.ensures.valued c.in_ok-olds.olds.items values old c.new_values-values.ensures)
 
 pub returns-clause-cleared : goal.returns-clause-cleared
 returns-clause-cleared g c =
     let k = g.K.Kind.kind in
     let n : ℕ = g.row.DIM in
     let rows : Rows = c.self.inside.links.rows in
-    let live : IsLive rows c.args.dart = rw (← c.self.view_is) at c.requires.live in
-    let taken = rw (c.deref.ensures.value) at c.take_ids.ensures in
+    let t : Trail = c.self.inside.journal.trail in
+    let rules : List (Option Rule) = c.self.inside.rules in
+    let values : List ValueChange = c.new_values-values.result.items in
+    let old : 0 < t.standing → AreOldValues (λ i d. (i ≡ c.args.dim) × InCell k (links_of rows) c.args.dim c.args.dart d) c.self.inside.labels c.self.inside.pool c.in_ok-olds.olds.items =
+    rw (c.reserve_step.ensures.trail) at c.in_ok-olds.ensures in
+    let kept = rw (c.made-made.ensures.made, c.no_edit.ensures, c.new.ensures.items, c.reserve_step.ensures.trail) at c.keep.ensures in
+    let after = content_of k n rows c.drop_value.new.labels c.drop_value.new.pool rules in
     rw (← c.self.view_is) (
-      content_of k n rows c.take_ids.new.labels c.take_ids.new.pool c.self.inside.rules,
-      take-valued k n rows c.self.inside.labels c.self.inside.pool c.self.inside.rules c.self.invariant c.args.dim c.args.dart live
-          c.in_ok-darts.darts.items c.in_ok-darts.ensures.members c.take_ids.new.labels c.take_ids.new.pool taken,
-      refl,
+      after,
+      c.in_ok-drop_value.ensures.valued,
+      ap (told after) kept ∙ value-stepped k n rows c.self.inside.labels c.drop_value.new.labels c.self.inside.pool c.drop_value.new.pool rules t c.self.invariant c.reserve_step.ensures.ordered c.drop_value.ensures.stored
+          c.args.dim c.args.dart (let none : Option Value = None in none) c.in_ok-drop_value.ensures.valued c.in_ok-olds.olds.items values old c.new_values-values.ensures,
     )

@@ -14,8 +14,8 @@ bear-requires g c =
     rw (← c.self.view_is, c.new.ensures.items, c.new-2.ensures.items) (
       lit< tt,
       (
-        births-fit g.K.Kind.kind n 1 rows c.self.invariant.sound,
-        (births-keep g.K.Kind.kind n 1 rows c.self.invariant.laws, (few, (free_row n ∷ [], refl))),
+        births-fit g.K.Kind.kind n 1 rows c.self.invariant.stored.sound,
+        (births-keep g.K.Kind.kind n 1 rows c.self.invariant.stored.laws, (few, (free_row n ∷ [], refl))),
       ),
     )
 

@@ -1,43 +1,52 @@
-use Rattle.std.proofs.Common.{◌≡◌, ℕ, zero, suc, [], ◌∷◌, ap, sym, subst, ◌∙◌, lit<, arith, Contains}
-use Rattle.map_defs.specs.Rows.{Rows, IsLive}
-use Rattle.label_laws.specs.Contents.{content_of, state_of}
-use Rattle.label_laws.specs.Maps.{IsStoredMap}
-use Rattle.label_laws.proofs.Making.{end-stored, end-content}
-use Rattle.map_core.proofs.LiveDarts.{live-made}
+use Rattle.std.proofs.Common.{ℕ, ◌<◌, List, [], ◌∷◌, ap, sym, subst, ◌∙◌}
+use Rattle.map_defs.specs.Rows.{Rows, IsLive, made}
+use Rattle.map_defs.specs.Edits.{after_edit}
+use Rattle.map_defs.specs.Difference.{ValueChange}
+use Rattle.link_rows.proofs.EditPlain.{death_edit}
+use Rattle.undo_journal.specs.Trails.{Trail}
+use Rattle.trail_laws.specs.Told.{told}
+use Rattle.label_laws.specs.Contents.{content_of}
+use Rattle.map_core.specs.Noted.{IsJournaled, advanced, step_of, IsSorted, AreOldValues, IsRelabelledPlace}
+use Rattle.map_core.proofs.JournaledValues.{end-journaled, end-stepped}
 use Rattle.map_core.proofs.map.Map.end.Goals as goal
 
-the-dart : (dart d : ℕ) → Contains (dart ∷ []) d → dart ≡ d
-the-dart dart d (zero, lt, is) = is
-the-dart dart d (suc j, lt, is) = absurd (omega arith)
-
-pub end_ids-requires : goal.end_ids-requires
-end_ids-requires g c =
-    let live : IsLive c.self.inside.links.rows c.args.dart = rw (← c.self.view_is) at c.requires.live in
-    let low = live-made c.self.inside.links.rows c.args.dart live in
-    rw (c.deref.ensures.value, c.in_ok-vec.ensures.items)
-    (lit< tt, (c.self.invariant.high, λ d here. omega (arith, the-dart c.args.dart d here, low, c.self.invariant.long)))
-
-pub invariant_of-self : goal.invariant_of-self
-invariant_of-self g c =
+pub invariant_of-self-2 : goal.invariant_of-self-2
+invariant_of-self-2 g c =
     let k = g.K.Kind.kind in
     let n : ℕ = g.row.DIM in
     let rows : Rows = c.self.inside.links.rows in
+    let t : Trail = c.self.inside.journal.trail in
     let is = rw (c.in_ok-vec.ensures.items, c.new.ensures.items) at c.apply.ensures.rows in
     let live : IsLive rows c.args.dart = rw (← c.self.view_is) at c.requires.live in
     let alone = rw (← c.self.view_is) at c.requires.alone in
-    let taken = rw (c.deref.ensures.value, c.in_ok-vec.ensures.items) at c.end_ids.ensures in
-    subst (λ (r : Rows). IsStoredMap k n r c.end_ids.new.labels c.end_ids.new.pool c.self.inside.rules) (sym is)
-    (end-stored k n rows c.args.dart c.self.inside.labels c.end_ids.new.labels c.self.inside.pool c.end_ids.new.pool c.self.inside.rules c.self.invariant live alone taken)
+    let taken = rw (c.deref-2.ensures.value, c.in_ok-vec.ensures.items) at c.end_ids.ensures in
+    let order : 0 < t.standing → IsSorted (death_edit c.args.dart) c.in_ok-noted.noted = rw (c.in_ok-vec.ensures.items, c.new.ensures.items) at c.in_ok-noted.ensures.sorted in
+    let old : 0 < t.standing → AreOldValues (IsRelabelledPlace n (c.args.dart ∷ []) []) c.self.inside.labels c.self.inside.pool c.in_ok-olds.olds.items =
+    rw (c.deref.ensures.value, c.in_ok-vec.ensures.items, c.noted_edit.ensures.trail) at c.in_ok-olds.ensures in
+    let values : List ValueChange = c.new_values-values.result.items in
+    let kept = rw (c.made-made.ensures.made, c.new-2.ensures.items, c.noted_edit.ensures.trail) at c.keep.ensures in
+    subst (IsJournaled k n c.apply.new.self.rows c.end_ids.new.labels c.end_ids.new.pool c.self.inside.rules) (sym kept)
+    (subst (λ (r : Rows). IsJournaled k n r c.end_ids.new.labels c.end_ids.new.pool c.self.inside.rules (advanced t (step_of (made rows) c.in_ok-noted.noted values []))) (sym is)
+    (end-journaled k n rows c.args.dart c.self.inside.labels c.end_ids.new.labels c.self.inside.pool c.end_ids.new.pool c.self.inside.rules t c.self.invariant c.noted_edit.ensures.ordered live alone taken
+    c.in_ok-noted.noted order c.in_ok-olds.olds.items values old c.new_values-values.ensures))
 
 pub returns-clause-ended : goal.returns-clause-ended
 returns-clause-ended g c =
     let k = g.K.Kind.kind in
     let n : ℕ = g.row.DIM in
     let rows : Rows = c.self.inside.links.rows in
+    let t : Trail = c.self.inside.journal.trail in
     let is = rw (c.in_ok-vec.ensures.items, c.new.ensures.items) at c.apply.ensures.rows in
     let live : IsLive rows c.args.dart = rw (← c.self.view_is) at c.requires.live in
     let alone = rw (← c.self.view_is) at c.requires.alone in
-    let taken = rw (c.deref.ensures.value, c.in_ok-vec.ensures.items) at c.end_ids.ensures in
+    let taken = rw (c.deref-2.ensures.value, c.in_ok-vec.ensures.items) at c.end_ids.ensures in
+    let order : 0 < t.standing → IsSorted (death_edit c.args.dart) c.in_ok-noted.noted = rw (c.in_ok-vec.ensures.items, c.new.ensures.items) at c.in_ok-noted.ensures.sorted in
+    let old : 0 < t.standing → AreOldValues (IsRelabelledPlace n (c.args.dart ∷ []) []) c.self.inside.labels c.self.inside.pool c.in_ok-olds.olds.items =
+    rw (c.deref.ensures.value, c.in_ok-vec.ensures.items, c.noted_edit.ensures.trail) at c.in_ok-olds.ensures in
+    let values : List ValueChange = c.new_values-values.result.items in
+    let kept = rw (c.made-made.ensures.made, c.new-2.ensures.items, c.noted_edit.ensures.trail) at c.keep.ensures in
     rw (← c.self.view_is)
-    (ap state_of (ap (λ (r : Rows). content_of k n r c.end_ids.new.labels c.end_ids.new.pool c.self.inside.rules) is
-    ∙ end-content k n rows c.args.dart c.self.inside.labels c.end_ids.new.labels c.self.inside.pool c.end_ids.new.pool c.self.inside.rules c.self.invariant live alone taken))
+    (ap (λ (r : Rows). told (content_of k n r c.end_ids.new.labels c.end_ids.new.pool c.self.inside.rules) c.keep.new.journal.trail) is
+    ∙ ap (told (content_of k n (after_edit n (death_edit c.args.dart) rows) c.end_ids.new.labels c.end_ids.new.pool c.self.inside.rules)) kept
+    ∙ end-stepped k n rows c.args.dart c.self.inside.labels c.end_ids.new.labels c.self.inside.pool c.end_ids.new.pool c.self.inside.rules t c.self.invariant c.noted_edit.ensures.ordered live alone taken
+    c.in_ok-noted.noted order c.in_ok-olds.olds.items values old c.new_values-values.ensures)

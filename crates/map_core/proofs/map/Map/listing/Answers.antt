@@ -14,7 +14,7 @@ returns g c =
     let values = c.in_ok-list_values.field-0.items in
     rw (← c.self.view_is, c.letter.ensures, c.dimension.ensures.dimension, c.made.ensures.made, c.in_ok-list_rows.ensures) (
       values,
-      lists-values g.K.Kind.kind n rows c.self.inside.labels c.self.inside.pool c.self.inside.rules c.self.invariant values c.in_ok-list_values.ensures,
+      lists-values g.K.Kind.kind n rows c.self.inside.labels c.self.inside.pool c.self.inside.rules c.self.invariant.stored values c.in_ok-list_values.ensures,
       ap (λ (k : Kind). Shown (record { kind = k; dim = n; made = made rows; rows = live_rows_from 0 rows; values = values })) (letter-names g.K.Kind.kind),
       refl,
     )

@@ -1,68 +1,45 @@
-use Rattle.std.proofs.Common.{ℕ, IsSome, refl, sym, lit<}
-use Rattle.map_defs.specs.Rows.{Rows, IsLive}
-use Rattle.map_defs.specs.State.{rule_at as rule_in}
+use Rattle.std.proofs.Common.{◌≡◌, ℕ, ◌<◌, List, Option, Some, ap, sym, subst, ◌∙◌}
+use Rattle.map_defs.specs.Rows.{Rows, links_of}
+use Rattle.map_defs.specs.Cells.{InCell}
+use Rattle.map_defs.specs.Values.{Rule}
+use Rattle.map_defs.specs.Difference.{ValueChange}
+use Rattle.undo_journal.specs.Trails.{Trail}
+use Rattle.trail_laws.specs.Told.{told}
 use Rattle.label_laws.specs.Contents.{content_of}
-use Rattle.label_laws.proofs.Valued.{rule-there, replace-valued, darts-within, give-stored, give-valued}
+use Rattle.map_core.specs.Noted.{IsJournaled, AreOldValues}
+use Rattle.map_core.proofs.JournaledValues.{value-journaled, value-stepped}
 use Rattle.map_core.proofs.map.Map.set_value.Goals as goal
-
-pub returns-in-Some-clause-set : goal.returns-in-Some-clause-set
-returns-in-Some-clause-set g c =
-    let k = g.K.Kind.kind in
-    let n : ℕ = g.row.DIM in
-    let rows : Rows = c.self.inside.links.rows in
-    let has = sym c.in-Some.ensures.id in
-    rw (← c.self.view_is) (
-      content_of k n rows c.self.inside.labels c.replace.new.self c.self.inside.rules,
-      replace-valued k n rows c.self.inside.labels c.self.inside.pool c.self.inside.rules c.self.invariant c.args.dim c.args.dart c.args.value c.in-Some.id has
-          c.replace.new.self c.replace.ensures.replaced,
-      refl,
-    )
-
-pub give_id-requires : goal.give_id-requires
-give_id-requires g c =
-    let k = g.K.Kind.kind in
-    let n : ℕ = g.row.DIM in
-    let rows : Rows = c.self.inside.links.rows in
-    let live : IsLive rows c.args.dart = rw (← c.self.view_is) at c.requires.live in
-    let ruled : IsSome (rule_in (content_of k n rows c.self.inside.labels c.self.inside.pool c.self.inside.rules) c.args.dim) = rw (← c.self.view_is) at c.requires.ruled in
-    let some = rule-there k n rows c.self.inside.labels c.self.inside.pool c.self.inside.rules c.self.invariant c.args.dim c.args.dart ruled in
-    rw (c.deref.ensures.value) (
-      lit< tt,
-      (
-        c.requires.dim,
-        (
-          darts-within k n rows c.self.inside.labels c.self.inside.pool c.self.inside.rules c.self.invariant c.args.dim c.args.dart live c.in_ok-darts.darts.items c.in_ok-darts.ensures.members,
-          (c.self.invariant.placed c.args.dim some, c.in_ok-make_room.ensures.room),
-        ),
-      ),
-    )
 
 pub invariant_of-self-2 : goal.invariant_of-self-2
 invariant_of-self-2 g c =
     let k = g.K.Kind.kind in
     let n : ℕ = g.row.DIM in
     let rows : Rows = c.self.inside.links.rows in
-    let live : IsLive rows c.args.dart = rw (← c.self.view_is) at c.requires.live in
-    let ruled : IsSome (rule_in (content_of k n rows c.self.inside.labels c.self.inside.pool c.self.inside.rules) c.args.dim) = rw (← c.self.view_is) at c.requires.ruled in
-    let some = rule-there k n rows c.self.inside.labels c.self.inside.pool c.self.inside.rules c.self.invariant c.args.dim c.args.dart ruled in
-    let given = rw (c.deref.ensures.value) at c.give_id.ensures.given in
-    give-stored k n rows c.self.inside.labels c.self.inside.pool c.self.inside.rules c.self.invariant c.args.dim c.args.dart live
-    c.in_ok-darts.darts.items c.in_ok-darts.ensures.members c.args.value c.make_room.new.pool c.in_ok-make_room.ensures.slots some (sym c.in_default.ensures.id)
-    c.give_id.new.labels c.give_id.new.pool given
+    let t : Trail = c.self.inside.journal.trail in
+    let rules : List (Option Rule) = c.self.inside.rules in
+    let values : List ValueChange = c.new_values-values.result.items in
+    let old : 0 < t.standing → AreOldValues (λ i d. (i ≡ c.args.dim) × InCell k (links_of rows) c.args.dim c.args.dart d) c.self.inside.labels c.self.inside.pool c.in_ok-olds.olds.items =
+    rw (c.reserve_step.ensures.trail) at c.in_ok-olds.ensures in
+    let kept = rw (c.made-made.ensures.made, c.no_edit.ensures, c.new.ensures.items, c.reserve_step.ensures.trail) at c.keep.ensures in
+    subst (IsJournaled k n rows c.put_value.new.labels c.put_value.new.pool rules) (sym kept)
+    (value-journaled k n rows c.self.inside.labels c.put_value.new.labels c.self.inside.pool c.put_value.new.pool rules t c.self.invariant c.reserve_step.ensures.ordered c.put_value.ensures.stored
+    c.args.dim c.args.dart (Some c.args.value) c.in_ok-put_value.ensures.valued c.in_ok-olds.olds.items values old c.new_values-values.ensures)
 
 pub returns-clause-set : goal.returns-clause-set
 returns-clause-set g c =
     let k = g.K.Kind.kind in
     let n : ℕ = g.row.DIM in
     let rows : Rows = c.self.inside.links.rows in
-    let live : IsLive rows c.args.dart = rw (← c.self.view_is) at c.requires.live in
-    let ruled : IsSome (rule_in (content_of k n rows c.self.inside.labels c.self.inside.pool c.self.inside.rules) c.args.dim) = rw (← c.self.view_is) at c.requires.ruled in
-    let some = rule-there k n rows c.self.inside.labels c.self.inside.pool c.self.inside.rules c.self.invariant c.args.dim c.args.dart ruled in
-    let given = rw (c.deref.ensures.value) at c.give_id.ensures.given in
+    let t : Trail = c.self.inside.journal.trail in
+    let rules : List (Option Rule) = c.self.inside.rules in
+    let values : List ValueChange = c.new_values-values.result.items in
+    let old : 0 < t.standing → AreOldValues (λ i d. (i ≡ c.args.dim) × InCell k (links_of rows) c.args.dim c.args.dart d) c.self.inside.labels c.self.inside.pool c.in_ok-olds.olds.items =
+    rw (c.reserve_step.ensures.trail) at c.in_ok-olds.ensures in
+    let kept = rw (c.made-made.ensures.made, c.no_edit.ensures, c.new.ensures.items, c.reserve_step.ensures.trail) at c.keep.ensures in
+    let after = content_of k n rows c.put_value.new.labels c.put_value.new.pool rules in
     rw (← c.self.view_is) (
-      content_of k n rows c.give_id.new.labels c.give_id.new.pool c.self.inside.rules,
-      give-valued k n rows c.self.inside.labels c.self.inside.pool c.self.inside.rules c.self.invariant c.args.dim c.args.dart live
-          c.in_ok-darts.darts.items c.in_ok-darts.ensures.members c.args.value c.make_room.new.pool c.in_ok-make_room.ensures.slots some (sym c.in_default.ensures.id)
-          c.give_id.new.labels c.give_id.new.pool given,
-      refl,
+      after,
+      c.in_ok-put_value.ensures.valued,
+      ap (told after) kept ∙ value-stepped k n rows c.self.inside.labels c.put_value.new.labels c.self.inside.pool c.put_value.new.pool rules t c.self.invariant c.reserve_step.ensures.ordered c.put_value.ensures.stored
+          c.args.dim c.args.dart (Some c.args.value) c.in_ok-put_value.ensures.valued c.in_ok-olds.olds.items values old c.new_values-values.ensures,
     )

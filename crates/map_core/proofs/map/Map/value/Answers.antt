@@ -18,5 +18,5 @@ returns g c =
     ap (λ (i : ℕ). worth c.self.inside.pool c.self.inside.labels i c.in-Some-live_dart.dart) c.in-Some.ensures.same
     ∙ ap (λ (d : ℕ). worth c.self.inside.pool c.self.inside.labels c.args.dim d) c.in-Some-live_dart.ensures.same in
     let is : c.worth.result ≡ value_at (content_of k n rows c.self.inside.labels c.self.inside.pool c.self.inside.rules) c.args.dim c.args.dart =
-    c.worth.ensures ∙ same ∙ sym (value-shown k n rows c.self.inside.labels c.self.inside.pool c.self.inside.rules c.self.invariant c.args.dim c.args.dart) in
+    c.worth.ensures ∙ same ∙ sym (value-shown k n rows c.self.inside.labels c.self.inside.pool c.self.inside.rules c.self.invariant.stored c.args.dim c.args.dart) in
     rw (← c.self.view_is) (inr (λ out. omega (arith, within), inr (live, (ap Worth is, refl))))

@@ -1,0 +1,8 @@
+//! Tests of the map's calls: that each is obeyed where memory is there, and that random lines carry the values that are
+//! carried plainly. They stand apart, since a crate with tests is proved twice.
+#![tactic(auto)]
+
+#[cfg(test)]
+mod calls;
+#[cfg(test)]
+mod whole_map;

@@ -1,0 +1,413 @@
+//! The values after random lines, against those that are computed plainly for all cells from all live darts: from the
+//! values and the cells before a line, and from the cells after it. In the end all lines are taken back.
+use attr_rules::{FirstCopy, Merge, Rule, RuleWith, Split, TableRule};
+use map_core::{Done, Map};
+use map_kind::{Alpha, Refused, Value};
+use std::alloc::{AllocError, Global};
+use std::process::Abort;
+use std::test::Fail;
+
+/// A cell, by its dimension and its least dart.
+#[derive(Clone, Copy, Debug, PartialEq, Eq)]
+struct Cell {
+    dim: u64,
+    least: u64,
+}
+
+/// A cell of a live dart, and the cell's value.
+#[derive(Clone, Copy, Debug, PartialEq, Eq)]
+struct Standing {
+    dart: u64,
+    cell: Cell,
+    value: Option<Value>,
+}
+
+/// The darts that live before and after a line, and lie in one old cell with this value and in one new cell.
+#[derive(Clone, Copy, PartialEq, Eq)]
+struct Piece {
+    old: Cell,
+    new: Cell,
+    value: Value,
+}
+
+/// A line, and what it names.
+#[derive(Clone, Copy, Debug)]
+enum Line {
+    Sew { link: u64, dart: u64, other: u64 },
+    Unsew { link: u64, dart: u64 },
+    Vertex { dart: u64 },
+    Edge { dart: u64, other: u64 },
+    Face { dart: u64, other: u64 },
+    Remove { dim: u64, dart: u64 },
+    Contract { dim: u64, dart: u64 },
+    Set { dim: u64, dart: u64, value: Value },
+    Clear { dim: u64, dart: u64 },
+    Del { dart: u64 },
+}
+
+/// Numbers without an order to be seen, the same in each run.
+#[derive(Drop)]
+struct Random {
+    state: u64,
+}
+
+impl Random {
+    /// A number below the bound.
+    fn below(&mut self, bound: u64) -> u64 {
+        self.state = self
+            .state
+            .wrapping_mul(6364136223846793005)
+            .wrapping_add(1442695040888963407);
+        (self.state >> 33).checked_rem(bound).unwrap_or(0)
+    }
+
+    /// A value whose numbers are near 0.
+    fn value(&mut self) -> Value {
+        let a = i64::try_from(self.below(100)).unwrap_or(0);
+        let b = i64::try_from(self.below(100)).unwrap_or(0);
+        Value {
+            a,
+            b: b.wrapping_sub(50),
+            c: a.wrapping_sub(b),
+        }
+    }
+
+    /// A line for a map of this dimension with so many darts. Some name a dart or a dimension too high.
+    fn line(&mut self, dimension: u64, darts: u64) -> Line {
+        let dim = self.below(dimension.wrapping_add(2));
+        let dart = self.below(darts.wrapping_add(2));
+        let other = self.below(darts.wrapping_add(2));
+        let value = self.value();
+        match self.below(24) {
+            0..=3 => Line::Set { dim, dart, value },
+            4 => Line::Clear { dim, dart },
+            5 => Line::Del { dart },
+            6..=9 => Line::Unsew { link: dim, dart },
+            10..=11 => Line::Sew {
+                link: dimension,
+                dart,
+                other,
+            },
+            12 => Line::Vertex { dart },
+            13..=15 => Line::Edge { dart, other },
+            16 => Line::Face { dart, other },
+            17 => Line::Remove { dim, dart },
+            18 => Line::Contract { dim, dart },
+            _ => Line::Sew {
+                link: dim,
+                dart,
+                other,
+            },
+        }
+    }
+}
+
+/// The rule of this number, if it stands for one.
+fn rule_of(number: u64) -> Option<TableRule> {
+    let (merge, split) = match number.checked_rem(7).unwrap_or(0) {
+        0 => (Merge::Sum, Split::Share),
+        1 => (Merge::Last, Split::Keep),
+        2 => (Merge::Mid, Split::Copied),
+        3 => (Merge::First, Split::Share),
+        4 => (Merge::Max, Split::Keep),
+        5 => (Merge::Min, Split::Copied),
+        _ => return None,
+    };
+    Some(TableRule { merge, split })
+}
+
+/// All that stands of the live darts: dimension by dimension, ascending.
+fn standings<const DIM: usize>(
+    alloc: Global,
+    map: &Map<'_, Alpha, FirstCopy, DIM>,
+) -> Result<Vec<Standing>, Refused> {
+    let mut standings = Vec::new(alloc);
+    for dim in 0..map.links().dimension() + 1 {
+        add_dimension(alloc, map, dim as u64, &mut standings)?;
+    }
+    Ok(standings)
+}
+
+fn add_dimension<const DIM: usize>(
+    alloc: Global,
+    map: &Map<'_, Alpha, FirstCopy, DIM>,
+    dim: u64,
+    standings: &mut Vec<Standing>,
+) -> Result<(), Refused> {
+    for number in 0..map.links().made() {
+        add_standing(alloc, map, dim, u64::from(number) + 1, standings)?;
+    }
+    Ok(())
+}
+
+fn add_standing<const DIM: usize>(
+    alloc: Global,
+    map: &Map<'_, Alpha, FirstCopy, DIM>,
+    dim: u64,
+    dart: u64,
+    standings: &mut Vec<Standing>,
+) -> Result<(), Refused> {
+    let Ok(value) = map.value(dim, dart) else {
+        return Ok(());
+    };
+    let darts = map.cell(alloc, dim, dart)?;
+    let least = darts.first().map_or(0, |least| u64::from(least.number()));
+    let cell = Cell { dim, least };
+    standings.push(Standing { dart, cell, value })?;
+    Ok(())
+}
+
+/// The cell of a dart in a dimension, if the dart lives.
+fn cell_of(standings: &[Standing], dim: u64, dart: u64) -> Option<Cell> {
+    let standing = standings.iter().find(|standing| standing.cell.dim == dim
+        && standing.dart == dart)?;
+    Some(standing.cell)
+}
+
+/// The value that a line itself sets the cell of a dart to, or leaves there.
+fn value_set(line: &Line, before: &[Standing], standing: &Standing) -> Option<Value> {
+    let (dim, dart, value) = match *line {
+        Line::Set { dim, dart, value } => (dim, dart, Some(value)),
+        Line::Clear { dim, dart } => (dim, dart, None),
+        _ => return standing.value,
+    };
+    if cell_of(before, dim, dart) == Some(standing.cell) {
+        value
+    } else {
+        standing.value
+    }
+}
+
+/// The pieces of all old cells, ascending by their least darts in each dimension.
+fn pieces(
+    alloc: Global,
+    line: &Line,
+    before: &[Standing],
+    after: &[Standing],
+) -> Result<Vec<Piece>, AllocError> {
+    let mut pieces = Vec::new(alloc);
+    for standing in before {
+        let value = value_set(line, before, standing);
+        add_piece(standing, value, after, &mut pieces)?;
+    }
+    Ok(pieces)
+}
+
+/// Adds the piece of a dart, unless an earlier dart lies in it.
+fn add_piece(
+    standing: &Standing,
+    value: Option<Value>,
+    after: &[Standing],
+    pieces: &mut Vec<Piece>,
+) -> Result<(), AllocError> {
+    let old = standing.cell;
+    let Some(value) = value else {
+        return Ok(());
+    };
+    let Some(new) = cell_of(after, old.dim, standing.dart) else {
+        return Ok(());
+    };
+    let piece = Piece { old, new, value };
+    if !pieces.contains(&piece) {
+        pieces.push(piece)?;
+    }
+    Ok(())
+}
+
+/// The part that a piece gets of the value of its old cell.
+fn part(rule: &RuleWith<'_, FirstCopy>, pieces: &[Piece], piece: &Piece) -> Option<Value> {
+    let mut count: u32 = 0;
+    let mut place: u32 = 0;
+    for other in pieces {
+        if other == piece {
+            place = count;
+        }
+        if other.old == piece.old {
+            count = count.wrapping_add(1);
+        }
+    }
+    if place < count {
+        rule.share(piece.value, count, place)
+    } else {
+        None
+    }
+}
+
+/// The values of the pieces of a new cell, merged from the left.
+fn carried(rule: &RuleWith<'_, FirstCopy>, pieces: &[Piece], cell: Cell) -> Option<Value> {
+    let mut sofar = None;
+    for piece in pieces {
+        if piece.new == cell {
+            sofar = merged(rule, sofar, part(rule, pieces, piece));
+        }
+    }
+    sofar
+}
+
+fn merged(
+    rule: &RuleWith<'_, FirstCopy>,
+    sofar: Option<Value>,
+    part: Option<Value>,
+) -> Option<Value> {
+    match (sofar, part) {
+        (Some(x), Some(y)) => Some(rule.merged(x, y)),
+        (None, part) => part,
+        (sofar, None) => sofar,
+    }
+}
+
+/// The value that a cell has after a line, where dimension 0 has the rule of this number, and each further dimension
+/// that of the next.
+fn wanted_value(first_rule: u64, pieces: &[Piece], cell: Cell) -> Option<Value> {
+    let rule = rule_of(first_rule.wrapping_add(cell.dim))?;
+    let hook = FirstCopy;
+    carried(&RuleWith { rule, hook: &hook }, pieces, cell)
+}
+
+/// What has to stand after a line: the darts and cells that do, with the values that are wanted.
+fn wanted(
+    alloc: Global,
+    first_rule: u64,
+    pieces: &[Piece],
+    after: &[Standing],
+) -> Result<Vec<Standing>, AllocError> {
+    let mut wanted = Vec::new(alloc);
+    for standing in after {
+        let value = wanted_value(first_rule, pieces, standing.cell);
+        wanted.push(Standing { value, ..*standing })?;
+    }
+    Ok(wanted)
+}
+
+fn obey<const DIM: usize>(
+    alloc: Global,
+    map: &mut Map<'_, Alpha, FirstCopy, DIM>,
+    line: &Line,
+) -> Result<Done, Refused> {
+    match *line {
+        Line::Sew { link, dart, other } => map.sew(alloc, link, dart, other),
+        Line::Unsew { link, dart } => map.unsew(alloc, link, dart),
+        Line::Vertex { dart } => map.vertex(alloc, dart),
+        Line::Edge { dart, other } => map.edge(alloc, dart, other),
+        Line::Face { dart, other } => map.face(alloc, &[dart, other]),
+        Line::Remove { dim, dart } => map.remove(alloc, dim, dart),
+        Line::Contract { dim, dart } => map.contract(alloc, dim, dart),
+        Line::Set { dim, dart, value } => map.set(alloc, dim, dart, value),
+        Line::Clear { dim, dart } => map.clear(alloc, dim, dart),
+        Line::Del { dart } => map.del(alloc, dart),
+    }
+}
+
+/// Obeys a line, compares all values, and answers whether some old cell with a value was joined or parted.
+fn check_line<const DIM: usize>(
+    rt: &impl Abort,
+    alloc: Global,
+    map: &mut Map<'_, Alpha, FirstCopy, DIM>,
+    first_rule: u64,
+    line: &Line,
+) -> Result<bool, Refused> {
+    let before = standings(alloc, map)?;
+    let answer = obey(alloc, map, line);
+    let after = standings(alloc, map)?;
+    if answer.is_err() {
+        assert_eq!(rt; after.as_slice(), before.as_slice(), "{line:?}");
+        return Ok(false);
+    }
+    let pieces = pieces(alloc, line, &before, &after)?;
+    let wanted = wanted(alloc, first_rule, &pieces, &after)?;
+    assert_eq!(rt; after.as_slice(), wanted.as_slice(), "{line:?}");
+    Ok(pieces.iter().any(|piece| piece.old != piece.new))
+}
+
+/// Makes three triangles and a dart alone.
+fn make_darts<const DIM: usize>(
+    alloc: Global,
+    map: &mut Map<'_, Alpha, FirstCopy, DIM>,
+) -> Result<(), Refused> {
+    map.polygon(alloc, 3)?;
+    map.polygon(alloc, 3)?;
+    map.polygon(alloc, 3)?;
+    map.dart(alloc)?;
+    Ok(())
+}
+
+/// Gives dimension 0 the rule of this number, and each further dimension that of the next, and all their cells values.
+/// A dimension whose number stands for no rule gets nothing.
+fn set_rules<const DIM: usize>(
+    alloc: Global,
+    map: &mut Map<'_, Alpha, FirstCopy, DIM>,
+    first_rule: u64,
+    random: &mut Random,
+) -> Result<(), Refused> {
+    for dim in 0..map.links().dimension() as u64 + 1 {
+        if let Some(rule) = rule_of(first_rule.wrapping_add(dim)) {
+            map.rule(alloc, dim, rule.merge.name(), rule.split.name())?;
+            set_values(alloc, map, dim, random)?;
+        }
+    }
+    Ok(())
+}
+
+fn set_values<const DIM: usize>(
+    alloc: Global,
+    map: &mut Map<'_, Alpha, FirstCopy, DIM>,
+    dim: u64,
+    random: &mut Random,
+) -> Result<(), Refused> {
+    for number in 0..map.links().made() {
+        map.set(alloc, dim, u64::from(number) + 1, random.value())?;
+    }
+    Ok(())
+}
+
+/// Checks a random script, takes it back, and answers how many of its lines joined or parted cells with values.
+fn check_script<const DIM: usize>(
+    rt: &impl Abort,
+    alloc: Global,
+    map: &mut Map<'_, Alpha, FirstCopy, DIM>,
+    first_rule: u64,
+) -> Result<u32, Refused> {
+    make_darts(alloc, map)?;
+    let mut random = Random { state: first_rule };
+    set_rules(alloc, map, first_rule, &mut random)?;
+    let mut carrying: u32 = 0;
+    map.mark("begin")?;
+    let begin = standings(alloc, map)?;
+    for _ in 0..200 {
+        let darts = u64::from(map.links().made());
+        let line = random.line(map.links().dimension() as u64, darts);
+        if check_line(rt, alloc, map, first_rule, &line)? {
+            carrying = carrying.wrapping_add(1);
+        }
+    }
+    map.undo(alloc, "begin")?;
+    let end = standings(alloc, map)?;
+    assert_eq!(rt; end.as_slice(), begin.as_slice());
+    Ok(carrying)
+}
+
+#[test]
+fn values_of_the_whole_map_in_dimension_two(rt: HostRuntime) -> Result<(), Fail> {
+    let hook = FirstCopy;
+    let mut carrying: u32 = 0;
+    for first_rule in 0..7 {
+        let mut map = Map::<'_, Alpha, FirstCopy, 2>::new(rt.alloc(), &hook);
+        let more = check_script(&rt, rt.alloc(), &mut map, first_rule)?;
+        carrying = carrying.wrapping_add(more);
+    }
+    assert!(&rt; carrying > 60, "{carrying} lines");
+    Ok(())
+}
+
+#[test]
+fn values_of_the_whole_map_in_dimension_three(rt: HostRuntime) -> Result<(), Fail> {
+    let hook = FirstCopy;
+    let mut carrying: u32 = 0;
+    for first_rule in 0..7 {
+        let mut map = Map::<'_, Alpha, FirstCopy, 3>::new(rt.alloc(), &hook);
+        let more = check_script(&rt, rt.alloc(), &mut map, first_rule)?;
+        carrying = carrying.wrapping_add(more);
+    }
+    assert!(&rt; carrying > 60, "{carrying} lines");
+    Ok(())
+}

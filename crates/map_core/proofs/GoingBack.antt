@@ -1,0 +1,91 @@
+-- What the machine does where a mark is gone back to.
+use Rattle.std.proofs.Common.{◌≡◌, ℕ, ◌<◌, List, [], get_or, Option, refl, sym, ap, ◌∙◌, subst, inl, inr, arith}
+use Rattle.std.proofs.lemmas.Bool.{cases_lt}
+use Rattle.std.proofs.lemmas.Option.{same_Some}
+use Rattle.map_defs.specs.Kind.{Kind}
+use Rattle.map_defs.specs.Rows.{Rows}
+use Rattle.map_defs.specs.Values.{Meaning, Rule}
+use Rattle.map_defs.specs.State.{Content}
+use Rattle.map_defs.specs.Refusal.{NoMark}
+use Rattle.map_defs.specs.Script.{Undo}
+use Rattle.map_defs.specs.Machine.{Step}
+use Rattle.map_defs.specs.Text as text
+use Rattle.journal_laws.specs.Following.{all_taken_back}
+use Rattle.undo_journal.specs.Trails as trails
+use Rattle.undo_journal.specs.Trails.{Placed, Trail, steps_since, back, IsOrdered}
+use Rattle.undo_journal.proofs.TrailFacts.{mark_within, name_is_mark}
+use Rattle.trail_laws.specs.Told.{told, before_steps, IsTraced}
+use Rattle.trail_laws.proofs.Naming.{names-told}
+use Rattle.trail_laws.proofs.Between.{between-kept, between-follows, between-differ}
+use Rattle.trail_laws.proofs.Returning.{gone-back}
+use Rattle.attr_pool.specs.Stores.{Store}
+use Rattle.attr_pool.specs.Labelings.{Labeling}
+use Rattle.label_laws.specs.Contents.{content_of}
+use Rattle.label_laws.specs.Maps.{IsStoredMap}
+use Rattle.map_core.specs.Noted.{IsJournaled}
+use Rattle.map_core.specs.Undoing.{AreStepsTo}
+
+abbrev no-mark : Placed
+no-mark = record { name = []; place = 0 }
+
+-- one name has one mark
+module _ (t : Trail) (o : IsOrdered t) (name : List ℕ) where
+  is-named : (k : ℕ) → trails.IsMark t name k → (get_or t.marks k no-mark).name ≡ name
+  is-named k is = same_Some (get_or t.marks k no-mark).name name (sym (name_is_mark t k no-mark o (mark_within t name k o is)) ∙ is)
+
+  later : (k h : ℕ) → trails.IsMark t name k → trails.IsMark t name h → k < h → ⊥
+  later k h one other before =
+      let inside = mark_within t name h o other in
+      o.names_differ k h no-mark before (let long = o.standing in omega arith) (is-named k one ∙ sym (is-named h other))
+
+  pub one-mark : (k h : ℕ) → trails.IsMark t name k → trails.IsMark t name h → h ≡ k
+  one-mark k h one other = elim (cases_lt k h) [
+    | inl before ↦ absurd (later k h one other before)
+    | inr not ↦ elim (cases_lt h k) [
+      | inl before ↦ absurd (later h k other one before)
+      | inr after ↦ omega arith
+    ]
+  ]
+
+module _ (now : Content) (t : Trail) (h : IsTraced now t) (o : IsOrdered t) (hook : Meaning) (name : List ℕ) where
+  -- the steps since a mark lead to the content of now
+  pub steps-lead : (k : ℕ) → trails.IsMark t name k → AreStepsTo now (steps_since t k)
+  steps-lead k is = record {
+    kept = λ j small. between-kept now t k h o (mark_within t name k o is) j now small;
+    follow = λ j inside. between-follows now t k h o (mark_within t name k o is) j inside;
+    differ = λ j e inside. between-differ now t k h o (mark_within t name k o is) j e inside;
+  }
+
+  pub undo-refused : (trails.HasMark t name → ⊥) → Step hook (told now t) (Undo name) (text.Refused NoMark) (told now t)
+  undo-refused none = inl (λ has. none ((names-told now t o name).0 has), refl, refl)
+
+  pub undo-obeyed : (k : ℕ) → trails.IsMark t name k → (next : Content) → next ≡ all_taken_back (steps_since t k) now → (u : Trail) → u ≡ back t k
+      → Step hook (told now t) (Undo name) (text.Done 0 0) (told next u)
+  undo-obeyed k is next before u gone =
+      let (mark, named, copy, there, traced) = gone-back now t name k h o is in
+      inr ((k, mark, named), (k, mark, named, (refl, ap (λ (c : Content). told c u) before ∙ ap (told (before_steps now t k)) gone ∙ there)))
+
+-- What the map keeps after going back, and where memory was wanting.
+module _ (k : Kind) (n : ℕ) (rows : Rows) (l : Labeling) (p : Store) (rules : List (Option Rule)) (t : Trail) (j : IsJournaled k n rows l p rules t)
+    (new : Rows) (m : Labeling) (q : Store) (after : List (Option Rule)) (stored : IsStoredMap k n new m q after) where
+  abbrev Now : Content
+  Now = content_of k n rows l p rules
+
+  abbrev Then : Content
+  Then = content_of k n new m q after
+
+  pub kept-journaled : Then ≡ Now → IsJournaled k n new m q after t
+  kept-journaled same = record {
+    stored = stored;
+    traced = subst (λ (c : Content). IsTraced c t) (sym same) j.traced;
+  }
+
+  pub undo-journaled : IsOrdered t → (name : List ℕ) (i : ℕ) → trails.IsMark t name i → Then ≡ all_taken_back (steps_since t i) Now
+      → (u : Trail) → u ≡ back t i → IsJournaled k n new m q after u
+  undo-journaled o name i is before u gone =
+      let (mark, named, copy, there, traced) = gone-back Now t name i j.traced o is in
+      subst (λ (v : Trail). IsJournaled k n new m q after v) (sym gone)
+      (record {
+        stored = stored;
+        traced = subst (λ (c : Content). IsTraced c (back t i)) (sym before) traced;
+      })

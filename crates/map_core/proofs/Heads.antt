@@ -1,0 +1,25 @@
+-- Elements that a walk has come to.
+use Rattle.std.proofs.Common.{ℕ, ◌≡◌, ◌⊎◌, ◌+◌, ◌<◌, sym, ap, subst, ◌∙◌, List, [], ◌∷◌, ◌++◌, length, get_or, take, drop, Contains, arith}
+use Rattle.std.proofs.lemmas.List.{take_more, drop_more}
+use Rattle.std.proofs.lemmas.List.Elements.{Contains-append_left, Contains-push, Contains-push_cases}
+
+module _ {X : Type 0} where
+  -- one element more
+  pub among-more : (xs : List X) (k : ℕ) (x y : X) → k < length xs → x ≡ get_or xs k x → Contains (take (k + 1) xs) y → Contains (take k xs) y ⊎ (x ≡ y)
+  among-more xs k x y h is c =
+      Contains-push_cases (take k xs) x y (subst (λ (ys : List X). Contains ys y) (take_more xs k x h ∙ ap (λ (z : X). take k xs ++ z ∷ []) (sym is)) c)
+
+  pub among-before : (xs : List X) (k : ℕ) (x y : X) → k < length xs → x ≡ get_or xs k x → Contains (take k xs) y → Contains (take (k + 1) xs) y
+  among-before xs k x y h is c =
+      subst (λ (ys : List X). Contains ys y) (sym (take_more xs k x h ∙ ap (λ (z : X). take k xs ++ z ∷ []) (sym is))) (Contains-append_left (take k xs) (x ∷ []) y c)
+
+  pub among-here : (xs : List X) (k : ℕ) (x : X) → k < length xs → x ≡ get_or xs k x → Contains (take (k + 1) xs) x
+  among-here xs k x h is =
+      subst (λ (ys : List X). Contains ys x) (sym (take_more xs k x h ∙ ap (λ (z : X). take k xs ++ z ∷ []) (sym is))) (Contains-push (take k xs) x)
+
+  pub among-none : (xs : List X) (y : X) → Contains (take 0 xs) y → ⊥
+  among-none xs y c = let lt : c.0 < 0 = c.1 in omega arith
+
+  -- the element and those behind it
+  pub rest-is : (xs : List X) (k : ℕ) (x : X) → k < length xs → x ≡ get_or xs k x → drop k xs ≡ x ∷ drop (k + 1) xs
+  rest-is xs k x h is = drop_more xs k x h ∙ ap (λ (z : X). z ∷ drop (k + 1) xs) (sym is)

@@ -1,0 +1,42 @@
+-- What the machine does where a mark is set, and where the steps since one are asked for.
+use Rattle.std.proofs.Common.{◌≡◌, ℕ, List, Err, refl, sym, ap, ◌∙◌, subst, inl, inr}
+use Rattle.map_kind.specs.declared.refusal.Refusal.{Refusal}
+use Rattle.map_kind.specs.declared.refusal.Refusal.TheVariants as told_as
+use Rattle.map_kind.specs.declared.refusal.Refused.{Refused}
+use Rattle.map_kind.specs.declared.refusal.Refused.TheVariants as why
+use Rattle.map_defs.specs.Values.{Meaning}
+use Rattle.map_defs.specs.State.{Content}
+use Rattle.map_defs.specs.Marking.{since}
+use Rattle.map_defs.specs.Difference.{Difference, AreDifferences}
+use Rattle.map_defs.specs.Refusal.{NoMark}
+use Rattle.map_defs.specs.Script.{Mark, Log}
+use Rattle.map_defs.specs.Machine.{Step}
+use Rattle.map_defs.specs.Text as text
+use Rattle.undo_journal.specs.Trails as trails
+use Rattle.undo_journal.specs.Trails.{Trail, steps_since, IsOrdered, marked}
+use Rattle.trail_laws.specs.Told.{told, IsTraced}
+use Rattle.trail_laws.proofs.Naming.{names-told, mark-told, mark-stands}
+use Rattle.trail_laws.proofs.Marking.{told-marked}
+use Rattle.trail_laws.proofs.Returning.{differ-since}
+use Rattle.map_core.specs.Calls.{Does}
+
+module _ (now : Content) (t : Trail) (h : IsTraced now t) (o : IsOrdered t) (hook : Meaning) (name : List ℕ) where
+  -- a mark that is refused
+  pub mark-refused : (r : Refused) → ((refusal : Refusal) → r ≡ why.Line refusal → (refusal ≡ told_as.MarkTaken) × trails.HasMark t name) → Does hook (told now t) (Mark name) (Err r) (told now t)
+  mark-refused (why.Line refusal) taken =
+      let is = taken refusal refl in
+      rw is.0 (inl ((names-told now t o name).1 is.1, refl, refl))
+  mark-refused why.NoMemory taken = refl
+
+  -- one that is set
+  pub mark-obeyed : (trails.HasMark t name → ⊥) → (u : Trail) → u ≡ marked t name → Step hook (told now t) (Mark name) (text.Done 0 0) (told now u)
+  mark-obeyed free u is = inr (λ has. free ((names-told now t o name).0 has), (refl, ap (told now) is ∙ told-marked now t name h o))
+
+  -- the steps since a mark
+  pub log-answered : (k : ℕ) → trails.IsMark t name k → (steps : List Difference) → steps ≡ steps_since t k → Step hook (told now t) (Log name) (text.Logged steps) (told now t)
+  log-answered k named steps are =
+      let one = mark-told now t o name k named in
+      inr ((k, one.0, one.1), (k, one.0, one.1, (steps, subst (AreDifferences (since (told now t) one.0)) (sym are) (differ-since now t name k h o (mark-stands now t o name k one.0 one.1) one.0 one.1), refl, refl)))
+
+  pub log-refused : (trails.HasMark t name → ⊥) → Step hook (told now t) (Log name) (text.Refused NoMark) (told now t)
+  log-refused none = inl (λ has. none ((names-told now t o name).0 has), refl, refl)

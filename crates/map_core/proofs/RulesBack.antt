@@ -1,0 +1,35 @@
+-- Rules that are put back in their places.
+use Rattle.std.proofs.Common.{ℕ, ◌≡◌, ◌⊎◌, ◌+◌, ◌∙◌, ◌==◌, List, [], ◌∷◌, length, replicate, cond, Bool, false, Option, None, inl, inr, refl, ap, arith, rules, tests}
+use Rattle.std.proofs.lemmas.List.{length-replicate, length-set}
+use Rattle.map_defs.specs.Values.{Rule}
+use Rattle.map_defs.specs.Difference.{RuleChange, unruled}
+use Rattle.label_laws.specs.Contents.{all_rules}
+
+pub unruled-long : (cs : List RuleChange) (rules : List (Option Rule)) → length (unruled cs rules) ≡ length rules
+unruled-long [] rules = refl
+unruled-long (c ∷ cs) rules = length-set (unruled cs rules) c.dim c.old ∙ unruled-long cs rules
+
+-- rules that have places are all rules
+pub all-is : (n : ℕ) (rules : List (Option Rule)) → length rules ≡ n + 1 → all_rules n rules ≡ rules
+all-is n [] long = absurd (omega arith)
+all-is n (rule ∷ rules) long = refl
+
+not-zero : (rule : Option Rule) (rest : List (Option Rule)) → (length (rule ∷ rest) == 0) ≡ false
+not-zero rule rest = search (rules, tests)
+
+module _ (n : ℕ) (given placed : List (Option Rule)) (long : (given ≡ []) ⊎ (length given ≡ n + 1)) (is : placed ≡ cond (length given == 0) (replicate (n + 1) None) given) where
+  -- the places that were made, if there were none
+  go : (rs : List (Option Rule)) → (rs ≡ []) ⊎ (length rs ≡ n + 1) → cond (length rs == 0) (replicate (n + 1) None) rs ≡ all_rules n rs
+  go [] h = refl
+  go (rule ∷ rs) h = ap (λ (b : Bool). cond b (replicate (n + 1) None) (rule ∷ rs)) (not-zero rule rs)
+
+  pub placed-is : placed ≡ all_rules n given
+  placed-is = is ∙ go given long
+
+  all-long : (rs : List (Option Rule)) → (rs ≡ []) ⊎ (length rs ≡ n + 1) → length (all_rules n rs) ≡ n + 1
+  all-long [] h = length-replicate (n + 1) (let none : Option Rule = None in none)
+  all-long (rule ∷ rs) (inl e) = absurd (omega (arith, ap (λ (xs : List (Option Rule)). length xs) e))
+  all-long (rule ∷ rs) (inr e) = e
+
+  pub placed-long : length placed ≡ n + 1
+  placed-long = ap (λ (rs : List (Option Rule)). length rs) placed-is ∙ all-long given long

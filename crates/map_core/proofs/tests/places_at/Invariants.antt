@@ -1,5 +1,0 @@
-use Rattle.std.proofs.Common.{◌≡◌, map, take}
-use Rattle.map_core.proofs.tests.places_at.Given as goal
-
-abbrev pub invariant-loop-dart : goal.invariant-loop-dart
-invariant-loop-dart l = map (λ place. place.dart) l.places.items ≡ take l.dart-index l.darts

@@ -1,0 +1,41 @@
+//! Going back to a mark.
+ghost use Rattle.std.specs.Prelude.{◌≡◌};
+ghost use Rattle.map_defs.specs.Script.{Undo};
+ghost use Rattle.map_core.specs.Calls.{Does};
+
+use crate::map::{Done, Map};
+use crate::restore::take_back;
+use attr_rules::Hook;
+use map_kind::{Kind, Refused};
+use std::alloc::Global;
+
+impl<'h, K: Kind, H: Hook, const DIM: usize> Map<'h, K, H, DIM> {
+    /// Goes back to the mark of this name: links, numbers of darts, values and rules are as they stood when it was set. The
+    /// mark stays, and those before it; later ones are gone. It costs what the steps since the mark changed, and the cells of
+    /// these darts where a dimension has a rule, times a logarithm. Where memory is wanting, nothing has changed.
+    ///
+    /// Refused as `NoMark` exactly where no mark has the name.
+    pub fn undo(&mut self, alloc: Global, name: &str) -> Result<Done, Refused>
+        ensures hook { self.new.hook ≡ self.old.hook }
+        ensures does { Does (H.meaning self.old.hook) self.old.state (Undo name.now) result self.new.state }
+    {
+        // Marks and steps are in order, and darts that ended have room to live again.
+        let _ = self.journal.mark_count();
+        let _ = self.links.live_count();
+        match self.journal.entries_since(name) {
+            Ok(steps) => take_back(
+                alloc,
+                &mut self.links,
+                &mut self.labels,
+                &mut self.pool,
+                &mut self.rules,
+                steps,
+            )?,
+            Err(refusal) => return Err(Refused::Line(refusal)),
+        }
+        match self.journal.back_to(name) {
+            Ok(()) => Ok(Done::NONE),
+            Err(refusal) => Err(Refused::Line(refusal)),
+        }
+    }
+}
