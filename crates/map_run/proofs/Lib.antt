@@ -2,6 +2,7 @@ pub mod Commands
 pub mod WritingFacts
 pub mod FirstLines
 pub mod RowTexts
+pub mod LogTexts
 pub mod LineFacts
 pub mod RunFacts
 pub mod Rest

@@ -1,5 +1,5 @@
 -- What a line answers, from what its reply is.
-use Rattle.std.proofs.Common.{◌≡◌, ◌≢◌, ℕ, List, [], ◌∷◌, Option, Some, None, Result, Ok, Err, Bool, true, false, ◌||◌, refl, sym, ◌∙◌, subst, inl, inr, OnOk, IfErr}
+use Rattle.std.proofs.Common.{◌≡◌, ◌≢◌, ℕ, List, [], ◌∷◌, Option, Some, None, Result, Ok, Err, Bool, true, false, ◌||◌, refl, sym, ◌∙◌, subst, inl, inr, OnOk, IfOk, IfErr}
 use Rattle.std.proofs.lemmas.List.{append-nil}
 use Rattle.map_io.specs.declared.sink.PutFault.{PutFault}
 use Rattle.map_io.specs.declared.sink.PutFault.TheVariants.{Failed, NoMemory}
@@ -10,6 +10,9 @@ use Rattle.map_defs.specs.Script.{Line, line_of}
 use Rattle.map_defs.specs.Text.{Reply, Refused, reply_text, replies_text, is_refused, any_refused}
 use Rattle.map_defs.specs.Refusal.{Syntax}
 use Rattle.map_defs.specs.Machine.{Step, Obeys, blank, obeyed, unread}
+use Rattle.std.specs.declared.alloc.AllocError.{AllocError}
+use Rattle.map_run.specs.declared.answer.Answer.{Answer}
+use Rattle.map_run.specs.Lines.{answer_meaning}
 use Rattle.map_run.specs.Writing.{Writes, IsWritten, IsSaid, Says, IsAnswered, AnswersLine}
 use Rattle.map_run.proofs.WritingFacts.{Appended-nothing}
 
@@ -74,6 +77,17 @@ AnswersLine-unread hook before after s (first ∷ more) result some none said =
 -- nothing is written, for want of memory
 pub AnswersLine-nothing : (hook : Meaning) (o : Option (List ℕ)) (s new : State) (words : List (List ℕ)) → AnswersLine hook o o s new words (Err NoMemory)
 AnswersLine-nothing hook o s new words = record { piece = []; appended = Appended-nothing o; is = (inl refl, inl refl) }
+
+-- a line that was read and obeyed, and whose answer was written if there was memory for one
+pub AnswersLine-said : (hook : Meaning) (before after : Option (List ℕ)) (s new : State) (words : List (List ℕ)) (line : Line) (answer : Result Answer AllocError) (result : Result Bool PutFault)
+    → line_of words ≡ Some line → IfOk answer (λ (told : Answer). Step hook s line (answer_meaning told) new)
+    → IfOk answer (λ (told : Answer). Says before after (answer_meaning told) result)
+    → IfErr answer (λ (fault : AllocError). (result ≡ Err NoMemory) × (after ≡ before))
+    → AnswersLine hook before after s new words result
+AnswersLine-said hook before after s new words line (Ok told) result read step said unsaid =
+    AnswersLine-told hook before after s new words line (answer_meaning told) result read step said
+AnswersLine-said hook before after s new words line (Err fault) result read step said unsaid =
+    rw (unsaid.0, unsaid.1) (AnswersLine-nothing hook before s new words)
 
 -- a line without a word has no reply
 pub AnswersLine-blank : (hook : Meaning) (o : Option (List ℕ)) (s : State) (words : List (List ℕ)) → words ≡ [] → AnswersLine hook o o s s words (Ok false)

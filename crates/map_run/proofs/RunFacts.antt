@@ -1,5 +1,5 @@
 -- Runs that go on by one line, and what is written of them.
-use Rattle.std.proofs.Common.{◌≡◌, ℕ, List, [], ◌∷◌, ◌++◌, Option, Ok, Err, Bool, true, false, ◌||◌, ◌==◌, cond, codes, refl, sym, ap, ◌∙◌, subst, append_assoc, inl, inr, Some, None}
+use Rattle.std.proofs.Common.{◌≡◌, ℕ, List, [], ◌∷◌, ◌++◌, Option, Ok, Err, Bool, true, false, ◌||◌, ◌==◌, cond, codes, refl, sym, ap, ◌∙◌, subst, append_assoc, inl, inr, Some, None, length}
 use Rattle.std.specs.List.{flat_map}
 use Rattle.std.proofs.lemmas.Grind.{flat_map-append}
 use Rattle.std.proofs.lemmas.List.{append-nil}
@@ -9,7 +9,8 @@ use Rattle.map_defs.specs.Outside.{Appended, IsFront}
 use Rattle.map_defs.specs.Values.{Meaning}
 use Rattle.map_defs.specs.State.{State}
 use Rattle.map_defs.specs.Script.{words_of, lines_of}
-use Rattle.map_defs.specs.Text.{Reply, Done, Truth, Darts, Worth, Counts, Shown, Refused, reply_text, replies_text, is_refused, any_refused, ended, spaced, spaced_signed, header_text, row_text, value_text}
+use Rattle.map_defs.specs.Text.{Reply, Done, Truth, Darts, Worth, Counts, Shown, Logged, Refused, reply_text, replies_text, is_refused, any_refused, ended, spaced, spaced_signed, header_text, row_text, value_text}
+use Rattle.map_defs.specs.LogText.{steps_text}
 use Rattle.map_defs.specs.Refusal.{number, name}
 use Rattle.map_defs.specs.Machine.{Obeys, Run}
 use Rattle.map_defs.specs.Program.{EndsLine, Begins, run_status}
@@ -32,6 +33,9 @@ reply_ends (Worth (Some v)) = inr (codes "value" ++ spaced_signed v.a ++ spaced_
 reply_ends (Counts counts) = inr (codes "count" ++ flat_map spaced counts, refl)
 reply_ends (Shown l) =
     let front : List ℕ = header_text l ++ flat_map row_text l.rows ++ flat_map value_text l.values in
+    inr (front ++ codes "end", sym (append_assoc front (codes "end") (10 ∷ [])))
+reply_ends (Logged steps) =
+    let front : List ℕ = ended (codes "log" ++ spaced (length steps)) ++ steps_text 1 steps in
     inr (front ++ codes "end", sym (append_assoc front (codes "end") (10 ∷ [])))
 reply_ends (Refused r) = inr (codes "no" ++ spaced (number r) ++ 32 ∷ name r, refl)
 

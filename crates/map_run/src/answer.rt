@@ -4,7 +4,7 @@ ghost use Rattle.map_defs.specs.Values.{Meaning};
 ghost use Rattle.map_defs.specs.State.{State};
 ghost use Rattle.map_defs.specs.Script.{Line as MapLine};
 ghost use Rattle.map_defs.specs.Machine.{Step};
-ghost use Rattle.map_defs.specs.Text.{Truth, Darts, Worth, Counts, is_refused};
+ghost use Rattle.map_defs.specs.Text.{Truth, Darts, Worth, Counts, Logged, is_refused};
 ghost use Rattle.map_core.specs.Calls.{Does, Answers, Tells};
 ghost use Rattle.map_run.specs.Lines.{answer_meaning};
 
@@ -13,28 +13,30 @@ use map_core::Done;
 use map_kind::{Dart, Refusal, Refused, Value};
 use script_text::{Births, Reply};
 use std::alloc::AllocError;
+use undo_journal::Step as Changed;
 
-/// The answer to a line: a reply of one line, or a listing.
+/// The answer to a line: a reply of one line, a listing, or the steps of a log, which are lent.
 #[derive(Drop)]
-pub enum Answer {
+pub enum Answer<'a> {
     Line(Reply),
     Listing(Listing),
+    Log(&'a [Changed]),
 }
 
-impl Answer {
+impl<'a> Answer<'a> {
     /// Whether the line was refused.
     pub fn is_refused(&self) -> bool
         ensures { result ≡ is_refused (answer_meaning self.now) }
     {
         match self {
             Answer::Line(reply) => reply.is_refused(),
-            Answer::Listing(_) => false,
+            Answer::Listing(_) | Answer::Log(_) => false,
         }
     }
 }
 
 /// What is said of a changing line.
-pub fn done(done: Result<Done, Refused>) -> Result<Answer, AllocError>
+pub fn done<'a>(done: Result<Done, Refused>) -> Result<Answer<'a>, AllocError>
     ensures { (hook : Meaning) (s : State) (new : State) (line : MapLine) → Does hook s line done new → IfOk result (λ answer. Step hook s line (answer_meaning answer) new) }
 {
     match done {
@@ -45,7 +47,7 @@ pub fn done(done: Result<Done, Refused>) -> Result<Answer, AllocError>
 }
 
 /// What is said of a question of yes or no.
-pub fn truth(answer: Result<bool, Refused>) -> Result<Answer, AllocError>
+pub fn truth<'a>(answer: Result<bool, Refused>) -> Result<Answer<'a>, AllocError>
     ensures { (hook : Meaning) (s : State) (line : MapLine) → Answers hook s line Truth answer → IfOk result (λ said. Step hook s line (answer_meaning said) s) }
 {
     match answer {
@@ -56,7 +58,7 @@ pub fn truth(answer: Result<bool, Refused>) -> Result<Answer, AllocError>
 }
 
 /// What is said of a question of yes or no that takes no memory.
-pub fn told(answer: Result<bool, Refusal>) -> Result<Answer, AllocError>
+pub fn told<'a>(answer: Result<bool, Refusal>) -> Result<Answer<'a>, AllocError>
     ensures { (hook : Meaning) (s : State) (line : MapLine) → Tells hook s line Truth answer → IfOk result (λ said. Step hook s line (answer_meaning said) s) }
 {
     match answer {
@@ -66,7 +68,7 @@ pub fn told(answer: Result<bool, Refusal>) -> Result<Answer, AllocError>
 }
 
 /// What is said of the value of a cell.
-pub fn worth(value: Result<Option<Value>, Refusal>) -> Result<Answer, AllocError>
+pub fn worth<'a>(value: Result<Option<Value>, Refusal>) -> Result<Answer<'a>, AllocError>
     ensures { (hook : Meaning) (s : State) (line : MapLine) → Tells hook s line Worth value → IfOk result (λ said. Step hook s line (answer_meaning said) s) }
 {
     match value {
@@ -76,7 +78,7 @@ pub fn worth(value: Result<Option<Value>, Refusal>) -> Result<Answer, AllocError
 }
 
 /// What is said of the darts of a cell.
-pub fn darts(darts: Result<Vec<Dart>, Refused>) -> Result<Answer, AllocError>
+pub fn darts<'a>(darts: Result<Vec<Dart>, Refused>) -> Result<Answer<'a>, AllocError>
     ensures { (hook : Meaning) (s : State) (line : MapLine) → Answers hook s line (λ found. Darts found.items) darts → IfOk result (λ said. Step hook s line (answer_meaning said) s) }
 {
     match darts {
@@ -87,8 +89,18 @@ pub fn darts(darts: Result<Vec<Dart>, Refused>) -> Result<Answer, AllocError>
 }
 
 /// What is said of the counts of a map.
-pub fn counts(counts: Result<Vec<u64>, AllocError>) -> Result<Answer, AllocError>
+pub fn counts<'a>(counts: Result<Vec<u64>, AllocError>) -> Result<Answer<'a>, AllocError>
     ensures { (hook : Meaning) (s : State) (line : MapLine) → IfOk counts (λ found. Step hook s line (Counts found.items) s) → IfOk result (λ said. Step hook s line (answer_meaning said) s) }
 {
     Ok(Answer::Line(Reply::Count(counts?)))
+}
+
+/// What is said of a log: the steps, as the map lends them.
+pub fn logged(steps: Result<&[Changed], Refusal>) -> Result<Answer<'_>, AllocError>
+    ensures { (hook : Meaning) (s : State) (line : MapLine) → Tells hook s line (λ found. Logged found.now) steps.entry → IfOk result (λ said. Step hook s line (answer_meaning said) s) }
+{
+    match steps {
+        Ok(steps) => Ok(Answer::Log(steps)),
+        Err(refusal) => Ok(Answer::Line(Reply::No(refusal))),
+    }
 }

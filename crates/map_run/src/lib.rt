@@ -5,6 +5,7 @@ mod answer;
 mod command;
 mod files;
 mod last;
+mod log;
 mod machine;
 mod mesh;
 mod obey;

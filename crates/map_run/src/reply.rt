@@ -8,13 +8,18 @@ ghost use Rattle.map_run.specs.Lines.{answer_meaning};
 ghost use Rattle.map_run.specs.Writing.{Writes};
 
 use crate::answer::Answer;
+use crate::log::write_log;
 use list_text::{ListRow, ListValue, Listing, append_header, append_row, append_value};
 use map_io::{PutFault, Sink};
 use script_text::{Reply, reply_text};
 use std::alloc::Global;
 
 /// Writes an answer.
-pub fn write_answer<S: Sink>(alloc: Global, out: &mut S, answer: &Answer) -> Result<(), PutFault>
+pub fn write_answer<S: Sink>(
+    alloc: Global,
+    out: &mut S,
+    answer: &Answer<'_>,
+) -> Result<(), PutFault>
     ensures written { Writes (S.written out.old) (S.written out.new) result
         (reply_text (answer_meaning answer.now)) }
     ensures cause { HasCause (S.faults out.old) (S.faults out.new) (IsErrOf result PutFault.Failed) }
@@ -22,6 +27,7 @@ pub fn write_answer<S: Sink>(alloc: Global, out: &mut S, answer: &Answer) -> Res
     match answer {
         Answer::Line(reply) => write_reply(alloc, out, reply),
         Answer::Listing(listing) => write_listing(alloc, out, listing),
+        Answer::Log(steps) => write_log(alloc, out, steps),
     }
 }
 

@@ -2,7 +2,7 @@ use Rattle.std.proofs.Common.{◌≡◌, Some, lit<}
 use Rattle.map_defs.specs.Script.{Face, line_of}
 use Rattle.map_run.specs.Lines.{IsTold}
 use Rattle.map_run.proofs.FacePaths.{path-short}
-use Rattle.map_run.proofs.machine.step.Goals as goal
+use Rattle.map_run.proofs.machine.change.Goals as goal
 
 pub face-requires : goal.face-requires
 unfolding IsTold

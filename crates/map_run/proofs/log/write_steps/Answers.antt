@@ -1,0 +1,33 @@
+use Rattle.std.proofs.Common.{ℕ, ◌+◌, ◌++◌, List, take, Err, arith}
+use Rattle.std.proofs.lemmas.Result.{err_from_is_err_and}
+use Rattle.map_defs.specs.Difference.{Difference}
+use Rattle.map_defs.specs.LogText.{step_text, steps_text}
+use Rattle.map_run.proofs.LogTexts.{steps_text-more, steps_text-rest, step-ends}
+use Rattle.map_run.proofs.WritingFacts.{Writes-then, Writes-cut, HasWritten-from, HasWritten-then}
+use Rattle.map_run.proofs.log.write_steps.Goals as goal
+
+pub returns-in_err-write_step-clause-written : goal.returns-in_err-write_step-clause-written
+returns-in_err-write_step-clause-written g c =
+    let steps : List Difference = c.args.steps.now in
+    let k : ℕ = c.loop-index.index in
+    let x : Difference = c.index-steps-index.result in
+    let p = err_from_is_err_and c.from_residual.result c.from_residual.ensures.1 in
+    let here = rw c.in_err-write_step.was at c.write_step.ensures.written in
+    let rest = steps_text-rest steps (k + 1) in
+    rw (p.1, p.2, rest.1, steps_text-more k steps x (omega arith) c.index-steps-index.is)
+    (Writes-cut (g.S.Sink.written c.args.out.now) (g.S.Sink.written c.write_step.new.out) c.in_err-write_step.field-0.0 (steps_text 1 (take k steps) ++ step_text (k + 1) x) rest.0
+    (Writes-then (g.S.Sink.written c.args.out.now) (g.S.Sink.written c.loop-index.out) (g.S.Sink.written c.write_step.new.out) (Err c.in_err-write_step.field-0.0) (steps_text 1 (take k steps)) (step_text (k + 1) x)
+    c.loop-index.invariant.0 here))
+
+pub loop-index-preserved : goal.loop-index-preserved
+loop-index-preserved g c =
+    let steps : List Difference = c.args.steps.now in
+    let k : ℕ = c.loop-index.index in
+    let x : Difference = c.index-steps-index.result in
+    let here = rw c.in_ok-write_step.was at c.write_step.ensures.written in (
+      rw (steps_text-more k steps x (omega arith) c.index-steps-index.is)
+          (HasWritten-then (g.S.Sink.written c.args.out.now) (g.S.Sink.written c.loop-index.out) (g.S.Sink.written c.write_step.new.out) (steps_text 1 (take k steps)) (step_text (k + 1) x)
+          c.loop-index.invariant.0
+          (HasWritten-from (g.S.Sink.written c.loop-index.out) (g.S.Sink.written c.write_step.new.out) c.in_ok-write_step.field-0 (step_text (k + 1) x) here (step-ends (k + 1) x))),
+      omega (arith, c.write_step.ensures.cause.later),
+    )
