@@ -10,6 +10,8 @@ mod insertions;
 #[cfg(test)]
 mod lines;
 #[cfg(test)]
+mod marks;
+#[cfg(test)]
 mod meshes;
 #[cfg(test)]
 mod polygons;

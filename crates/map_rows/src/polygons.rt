@@ -53,8 +53,7 @@ fn polygons_and_their_listing(rt: HostRuntime) -> Result<(), AllocError> {
     check_rows(&rt, rt.alloc(), "2", &ROWS)
 }
 
-/// 32 polygons of 65,536 sides make all but 131,072 of the darts that are ever made, and the next polygon is one too
-/// many.
+/// 32 polygons of 65,536 sides make all the darts that are ever made, and the next polygon is one too many.
 #[test]
 fn fills_the_map(rt: HostRuntime) -> Result<(), AllocError> {
     let mut script = Vec::new(rt.alloc());
