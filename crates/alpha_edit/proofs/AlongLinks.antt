@@ -5,7 +5,7 @@ use Rattle.std.proofs.lemmas.Bool.{cases_lt}
 use Rattle.std.proofs.lemmas.List.{get_or-map, length-map}
 use Rattle.std.proofs.lemmas.List.Elements.{All-map, Contains-get_or}
 use Rattle.map_defs.specs.Links.{Links, HasDimension}
-use Rattle.map_defs.specs.Words.{one_link, through, IsWithin}
+use Rattle.map_defs.specs.LinkWords.{one_link, through, IsWithin}
 use Rattle.map_defs.specs.Cells.{InOrbit, here, onward, Leads}
 use Rattle.map_defs.specs.Insertion.{IsLinkedBy}
 

@@ -10,7 +10,7 @@ use Rattle.map_defs.specs.Rows.{Rows, links_of, made, IsLive}
 use Rattle.map_defs.specs.Insertion.{IsCarrying}
 use Rattle.link_laws.proofs.Basics.{stable, same_or_not, distant_alpha}
 use Rattle.link_laws.proofs.RowFacts.{rows_made}
-use Rattle.link_rows.proofs.RowWrites.{live-within}
+use Rattle.edit_laws.proofs.RowWrites.{live-within}
 use Rattle.alpha_edit.specs.Stars.{Stars, star_of}
 use Rattle.alpha_edit.specs.Writing.{copied, beyond}
 use Rattle.alpha_edit.proofs.StarNumbers.{rises, star-found}

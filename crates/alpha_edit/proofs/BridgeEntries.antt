@@ -11,7 +11,7 @@ use Rattle.map_defs.specs.Edits.{Change}
 use Rattle.map_defs.specs.Removal.{Lands}
 use Rattle.link_laws.proofs.Basics.{same_or_not}
 use Rattle.link_laws.proofs.Walking.{walk_one}
-use Rattle.alpha_edit.specs.Writing.{Writes, Appends}
+use Rattle.alpha_edit.specs.Writing.{WritesEntries, Appends}
 use Rattle.alpha_edit.specs.Bridging.{LeadsAcross, IsEndingEntry, IsBridgeEntry, IsDartEntry, IsCellEntry}
 use Rattle.alpha_edit.proofs.StarNumbers.{rises}
 use Rattle.alpha_edit.proofs.Writings.{writes-none, writes-one, writes-append, writes-same}
@@ -116,7 +116,7 @@ module _ (L : Links) (w : Laws alpha L) (i a m : ℕ) (keys : List ℕ) where
   entries-apart u x d t y z other hu hx (inr e) (inl f) = e.2 (subst (Contains keys) (sym f.0) hx)
   entries-apart u x d t y z other hu hx (inr e) (inr f) = other (sym (beyond-back L w i u d e.0 e.1) ∙ beyond-back L w i x d f.0 f.1)
 
-  pub cell-none : Writes L (IsCellEntry L i a m keys (take 0 keys)) []
+  pub cell-none : WritesEntries L (IsCellEntry L i a m keys (take 0 keys)) []
   cell-none = writes-none L (IsCellEntry L i a m keys (take 0 keys)) (λ d t y e. omega (arith, length-take 0 keys, e.1.1))
 
   listed-apart : (k x u : ℕ) → IsStrictlyIncreasing keys → k < length keys → x ≡ get_or keys k x → Contains (take k keys) u → u ≢ x
@@ -133,9 +133,9 @@ module _ (L : Links) (w : Laws alpha L) (i a m : ℕ) (keys : List ℕ) where
       (has.0, omega (arith, has.1, length-take k keys), sym (get_or-take k keys has.0 u p_low) ∙ has.2)
 
   pub cell-more : (k x : ℕ) (b c : List Change) → IsStrictlyIncreasing keys → k < length keys → x ≡ get_or keys k x → Contains keys x
-      → Writes L (IsCellEntry L i a m keys (take k keys)) b → Appends L (IsDartEntry L i a m keys x) b c → Writes L (IsCellEntry L i a m keys (take (k + 1) keys)) c
+      → WritesEntries L (IsCellEntry L i a m keys (take k keys)) b → Appends L (IsDartEntry L i a m keys x) b c → WritesEntries L (IsCellEntry L i a m keys (take (k + 1) keys)) c
   cell-more k x b c up low at has writes (added, grown, then) =
-      subst (Writes L (IsCellEntry L i a m keys (take (k + 1) keys))) (sym grown)
+      subst (WritesEntries L (IsCellEntry L i a m keys (take (k + 1) keys))) (sym grown)
       (writes-same L (λ d t y. IsCellEntry L i a m keys (take k keys) d t y ⊎ IsDartEntry L i a m keys x d t y) (IsCellEntry L i a m keys (take (k + 1) keys)) (b ++ added)
       (λ d t y. (to d t y, λ e. from d t y e (Contains-push_cases (take k keys) x e.0 (subst (λ xs. Contains xs e.0) more e.1))))
       (writes-append L (IsCellEntry L i a m keys (take k keys)) (IsDartEntry L i a m keys x) b added
@@ -152,5 +152,5 @@ module _ (L : Links) (w : Laws alpha L) (i a m : ℕ) (keys : List ℕ) where
       from d t y e (inl had) = inl (e.0, had, e.2)
       from d t y e (inr is) = inr (subst (λ u. IsDartEntry L i a m keys u d t y) (sym is) e.2)
 
-  pub cell-all : (k : ℕ) (cs : List Change) → length keys ≤ k → Writes L (IsCellEntry L i a m keys (take k keys)) cs → Writes L (IsCellEntry L i a m keys keys) cs
-  cell-all k cs past writes = subst (λ ks. Writes L (IsCellEntry L i a m keys ks) cs) (take_all k keys past) writes
+  pub cell-all : (k : ℕ) (cs : List Change) → length keys ≤ k → WritesEntries L (IsCellEntry L i a m keys (take k keys)) cs → WritesEntries L (IsCellEntry L i a m keys keys) cs
+  cell-all k cs past writes = subst (λ ks. WritesEntries L (IsCellEntry L i a m keys ks) cs) (take_all k keys past) writes

@@ -6,7 +6,7 @@ use Rattle.map_defs.specs.Kind.{alpha, beta}
 use Rattle.map_defs.specs.Links.{Links}
 use Rattle.map_defs.specs.Laws.{Laws}
 use Rattle.map_defs.specs.Rows.{Rows, links_of, made, IsLive, IsSound}
-use Rattle.map_defs.specs.Words.{IsCellWord}
+use Rattle.map_defs.specs.LinkWords.{IsCellWord}
 use Rattle.map_defs.specs.Cells.{InCell, Leads}
 use Rattle.map_defs.specs.Edits.{Edit}
 use Rattle.map_defs.specs.Walks.{Walk, stop, go}
@@ -16,7 +16,7 @@ use Rattle.link_laws.proofs.RowFacts.{rows_made}
 use Rattle.remove_laws.proofs.Ends.{removal_found, contraction_found}
 use Rattle.remove_laws.proofs.Removed.{removed_laws, contracted_laws}
 use Rattle.alpha_edit.specs.Bridging.{across, CanEnd}
-use Rattle.alpha_edit.specs.Removing.{Ends}
+use Rattle.alpha_edit.specs.Removing.{PlansEnding}
 use Rattle.alpha_edit.proofs.Premises.{orbit-live, leads-live, live-dart, all-live}
 use Rattle.alpha_edit.proofs.WalkTurns.{listed-told}
 
@@ -35,7 +35,7 @@ bridged-of i C D Step L N same b = record {
 }
 
 pub ends-of : (n : ℕ) (rows : Rows) (i : ℕ) (C D : ℕ → Type 0) (Step : ℕ → ℕ) (e : Edit) → ((x : ℕ) → C x ↔ D x)
-    → Ends n rows C (λ N. IsBridged alpha i C Step (links_of rows) N) e → Ends n rows D (λ N. IsBridged alpha i D Step (links_of rows) N) e
+    → PlansEnding n rows C (λ N. IsBridged alpha i C Step (links_of rows) N) e → PlansEnding n rows D (λ N. IsBridged alpha i D Step (links_of rows) N) e
 ends-of n rows i C D Step e same done = record {
   births = done.births;
   members = λ x. ((λ h. (same x).0 ((done.members x).0 h)), λ h. (done.members x).1 ((same x).1 h));

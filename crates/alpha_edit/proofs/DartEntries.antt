@@ -5,7 +5,7 @@ use Rattle.std.proofs.lemmas.List.{append-nil, take_all, take_more, length-take}
 use Rattle.std.proofs.lemmas.List.Elements.{Contains-append_left, Contains-push, Contains-push_cases}
 use Rattle.map_defs.specs.Links.{Links}
 use Rattle.map_defs.specs.Edits.{Change}
-use Rattle.alpha_edit.specs.Writing.{Writes, Appends, beyond, IsNewEntry, IsKeyEntry, IsCarriedEntry}
+use Rattle.alpha_edit.specs.Writing.{WritesEntries, Appends, beyond, IsNewEntry, IsKeyEntry, IsCarriedEntry}
 use Rattle.alpha_edit.proofs.Writings.{writes-none, writes-one, writes-append, writes-same}
 
 module _ (L : Links) (i : ℕ) (star : ℕ → ℕ) (x : ℕ) where
@@ -64,7 +64,7 @@ module _ (L : Links) (i : ℕ) (star : ℕ → ℕ) (x : ℕ) where
 
 -- ---- one dart after another
 module _ (L : Links) (i m : ℕ) (star : ℕ → ℕ) where
-  pub carried-none : (keys : List ℕ) → Writes L (IsCarriedEntry L i star m (take 0 keys)) []
+  pub carried-none : (keys : List ℕ) → WritesEntries L (IsCarriedEntry L i star m (take 0 keys)) []
   carried-none keys = writes-none L (IsCarriedEntry L i star m (take 0 keys)) (λ d t y e. omega (arith, length-take 0 keys, e.1.1))
 
   -- the entries of two darts stand at places of their own
@@ -76,9 +76,9 @@ module _ (L : Links) (i m : ℕ) (star : ℕ → ℕ) where
 
   pub carried-more : (keys : List ℕ) (k x : ℕ) (a b : List Change) → k < length keys → x ≡ get_or keys k x
       → ((u : ℕ) → Contains (take k keys) u → (u ≢ x) × (star u ≢ star x) × (u ≢ star x) × (x ≢ star u))
-      → Writes L (IsCarriedEntry L i star m (take k keys)) a → Appends L (IsKeyEntry L i star m x) a b → Writes L (IsCarriedEntry L i star m (take (k + 1) keys)) b
+      → WritesEntries L (IsCarriedEntry L i star m (take k keys)) a → Appends L (IsKeyEntry L i star m x) a b → WritesEntries L (IsCarriedEntry L i star m (take (k + 1) keys)) b
   carried-more keys k x a b low at apart writes (added, grown, then) =
-      subst (Writes L (IsCarriedEntry L i star m (take (k + 1) keys))) (sym grown)
+      subst (WritesEntries L (IsCarriedEntry L i star m (take (k + 1) keys))) (sym grown)
       (writes-same L (λ d t y. IsCarriedEntry L i star m (take k keys) d t y ⊎ IsKeyEntry L i star m x d t y) (IsCarriedEntry L i star m (take (k + 1) keys)) (a ++ added)
       (λ d t y. (to d t y, λ e. from d t y e (Contains-push_cases (take k keys) x e.0 (subst (λ xs. Contains xs e.0) more e.1))))
       (writes-append L (IsCarriedEntry L i star m (take k keys)) (IsKeyEntry L i star m x) a added
@@ -95,5 +95,5 @@ module _ (L : Links) (i m : ℕ) (star : ℕ → ℕ) where
       from d t y e (inl has) = inl (e.0, has, e.2)
       from d t y e (inr is) = inr (subst (λ u. IsKeyEntry L i star m u d t y) (sym is) e.2)
 
-  pub carried-all : (keys : List ℕ) (k : ℕ) (cs : List Change) → length keys ≤ k → Writes L (IsCarriedEntry L i star m (take k keys)) cs → Writes L (IsCarriedEntry L i star m keys) cs
-  carried-all keys k cs past writes = subst (λ ks. Writes L (IsCarriedEntry L i star m ks) cs) (take_all k keys past) writes
+  pub carried-all : (keys : List ℕ) (k : ℕ) (cs : List Change) → length keys ≤ k → WritesEntries L (IsCarriedEntry L i star m (take k keys)) cs → WritesEntries L (IsCarriedEntry L i star m keys) cs
+  carried-all keys k cs past writes = subst (λ ks. WritesEntries L (IsCarriedEntry L i star m ks) cs) (take_all k keys past) writes

@@ -15,11 +15,11 @@ use Rattle.map_defs.specs.Removal.{Lands, IsBridged}
 use Rattle.link_laws.proofs.Basics.{same_or_not}
 use Rattle.link_laws.proofs.Walking.{walk_one}
 use Rattle.link_laws.proofs.RowFacts.{rows_dimension}
-use Rattle.link_rows.proofs.RowWrites.{births-links, births-wide, births-old, live-within}
-use Rattle.link_rows.proofs.EditLinks.{touched, untouched, links-changed}
-use Rattle.alpha_edit.specs.Writing.{Writes}
+use Rattle.edit_laws.proofs.RowWrites.{births-links, births-wide, births-old, live-within}
+use Rattle.edit_laws.proofs.EditLinks.{touched, untouched, links-changed}
+use Rattle.alpha_edit.specs.Writing.{WritesEntries}
 use Rattle.alpha_edit.specs.Bridging.{across, LeadsAcross, CanEnd, IsCellEntry}
-use Rattle.alpha_edit.specs.Removing.{Ends}
+use Rattle.alpha_edit.specs.Removing.{PlansEnding}
 use Rattle.alpha_edit.proofs.Premises.{live-dart}
 use Rattle.alpha_edit.proofs.WalkTurns.{listed-told}
 
@@ -37,7 +37,7 @@ bridged-same i C Step L M N same b = record {
 }
 
 module _ (n : ℕ) (rows : Rows) (sound : IsSound alpha n rows) (w : Laws alpha (links_of rows)) (i : ℕ) (low : i ≤ n) (a : ℕ) (keys : List ℕ) (can : CanEnd rows i a keys)
-    (cs : List Change) (writes : Writes (links_of rows) (IsCellEntry (links_of rows) i a (n + 1) keys keys) cs) where
+    (cs : List Change) (writes : WritesEntries (links_of rows) (IsCellEntry (links_of rows) i a (n + 1) keys keys) cs) where
   edit : Edit
   edit = record { births = 0; deaths = keys; changes = cs }
 
@@ -168,7 +168,7 @@ module _ (n : ℕ) (rows : Rows) (sound : IsSound alpha n rows) (w : Laws alpha 
   after_bridged = bridged-same i (Contains keys) (across (links_of rows) i a) (links_of rows) (links_of (with_changes n edit rows)) (links_of (after_edit n edit rows))
       (links-changed alpha n rows edit sound fits) bridged
 
-  pub ending-ends : Ends n rows (Contains keys) (λ N. IsBridged alpha i (Contains keys) (across (links_of rows) i a) (links_of rows) N) (record { births = 0; deaths = keys; changes = cs })
+  pub ending-ends : PlansEnding n rows (Contains keys) (λ N. IsBridged alpha i (Contains keys) (across (links_of rows) i a) (links_of rows) N) (record { births = 0; deaths = keys; changes = cs })
   unfolding edit
   ending-ends = record {
     births = refl;

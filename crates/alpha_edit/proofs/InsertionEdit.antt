@@ -12,14 +12,14 @@ use Rattle.map_defs.specs.Edits.{Change, Edit, with_births, after_edit, Fits}
 use Rattle.map_defs.specs.Insertion.{IsInsertable, IsInserted}
 use Rattle.link_laws.proofs.Basics.{same_or_not, distant_alpha_is}
 use Rattle.link_laws.proofs.RowFacts.{rows_made, rows_dimension}
-use Rattle.link_rows.proofs.RowWrites.{births-links, births-wide, births-old, births-new, live-within}
-use Rattle.link_rows.proofs.EditLinks.{touched, untouched}
+use Rattle.edit_laws.proofs.RowWrites.{births-links, births-wide, births-old, births-new, live-within}
+use Rattle.edit_laws.proofs.EditLinks.{touched, untouched}
 use Rattle.insert_laws.proofs.InsertSquare.{insertion_keeps}
 use Rattle.insert_laws.proofs.Numbers.{numbered_above, numbered_upto, numbered_one, numbered_fresh}
 use Rattle.sewing.specs.Triples.{Triple, Lists, IsAscending}
 use Rattle.alpha_edit.specs.Stars.{Stars, star_of}
-use Rattle.alpha_edit.specs.Inserting.{Inserts}
-use Rattle.alpha_edit.specs.Writing.{Writes, beyond, IsCarriedEntry, AreReady}
+use Rattle.alpha_edit.specs.Inserting.{PlansInsertion}
+use Rattle.alpha_edit.specs.Writing.{WritesEntries, beyond, IsCarriedEntry, AreReady}
 use Rattle.alpha_edit.proofs.StarNumbers.{star-nothing, stars-number}
 use Rattle.alpha_edit.proofs.Beyond.{beyond-own, beyond-before, beyond-else, copied-next, copied-far, unmade-free, live-made}
 use Rattle.alpha_edit.proofs.Writings.{writes-append}
@@ -63,7 +63,7 @@ module _ (n : ℕ) (rows : Rows) (begun : 0 < length rows) (sound : IsSound alph
   apart d t y z (x, has, inr e) (u, v, had, is, new) =
       e.3 (e.2 ∙ beyond-before (links_of rows) i (star_of stars) x t (pair_key u v t had).1)
 
-  module _ (cs : List Change) (writes : Writes (links_of rows) (λ d t y. IsCarriedEntry (links_of rows) i (star_of stars) (n + 1) stars.keys d t y ⊎ IsPairEntry (star_of stars) pairs d t y) cs) where
+  module _ (cs : List Change) (writes : WritesEntries (links_of rows) (λ d t y. IsCarriedEntry (links_of rows) i (star_of stars) (n + 1) stars.keys d t y ⊎ IsPairEntry (star_of stars) pairs d t y) cs) where
     edit : Edit
     edit = record { births = length stars.keys; deaths = []; changes = cs }
 
@@ -178,7 +178,7 @@ module _ (n : ℕ) (rows : Rows) (begun : 0 < length rows) (sound : IsSound alph
       free = λ p z h. absurd (omega arith);
     }
 
-    pub inserts : Inserts n rows (Contains stars.keys) (λ s N. IsInserted alpha i (Contains stars.keys) (Lists pairs) s (links_of rows) N)
+    pub inserts : PlansInsertion n rows (Contains stars.keys) (λ s N. IsInserted alpha i (Contains stars.keys) (Lists pairs) s (links_of rows) N)
         (record { births = length stars.keys; deaths = []; changes = cs })
     unfolding edit
     inserts = record {
@@ -193,8 +193,8 @@ module _ (n : ℕ) (rows : Rows) (begun : 0 < length rows) (sound : IsSound alph
     }
 
   -- the changes of the keys, and behind them those of the pairs
-  pub insertion-inserts : (cs : List Change) → Writes (links_of rows) (IsCarriedEntry (links_of rows) i (star_of stars) (n + 1) stars.keys) cs
-      → Inserts n rows (Contains stars.keys) (λ s N. IsInserted alpha i (Contains stars.keys) (Lists pairs) s (links_of rows) N)
+  pub insertion-inserts : (cs : List Change) → WritesEntries (links_of rows) (IsCarriedEntry (links_of rows) i (star_of stars) (n + 1) stars.keys) cs
+      → PlansInsertion n rows (Contains stars.keys) (λ s N. IsInserted alpha i (Contains stars.keys) (Lists pairs) s (links_of rows) N)
       (record { births = length stars.keys; deaths = []; changes = cs ++ pair_changes (star_of stars) pairs })
   insertion-inserts cs carried =
       inserts (cs ++ pair_changes (star_of stars) pairs)

@@ -5,7 +5,7 @@ use Rattle.std.proofs.lemmas.List.Elements.{Contains-get_or}
 use Rattle.map_defs.specs.Links.{Links}
 use Rattle.map_defs.specs.Edits.{Change}
 use Rattle.sewing.specs.Triples.{Triple, Lists, ComesBefore, IsAscending}
-use Rattle.alpha_edit.specs.Writing.{Writes}
+use Rattle.alpha_edit.specs.Writing.{WritesEntries}
 use Rattle.alpha_edit.proofs.Writings.{change_one}
 
 -- the entries by which the new darts of pairs are joined
@@ -53,7 +53,7 @@ module _ (L : Links) (star : ℕ → ℕ) (pairs : List Triple) (up : IsAscendin
   before a b has had (inl less) same link = let e : a.x ≡ b.x = one a.x a.y a.t b.x b.y b.t has had same in omega arith
   before a b has had (inr less) same link = omega (arith, less.1)
 
-  pub pairs-write : Writes L (IsPairEntry star pairs) (pair_changes star pairs)
+  pub pairs-write : WritesEntries L (IsPairEntry star pairs) (pair_changes star pairs)
   pairs-write = record {
     same = λ c. (to c, λ entry. from c entry.0 entry.1);
     once = λ i j z low high.

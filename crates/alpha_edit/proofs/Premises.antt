@@ -5,13 +5,13 @@ use Rattle.std.proofs.lemmas.Bool.{false≢true}
 use Rattle.std.proofs.lemmas.List.Elements.{Contains-get_or}
 use Rattle.map_defs.specs.Kind.{Kind, alpha}
 use Rattle.map_defs.specs.Links.{Links}
-use Rattle.map_defs.specs.Words.{Word, through_second}
+use Rattle.map_defs.specs.LinkWords.{LinkWord, through_second}
 use Rattle.map_defs.specs.Rows.{Rows, links_of, row_at, made, IsLive, IsSound}
 use Rattle.map_defs.specs.Cells.{InOrbit, here, onward, Leads}
 use Rattle.map_defs.specs.Edits.{Edit}
 use Rattle.map_defs.specs.Insertion.{IsInsertable, IsInserted, IsLinkedBy}
 use Rattle.sewing.specs.Triples.{Triple, Lists}
-use Rattle.alpha_edit.specs.Inserting.{Inserts}
+use Rattle.alpha_edit.specs.Inserting.{PlansInsertion}
 use Rattle.alpha_edit.specs.Writing.{ArePairsOf}
 use Rattle.alpha_edit.proofs.Beyond.{live-made}
 
@@ -43,7 +43,7 @@ inserted-same k i K H P Q star L N keys pairs done = record {
 }
 
 pub inserts-same : (n : ℕ) (rows : Rows) (K H : ℕ → Type 0) (k : Kind) (i : ℕ) (P Q : ℕ → ℕ → ℕ → Type 0) (edit : Edit) → ((x : ℕ) → H x ↔ K x) → ((x y t : ℕ) → Q x y t ↔ P x y t)
-    → Inserts n rows H (λ star N. IsInserted k i H Q star (links_of rows) N) edit → Inserts n rows K (λ star N. IsInserted k i K P star (links_of rows) N) edit
+    → PlansInsertion n rows H (λ star N. IsInserted k i H Q star (links_of rows) N) edit → PlansInsertion n rows K (λ star N. IsInserted k i K P star (links_of rows) N) edit
 inserts-same n rows K H k i P Q edit keys pairs done = record {
   deaths = done.deaths;
   fits = done.fits;
@@ -68,7 +68,7 @@ orbit-live Step rows to d x live (onward {x = u} {y = v} o s) = to u v s
 pub linked-live : (k : Kind) (n : ℕ) (rows : Rows) → IsSound k n rows → (J : ℕ → Type 0) (x y : ℕ) → IsLinkedBy (links_of rows) J x y → IsLive rows y
 linked-live k n rows sound J x y (j, among, is, dart) = rw is at (sound.live j x (λ none. dart (sym is ∙ none)))
 
-pub leads-live : (k : Kind) (n : ℕ) (rows : Rows) → IsSound k n rows → (Words : Word → Type 0) (x y : ℕ) → Leads (links_of rows) Words x y → IsLive rows y
+pub leads-live : (k : Kind) (n : ℕ) (rows : Rows) → IsSound k n rows → (Words : LinkWord → Type 0) (x y : ℕ) → Leads (links_of rows) Words x y → IsLive rows y
 leads-live k n rows sound Words x y (w, among, is, dart) = last w.second is
   where
     last : (s : Option ℕ) → through_second (links_of rows) s (links_of rows w.first x) ≡ y → IsLive rows y

@@ -3,7 +3,7 @@ use Rattle.std.proofs.Common.{ℕ, ◌≢◌, ◌↔◌, List, [], Contains, ari
 use Rattle.map_defs.specs.Kind.{alpha}
 use Rattle.map_defs.specs.Links.{Links}
 use Rattle.map_defs.specs.Rows.{Rows, links_of, IsLive, IsSound}
-use Rattle.map_defs.specs.Words.{IsCellWord}
+use Rattle.map_defs.specs.LinkWords.{IsCellWord}
 use Rattle.map_defs.specs.Cells.{InCell, Leads}
 use Rattle.map_defs.specs.Insertion.{IsInsertable, NoPairs}
 use Rattle.insert_laws.proofs.AlphaInsert.{alpha_vertex_can}

@@ -5,7 +5,7 @@ use Rattle.std.proofs.lemmas.List.Kept.{AllPairs-cons}
 use Rattle.std.proofs.lemmas.List.Elements.{All-append, Contains-get_or, Contains-append_left, Contains-append_right, Contains-append_cases}
 use Rattle.map_defs.specs.Links.{Links}
 use Rattle.map_defs.specs.Edits.{Change}
-use Rattle.alpha_edit.specs.Writing.{Writes}
+use Rattle.alpha_edit.specs.Writing.{WritesEntries}
 
 -- two changes with the same fields are one
 pub change_one : (b c : Change) → b.dart ≡ c.dart → b.link ≡ c.link → b.old ≡ c.old → b.new ≡ c.new → b ≡ c
@@ -24,13 +24,13 @@ all_pairs_append R (x ∷ xs) ys first then across =
     later : (u : _) → Contains xs u → Contains (x ∷ xs) u
     later u has = (suc has.0, omega (arith, has.1), has.2)
 
-pub writes-none : (L : Links) (Entry : ℕ → ℕ → ℕ → Type 0) → ((d t y : ℕ) → Entry d t y → ⊥) → Writes L Entry []
+pub writes-none : (L : Links) (Entry : ℕ → ℕ → ℕ → Type 0) → ((d t y : ℕ) → Entry d t y → ⊥) → WritesEntries L Entry []
 writes-none L Entry none = record {
   same = λ c. (λ has. absurd (omega (arith, has.1)), λ entry. absurd (none c.dart c.link c.new entry.0));
   once = λ i j d low within. absurd (omega arith);
 }
 
-pub writes-one : (L : Links) (c : Change) → c.old ≡ L c.link c.dart → Writes L (λ d t y. (d ≡ c.dart) × (t ≡ c.link) × (y ≡ c.new)) (c ∷ [])
+pub writes-one : (L : Links) (c : Change) → c.old ≡ L c.link c.dart → WritesEntries L (λ d t y. (d ≡ c.dart) × (t ≡ c.link) × (y ≡ c.new)) (c ∷ [])
 writes-one L c old = record {
   same = λ b. (to b, λ entry. from b entry.0.0 entry.0.1 entry.0.2 entry.1);
   once = λ i j d low within. absurd (omega arith);
@@ -45,8 +45,8 @@ writes-one L c old = record {
         let same_old : b.old ≡ c.old = cc in
         (0, omega arith, sym (change_one b c dart link same_old new))
 
-pub writes-append : (L : Links) (E F : ℕ → ℕ → ℕ → Type 0) (a b : List Change) → ((d t y z : ℕ) → E d t y → F d t z → ⊥) → Writes L E a → Writes L F b
-    → Writes L (λ d t y. E d t y ⊎ F d t y) (a ++ b)
+pub writes-append : (L : Links) (E F : ℕ → ℕ → ℕ → Type 0) (a b : List Change) → ((d t y z : ℕ) → E d t y → F d t z → ⊥) → WritesEntries L E a → WritesEntries L F b
+    → WritesEntries L (λ d t y. E d t y ⊎ F d t y) (a ++ b)
 writes-append L E F a b apart first then = record {
   same = λ c. (λ has. to c (Contains-append_cases a b c has), λ entry. from c entry.0 entry.1);
   once = all_pairs_append (λ (c d : Change). c.dart ≡ d.dart → c.link ≡ d.link → ⊥) a b first.once then.once across;
@@ -65,7 +65,7 @@ writes-append L E F a b apart first then = record {
         let e = ((first.same c).0 has).0 in
         apart d.dart d.link c.new d.new (rw (dart, link) at e) ((then.same d).0 had).0
 
-pub writes-same : (L : Links) (E F : ℕ → ℕ → ℕ → Type 0) (cs : List Change) → ((d t y : ℕ) → E d t y ↔ F d t y) → Writes L E cs → Writes L F cs
+pub writes-same : (L : Links) (E F : ℕ → ℕ → ℕ → Type 0) (cs : List Change) → ((d t y : ℕ) → E d t y ↔ F d t y) → WritesEntries L E cs → WritesEntries L F cs
 writes-same L E F cs same writes = record {
   same = λ c. (
     λ has. let e = (writes.same c).0 has in ((same c.dart c.link c.new).0 e.0, e.1),

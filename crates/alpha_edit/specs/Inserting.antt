@@ -10,7 +10,7 @@ use Rattle.map_defs.specs.Edits.{Edit, Fits, after_edit}
 -- The edit fits the rows of a generalized map of dimension n. It makes a new dart for each dart of K, numbered on from the
 -- darts that were made in the order of the darts of K, and ends none. The links after it are what Becomes asks of the new
 -- darts and the links, and they obey the laws.
-pub record Inserts (n : ℕ) (rows : Rows) (K : ℕ → Type 0) (Becomes : (ℕ → ℕ) → Links → Type 0) (edit : Edit) : Type 0 where
+pub record PlansInsertion (n : ℕ) (rows : Rows) (K : ℕ → Type 0) (Becomes : (ℕ → ℕ) → Links → Type 0) (edit : Edit) : Type 0 where
   pub deaths : edit.deaths ≡ []
   pub fits : Fits alpha n rows edit
   pub keys : List ℕ

@@ -9,7 +9,7 @@ use Rattle.map_defs.specs.Edits.{Edit, Fits, after_edit}
 
 -- The edit fits the rows of a generalized map of dimension n. It makes no dart, and ends just the darts of C, ascending.
 -- The links after it are what Becomes asks, and they obey the laws.
-pub record Ends (n : ℕ) (rows : Rows) (C : ℕ → Type 0) (Becomes : Links → Type 0) (edit : Edit) : Type 0 where
+pub record PlansEnding (n : ℕ) (rows : Rows) (C : ℕ → Type 0) (Becomes : Links → Type 0) (edit : Edit) : Type 0 where
   pub births : edit.births ≡ 0
   pub members : (x : ℕ) → Contains edit.deaths x ↔ C x
   pub ascending : IsStrictlyIncreasing edit.deaths

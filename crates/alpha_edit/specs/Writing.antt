@@ -10,13 +10,13 @@ use Rattle.sewing.specs.Triples.{Triple, Lists}
 use Rattle.alpha_edit.specs.Stars.{Stars, star_of}
 
 -- The changes write just these entries, as `Entry dart link new`, each at a place of its own, over the old links.
-pub record Writes (L : Links) (Entry : ℕ → ℕ → ℕ → Type 0) (changes : List Change) : Type 0 where
+pub record WritesEntries (L : Links) (Entry : ℕ → ℕ → ℕ → Type 0) (changes : List Change) : Type 0 where
   pub same : (c : Change) → Contains changes c ↔ (Entry c.dart c.link c.new × (c.old ≡ L c.link c.dart))
   pub once : AllPairs (λ b c. b.dart ≡ c.dart → b.link ≡ c.link → ⊥) changes
 
 -- changes that write these entries were added behind
 abbrev pub Appends : Links → (ℕ → ℕ → ℕ → Type 0) → List Change → List Change → Type 0
-Appends L Entry old new = (added : List Change) × (new ≡ old ++ added) × Writes L Entry added
+Appends L Entry old new = (added : List Change) × (new ≡ old ++ added) × WritesEntries L Entry added
 
 -- the link of an old dart from which link t of its new dart is copied, in an insertion at link i
 abbrev pub copied : ℕ → ℕ → ℕ

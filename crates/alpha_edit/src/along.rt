@@ -2,7 +2,7 @@ ghost use Rattle.std.specs.Prelude.{◌≡◌, ℕ, ◌+◌, ◌≤◌, ◌↔�
 ghost use Rattle.std.specs.List.Sorted.{IsStrictlyIncreasing};
 ghost use Rattle.map_defs.specs.Kind.{alpha};
 ghost use Rattle.map_defs.specs.Rows.{links_of};
-ghost use Rattle.map_defs.specs.Words.{one_link};
+ghost use Rattle.map_defs.specs.LinkWords.{one_link};
 ghost use Rattle.map_defs.specs.Cells.{InOrbit};
 ghost use Rattle.map_defs.specs.Pairs.{InPairs, IsGood};
 ghost use Rattle.map_defs.specs.Insertion.{IsLinkedBy, IsCarrying, IsPairing};
@@ -10,7 +10,7 @@ ghost use Rattle.sewing.specs.Triples.{Lists, IsAscending};
 
 use cell_walk::{orbits_of, reaches};
 use link_rows::Links;
-use map_kind::{Alpha, Dart, Kind, Word};
+use map_kind::{Alpha, Dart, Kind, LinkWord};
 use sewing::{PairFault, Triple, pair};
 use std::alloc::{AllocError, Global};
 
@@ -119,8 +119,8 @@ fn pairing_links(alloc: Global, dim: usize, link: usize) -> Result<Vec<usize>, A
 }
 
 /// The words of these links, one link each.
-fn one_link_words(alloc: Global, along: &[usize]) -> Result<Vec<Word>, AllocError>
+fn one_link_words(alloc: Global, along: &[usize]) -> Result<Vec<LinkWord>, AllocError>
     ensures { IfOk result (λ words. words.items ≡ map one_link along.now) }
 {
-    along.iter().map(|link| Word::one(*link)).collect(alloc)
+    along.iter().map(|link| LinkWord::one(*link)).collect(alloc)
 }

@@ -4,7 +4,7 @@ ghost use Rattle.map_defs.specs.Rows.{links_of, IsLive};
 ghost use Rattle.map_defs.specs.Laws.{Laws};
 ghost use Rattle.map_defs.specs.Cells.{InCell};
 ghost use Rattle.map_defs.specs.Contraction.{IsContractibleAt, IsContractible, IsContracted};
-ghost use Rattle.alpha_edit.specs.Removing.{Ends};
+ghost use Rattle.alpha_edit.specs.Removing.{PlansEnding};
 
 use crate::crossing::are_commuting;
 use crate::ending::ending;
@@ -48,7 +48,7 @@ pub fn contract_plan<const DIM: usize>(
 
     // It answers where the cell can be contracted, with an edit that contracts it.
     ensures contractible { OnOk result (IsContractible alpha (links_of links.now.rows) dim dart) }
-    ensures ends { IfOk result (λ edit. Ends DIM links.now.rows (InCell alpha (links_of links.now.rows) dim dart)
+    ensures ends { IfOk result (λ edit. PlansEnding DIM links.now.rows (InCell alpha (links_of links.now.rows) dim dart)
         (λ N. IsContracted alpha dim dart (links_of links.now.rows) N) edit) }
 
     // It is refused where it cannot, or for want of memory.

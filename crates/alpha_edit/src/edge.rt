@@ -5,7 +5,7 @@ ghost use Rattle.map_defs.specs.Rows.{links_of, IsLive};
 ghost use Rattle.map_defs.specs.Laws.{Laws};
 ghost use Rattle.map_defs.specs.Insertion.{AreOnOneSide, InAlphaCorner, AlphaEdgeDarts, AlphaEdgePairs, AreAlphaEdgePaired, IsAlphaEdge};
 ghost use Rattle.sewing.specs.Triples.{Lists, IsAscending};
-ghost use Rattle.alpha_edit.specs.Inserting.{Inserts};
+ghost use Rattle.alpha_edit.specs.Inserting.{PlansInsertion};
 
 use crate::along::{carried_darts, carrying_links, insertion_pairs, leads};
 use crate::insertion::insertion;
@@ -37,7 +37,7 @@ pub fn edge_plan<const DIM: usize>(
     ensures one_side { OnOk result (AreOnOneSide (links_of links.now.rows) one other) }
     ensures two_corners { OnOk result (InAlphaCorner (links_of links.now.rows) one other → ⊥) }
     ensures paired { OnOk result (AreAlphaEdgePaired (links_of links.now.rows) one other) }
-    ensures inserts { IfOk result (λ edit. Inserts DIM links.now.rows (AlphaEdgeDarts (links_of links.now.rows) one other)
+    ensures inserts { IfOk result (λ edit. PlansInsertion DIM links.now.rows (AlphaEdgeDarts (links_of links.now.rows) one other)
         (λ star N. IsAlphaEdge one other star (links_of links.now.rows) N) edit) }
 
     // It is refused where none fits, or for want of memory.

@@ -3,9 +3,9 @@ ghost use Rattle.map_defs.specs.Kind.{alpha};
 ghost use Rattle.map_defs.specs.Rows.{links_of};
 ghost use Rattle.map_defs.specs.Laws.{Laws};
 ghost use Rattle.map_defs.specs.Removal.{Lands, IsBridged};
-ghost use Rattle.alpha_edit.specs.Writing.{Writes, Appends};
+ghost use Rattle.alpha_edit.specs.Writing.{WritesEntries, Appends};
 ghost use Rattle.alpha_edit.specs.Bridging.{across, CanEnd, IsEndingEntry, IsBridgeEntry, IsDartEntry, IsCellEntry};
-ghost use Rattle.alpha_edit.specs.Removing.{Ends};
+ghost use Rattle.alpha_edit.specs.Removing.{PlansEnding};
 
 use crate::crossing::{first_outside, is_among};
 use link_rows::{Change, Edit, Links};
@@ -26,7 +26,7 @@ pub(crate) fn ending<const DIM: usize>(
     requires link { link ≤ DIM }
     requires can { CanEnd links.now.rows link beside darts.items }
     requires laws { Laws alpha (links_of links.now.rows) }
-    ensures { IfOk result (λ edit. Ends DIM links.now.rows (Contains darts.items)
+    ensures { IfOk result (λ edit. PlansEnding DIM links.now.rows (Contains darts.items)
         (λ N. IsBridged alpha link (Contains darts.items) (across (links_of links.now.rows) link beside) (links_of links.now.rows) N) edit) }
 {
     // Links name live darts.
@@ -50,7 +50,7 @@ fn ending_changes<const DIM: usize>(
     requires link { link ≤ DIM }
     requires can { CanEnd links.now.rows link beside darts.now }
     requires laws { Laws alpha (links_of links.now.rows) }
-    ensures { IfOk result (λ changes. Writes (links_of links.now.rows)
+    ensures { IfOk result (λ changes. WritesEntries (links_of links.now.rows)
         (IsCellEntry (links_of links.now.rows) link beside (DIM + 1) darts.now darts.now) changes.items) }
 {
     let mut changes = Vec::new(alloc);

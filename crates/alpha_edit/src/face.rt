@@ -4,7 +4,7 @@ ghost use Rattle.map_defs.specs.Rows.{links_of, IsLive};
 ghost use Rattle.map_defs.specs.Laws.{Laws};
 ghost use Rattle.map_defs.specs.Insertion.{FaceDarts, FacePairs, IsOnOneVolume, IsClosedPath, IsFacePaired, IsFace};
 ghost use Rattle.sewing.specs.Triples.{Lists, IsAscending};
-ghost use Rattle.alpha_edit.specs.Inserting.{Inserts};
+ghost use Rattle.alpha_edit.specs.Inserting.{PlansInsertion};
 
 use crate::along::{carried_darts, insertion_pairs};
 use crate::insertion::insertion;
@@ -39,7 +39,7 @@ pub fn face_plan<const DIM: usize>(
     ensures one_volume { OnOk result (IsOnOneVolume (links_of links.now.rows) path.now) }
     ensures closed { OnOk result (IsClosedPath alpha (links_of links.now.rows) path.now) }
     ensures paired { OnOk result (IsFacePaired alpha (links_of links.now.rows) path.now) }
-    ensures inserts { IfOk result (λ edit. Inserts DIM links.now.rows (FaceDarts alpha (links_of links.now.rows) path.now)
+    ensures inserts { IfOk result (λ edit. PlansInsertion DIM links.now.rows (FaceDarts alpha (links_of links.now.rows) path.now)
         (λ star N. IsFace alpha path.now star (links_of links.now.rows) N) edit) }
 
     // It is refused where none fits, or for want of memory.

@@ -6,8 +6,8 @@ ghost use Rattle.map_defs.specs.Laws.{Laws};
 ghost use Rattle.map_defs.specs.Insertion.{IsInsertable, IsInserted};
 ghost use Rattle.sewing.specs.Triples.{Lists, IsAscending};
 ghost use Rattle.alpha_edit.specs.Stars.{star_of};
-ghost use Rattle.alpha_edit.specs.Inserting.{Inserts};
-ghost use Rattle.alpha_edit.specs.Writing.{Writes, Appends, copied, beyond, IsNewEntry, IsKeyEntry, IsCarriedEntry, AreReady, ArePairsOf};
+ghost use Rattle.alpha_edit.specs.Inserting.{PlansInsertion};
+ghost use Rattle.alpha_edit.specs.Writing.{WritesEntries, Appends, copied, beyond, IsNewEntry, IsKeyEntry, IsCarriedEntry, AreReady, ArePairsOf};
 
 use crate::stars::Stars;
 use link_rows::{Change, Edit, Links};
@@ -33,7 +33,7 @@ pub(crate) fn insertion<const DIM: usize>(
     requires among { ArePairsOf darts.items pairs.now }
     requires insertable { IsInsertable alpha link (Contains darts.items) (Lists pairs.now) (links_of links.now.rows) }
     requires laws { Laws alpha (links_of links.now.rows) }
-    ensures { IfOk result (λ edit. Inserts DIM links.now.rows (Contains darts.items)
+    ensures { IfOk result (λ edit. PlansInsertion DIM links.now.rows (Contains darts.items)
         (λ star N. IsInserted alpha link (Contains darts.items) (Lists pairs.now) star (links_of links.now.rows) N) edit) }
 {
     let stars = Stars::new(darts, links.made());
@@ -55,7 +55,7 @@ fn carried_changes<const DIM: usize>(
 ) -> Result<Vec<Change>, AllocError>
     requires link { link < DIM }
     requires ready { AreReady links.now.rows link stars.now }
-    ensures { IfOk result (λ changes. Writes (links_of links.now.rows)
+    ensures { IfOk result (λ changes. WritesEntries (links_of links.now.rows)
         (IsCarriedEntry (links_of links.now.rows) link (star_of stars.now) (DIM + 1) stars.now.keys) changes.items) }
 {
     let mut changes = Vec::new(alloc);

@@ -4,7 +4,7 @@ ghost use Rattle.map_defs.specs.Rows.{links_of, IsLive};
 ghost use Rattle.map_defs.specs.Laws.{Laws};
 ghost use Rattle.map_defs.specs.Cells.{InCell};
 ghost use Rattle.map_defs.specs.Removal.{IsRemovable, IsRemoved};
-ghost use Rattle.alpha_edit.specs.Removing.{Ends};
+ghost use Rattle.alpha_edit.specs.Removing.{PlansEnding};
 
 use crate::crossing::are_commuting;
 use crate::ending::ending;
@@ -49,7 +49,7 @@ pub fn remove_plan<const DIM: usize>(
 
     // It answers where the cell can be removed, with an edit that removes it.
     ensures removable { OnOk result (IsRemovable alpha (links_of links.now.rows) dim dart) }
-    ensures ends { IfOk result (λ edit. Ends DIM links.now.rows (InCell alpha (links_of links.now.rows) dim dart)
+    ensures ends { IfOk result (λ edit. PlansEnding DIM links.now.rows (InCell alpha (links_of links.now.rows) dim dart)
         (λ N. IsRemoved alpha dim dart (links_of links.now.rows) N) edit) }
 
     // It is refused where it cannot, or for want of memory.

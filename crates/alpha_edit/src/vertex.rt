@@ -4,7 +4,7 @@ ghost use Rattle.map_defs.specs.Rows.{links_of, IsLive};
 ghost use Rattle.map_defs.specs.Laws.{Laws};
 ghost use Rattle.map_defs.specs.Cells.{InCell};
 ghost use Rattle.map_defs.specs.Insertion.{IsAlphaVertex};
-ghost use Rattle.alpha_edit.specs.Inserting.{Inserts};
+ghost use Rattle.alpha_edit.specs.Inserting.{PlansInsertion};
 
 use crate::insertion::insertion;
 use cell_walk::cell;
@@ -24,7 +24,7 @@ pub fn vertex_plan<const DIM: usize>(
 ) -> Result<Edit, AllocError>
     requires dart { IsLive links.now.rows dart }
     requires laws { Laws alpha (links_of links.now.rows) }
-    ensures { IfOk result (λ edit. Inserts DIM links.now.rows (InCell alpha (links_of links.now.rows) 1 dart)
+    ensures { IfOk result (λ edit. PlansInsertion DIM links.now.rows (InCell alpha (links_of links.now.rows) 1 dart)
         (λ star N. IsAlphaVertex dart star (links_of links.now.rows) N) edit) }
 {
     // A map has links 0 to 2 at least.

@@ -1,7 +1,7 @@
 -- The columns of labels as they are lengthened, shortened and written, one after the other.
 use Rattle.std.proofs.Common.{◌≡◌, ◌≢◌, ◌⊎◌, ◌↔◌, inl, inr, ℕ, zero, suc, ◌+◌, ◌<◌, ◌≤◌, List, [], length, get_or, set, take, None, refl, sym, ◌∙◌, ap, arith, length-set, get_or-set_other, get_or-set_same}
 use Rattle.std.proofs.lemmas.List.{get_or-take, get_or_past, get_or_default, set-get_or, length-take}
-use Rattle.attr_pool.specs.Labelings.{as_id, id_at}
+use Rattle.store_defs.specs.Labelings.{as_id, id_at}
 use Rattle.attr_pool.specs.Columns.{KeepsColumn, AreLong}
 
 abbrev pub at : List (List ℕ) → ℕ → List ℕ

@@ -6,7 +6,7 @@ use Rattle.std.proofs.lemmas.Bool.{false≢true}
 use Rattle.std.proofs.lemmas.List.{get_or_past}
 use Rattle.map_defs.specs.Values.{Value}
 use Rattle.dart_arena.proofs.RowLemmas.{some-within}
-use Rattle.attr_pool.specs.Kept.{AreFree, AreLinked, no_value}
+use Rattle.attr_pool.specs.Pools.{AreFree, AreLinked, no_value}
 
 -- a live place is none of the free ones
 live_apart : (xs : List (Option Value)) (gs : List ℕ) (p k : ℕ) → AreFree xs gs → IsSome (get_or xs p None) → k < length gs → get_or gs k 0 ≢ p

@@ -2,7 +2,7 @@
 use Rattle.std.proofs.Common.{◌≡◌, ℕ, zero, suc, List, [], ◌∷◌, ◌++◌, length, get_or, set, Bool, true, false, Option, None, Some, cond, refl, ap, arith}
 use Rattle.std.proofs.lemmas.Bool.{false≢true}
 use Rattle.map_defs.specs.Values.{Value}
-use Rattle.attr_pool.specs.Kept.{slots_of}
+use Rattle.attr_pool.specs.Pools.{slots_of}
 
 pub length-slots : (vs : List Value) (ls : List Bool) → length ls ≡ length vs → length (slots_of vs ls) ≡ length vs
 length-slots [] ls h = refl

@@ -7,9 +7,9 @@ use Rattle.std.proofs.lemmas.Grind.{common_steps}
 use Rattle.std.proofs.lemmas.List.Elements.{filter-append}
 use Rattle.map_defs.specs.Values.{Value}
 use Rattle.dart_arena.proofs.RowLemmas.{row_behind, set_behind, some-within, count-buried, count-revived, count-replaced}
-use Rattle.attr_pool.specs.Stores.{IsPut}
-use Rattle.attr_pool.specs.Labelings.{as_id}
-use Rattle.attr_pool.specs.Kept.{slots_of, no_value, AreKept}
+use Rattle.store_defs.specs.Stores.{IsPut}
+use Rattle.store_defs.specs.Labelings.{as_id}
+use Rattle.attr_pool.specs.Pools.{slots_of, no_value, ArePoolParts}
 use Rattle.attr_pool.proofs.PairedLists.{length-slots, get_or-slots, set-slots, set-slots_value, slots-push}
 use Rattle.attr_pool.proofs.FreePlaces.{free_popped, linked_popped, free_pushed, linked_pushed, free_replaced, linked_replaced, free_none, linked_none, free_end, FirstFree, first_free}
 
@@ -62,12 +62,12 @@ pub is_put_at : (vs : List Value) (ls : List Bool) (ys : List (Option Value)) (m
     → IsPut (record { slots = None ∷ slots_of vs ls; spare = m }) (record { slots = None ∷ ys; spare = n }) id o
 is_put_at vs ls ys m n id p o same h e i = is_put (slots_of vs ls) ys m n id p o e (rw (length-slots vs ls same) h.within) i
 
-pub kept_none : AreKept [] [] 0 0 []
+pub kept_none : ArePoolParts [] [] 0 0 []
 kept_none = record { paired = refl; free = free_none []; linked = linked_none []; count = refl; all = refl }
 
 -- the first free place becomes live
-pub kept_reused : (vs : List Value) (ls : List Bool) (first live next : ℕ) (gs : List ℕ) (v : Value) → AreKept vs ls first live gs → live < length vs
-    → pos next ≡ (get_or vs first no_value).a → AreKept (set vs first v) (set ls first true) next (live + 1) (drop 1 gs)
+pub kept_reused : (vs : List Value) (ls : List Bool) (first live next : ℕ) (gs : List ℕ) (v : Value) → ArePoolParts vs ls first live gs → live < length vs
+    → pos next ≡ (get_or vs first no_value).a → ArePoolParts (set vs first v) (set ls first true) next (live + 1) (drop 1 gs)
 kept_reused vs ls first live next gs v k few e = record {
   paired = rw (length-set, length-set) k.paired;
   free = rw (set-slots vs ls first v true) (free_popped (slots_of vs ls) first gs v k.free k.linked.begun some);
@@ -83,8 +83,8 @@ kept_reused vs ls first live next gs v k few e = record {
     f = first_free (slots_of vs ls) vs first gs k.free k.linked some
 
 -- a live place is added
-pub kept_pushed : (vs : List Value) (ls : List Bool) (first live : ℕ) (gs : List ℕ) (v : Value) → AreKept vs ls first live gs → length vs ≤ live
-    → AreKept (vs ++ v ∷ []) (ls ++ true ∷ []) first (live + 1) gs
+pub kept_pushed : (vs : List Value) (ls : List Bool) (first live : ℕ) (gs : List ℕ) (v : Value) → ArePoolParts vs ls first live gs → length vs ≤ live
+    → ArePoolParts (vs ++ v ∷ []) (ls ++ true ∷ []) first (live + 1) gs
 kept_pushed vs ls first live gs v k full = record {
   paired = rw (length-append, length-append) (ap (λ n. n + 1) k.paired);
   free = rw none (free_none (slots_of (vs ++ v ∷ []) (ls ++ true ∷ [])));
@@ -100,8 +100,8 @@ kept_pushed vs ls first live gs v k full = record {
     begun = k.linked.begun ∙ ap (λ (hs : List ℕ). get_or hs 0 0) none
 
 -- a live place becomes free
-pub kept_released : (vs : List Value) (ls : List Bool) (first live id p : ℕ) (gs : List ℕ) (v : Value) → AreKept vs ls first live gs → Held vs ls id p → v.a ≡ pos first
-    → AreKept (set vs p v) (set ls p false) p (live - 1) (p ∷ gs)
+pub kept_released : (vs : List Value) (ls : List Bool) (first live id p : ℕ) (gs : List ℕ) (v : Value) → ArePoolParts vs ls first live gs → Held vs ls id p → v.a ≡ pos first
+    → ArePoolParts (set vs p v) (set ls p false) p (live - 1) (p ∷ gs)
 kept_released vs ls first live id p gs v k h e = record {
   paired = rw (length-set, length-set) k.paired;
   free = rw (set-slots vs ls p v false) (free_pushed (slots_of vs ls) gs p k.free h.found);
@@ -111,8 +111,8 @@ kept_released vs ls first live id p gs v k h e = record {
 }
 
 -- a live place gets another value
-pub kept_replaced : (vs : List Value) (ls : List Bool) (first live id p : ℕ) (gs : List ℕ) (v : Value) → AreKept vs ls first live gs → Held vs ls id p
-    → AreKept (set vs p v) ls first live gs
+pub kept_replaced : (vs : List Value) (ls : List Bool) (first live id p : ℕ) (gs : List ℕ) (v : Value) → ArePoolParts vs ls first live gs → Held vs ls id p
+    → ArePoolParts (set vs p v) ls first live gs
 kept_replaced vs ls first live id p gs v k h = record {
   paired = rw length-set k.paired;
   free = rw (set-slots_value vs ls p v h.live) (free_replaced (slots_of vs ls) gs p v k.free h.found);
@@ -132,7 +132,7 @@ pub told_value : (vs : List Value) (ls : List Bool) (id p : ℕ) (b : Bool) (d :
 told_value vs ls id p b d same h e = ap (λ (t : Bool). cond t (Some (get_or vs p d)) None) e ∙ sym (row_behind (slots_of vs ls) id p h ∙ get_or-slots vs ls p d same)
 
 -- what stands at the first free place, where some place is free
-pub reusable : (vs : List Value) (ls : List Bool) (first live : ℕ) (gs : List ℕ) → AreKept vs ls first live gs → live < length vs → FirstFree (slots_of vs ls) vs first
+pub reusable : (vs : List Value) (ls : List Bool) (first live : ℕ) (gs : List ℕ) → ArePoolParts vs ls first live gs → live < length vs → FirstFree (slots_of vs ls) vs first
 reusable vs ls first live gs k few = first_free (slots_of vs ls) vs first gs k.free k.linked (omega (arith, k.all))
 
 pub count-pushed : (xs : List (Option Value)) (v : Value) → length (filter is_some (xs ++ Some v ∷ [])) ≡ length (filter is_some xs) + 1

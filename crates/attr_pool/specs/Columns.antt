@@ -1,6 +1,6 @@
 -- The ids of one dimension.
 use Rattle.std.specs.Prelude.{ℕ, ◌≡◌, ◌≤◌, ◌<◌, List, [], length, Option, Some, None, slice_index_or}
-use Rattle.attr_pool.specs.Labelings.{id_at}
+use Rattle.store_defs.specs.Labelings.{id_at}
 
 -- how an id is written, 0 for none
 abbrev pub number_of : Option ℕ → ℕ

@@ -1,4 +1,2 @@
-pub mod Stores
-pub mod Labelings
-pub mod Kept
 pub mod Columns
+pub mod Pools

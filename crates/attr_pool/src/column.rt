@@ -1,5 +1,5 @@
 ghost use Rattle.std.specs.Prelude.{◌≡◌, ℕ, ◌+◌, ◌≤◌, ◌<◌, [], length, take, slice_set, OnOk, OnErr};
-ghost use Rattle.attr_pool.specs.Labelings.{id_at};
+ghost use Rattle.store_defs.specs.Labelings.{id_at};
 ghost use Rattle.attr_pool.specs.Columns.{KeepsColumn, number_of};
 
 use crate::id::AttrId;

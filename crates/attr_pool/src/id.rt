@@ -1,5 +1,5 @@
 ghost use Rattle.std.specs.Prelude.{◌≡◌, ℕ, ◌<◌, ◌↔◌, IsNone, IfSome, Some, None};
-ghost use Rattle.attr_pool.specs.Labelings.{as_id};
+ghost use Rattle.store_defs.specs.Labelings.{as_id};
 
 use std::marker::Model;
 

@@ -1,5 +1,5 @@
 ghost use Rattle.std.specs.Prelude.{◌≡◌, ◌≢◌, ◌↔◌, ℕ, ◌≤◌, ◌<◌, max, min, None, OnOk, OnErr, IfSome};
-ghost use Rattle.attr_pool.specs.Labelings.{Labeling, id_of, HasPlaces, KeepsIds, KeepsPlaces, IsRelabelled, exchanged};
+ghost use Rattle.store_defs.specs.Labelings.{Labeling, id_of, HasPlaces, KeepsIds, KeepsPlaces, IsRelabelled, exchanged};
 
 use crate::column::Column;
 use crate::id::AttrId;
@@ -17,7 +17,7 @@ pub struct Labels<const DIM: usize> {
 
 impl<const DIM: usize> Model for Labels<DIM> {
     ghost use Rattle.std.specs.Prelude.{ℕ, ◌≡◌, ◌≤◌, ◌<◌, length};
-    ghost use Rattle.attr_pool.specs.Labelings.{Labeling};
+    ghost use Rattle.store_defs.specs.Labelings.{Labeling};
     ghost use Rattle.attr_pool.specs.Columns.{AreLong};
 
     ghost Value = { Labeling };

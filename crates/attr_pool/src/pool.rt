@@ -1,5 +1,5 @@
 ghost use Rattle.std.specs.Prelude.{◌≡◌, ℕ, pos, ◌+◌, ◌-◌, ◌^◌, ◌≤◌, ◌<◌, [], ◌∷◌, None, Some, IsOk, OnOk, OnErr};
-ghost use Rattle.attr_pool.specs.Stores.{value_of, IsHeld, live_count, IsPut};
+ghost use Rattle.store_defs.specs.Stores.{value_of, IsHeld, live_count, IsPut};
 
 use crate::id::AttrId;
 use map_kind::Value;
@@ -24,15 +24,15 @@ pub struct Pool {
 
 impl Model for Pool {
     ghost use Rattle.std.specs.Prelude.{◌∷◌, ◌-◌, None};
-    ghost use Rattle.attr_pool.specs.Stores.{Store};
+    ghost use Rattle.store_defs.specs.Stores.{Store};
 
     ghost Value = { Store };
 
-    ghost use Rattle.attr_pool.specs.Kept.{IsKept, slots_of};
+    ghost use Rattle.attr_pool.specs.Pools.{IsPool, slots_of};
 
     ghost view = { λ pool. record { slots = None ∷ slots_of pool.values.items pool.lives.items; spare = pool.room - pool.live } };
 
-    ghost invariant = { IsKept };
+    ghost invariant = { IsPool };
 }
 
 impl Pool {

@@ -3,7 +3,7 @@ use Rattle.std.proofs.Common.{ℕ, zero, suc, ◌≡◌, ◌≢◌, ◌≤◌, �
 use Rattle.map_defs.specs.Kind.{beta}
 use Rattle.map_defs.specs.Links.{Links}
 use Rattle.map_defs.specs.Laws.{Laws}
-use Rattle.map_defs.specs.Words.{one_link, two_links, through, IsCellWord}
+use Rattle.map_defs.specs.LinkWords.{one_link, two_links, through, IsCellWord}
 use Rattle.map_defs.specs.Cells.{here, onward, Leads, InCell}
 use Rattle.map_defs.specs.Births.{IsFresh}
 use Rattle.map_defs.specs.Walks.{Walk, stop, go, step}
@@ -11,9 +11,9 @@ use Rattle.map_defs.specs.Removal.{CommutesAt, across_removed, IsRemovable, IsRe
 use Rattle.map_defs.specs.Insertion.{InBetaCorner}
 use Rattle.map_defs.specs.Closing.{IsBetaDangled}
 use Rattle.link_laws.proofs.Basics.{by_cases, same_or_not}
-use Rattle.link_laws.proofs.Turned.{turned_one, turned_of_laws}
+use Rattle.link_laws.proofs.InverseLinks.{turned_one, turned_of_laws}
 use Rattle.link_laws.proofs.Orbits.{orbit_back, orbit_trans}
-use Rattle.remove_laws.proofs.Steps.{step_free, step_there}
+use Rattle.remove_laws.proofs.TotalSteps.{step_free, step_there}
 use Rattle.insert_laws.proofs.Fresh.{IsNew, fresh_link, fresh_old}
 use Rattle.center_laws.proofs.BetaDangle.{begins, dangle_keeps}
 use Rattle.back_laws.proofs.VertexBack.{high_word, edge_word_back}

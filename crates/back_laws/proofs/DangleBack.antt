@@ -11,7 +11,7 @@ use Rattle.map_defs.specs.Insertion.{IsCarrying, IsLinkedBy, InAlphaCorner}
 use Rattle.map_defs.specs.Closing.{IsAlphaDangled}
 use Rattle.link_laws.proofs.Basics.{by_cases, same_or_not, distant_alpha, distant_alpha_is}
 use Rattle.link_laws.proofs.Orbits.{orbit_back, orbit_trans}
-use Rattle.remove_laws.proofs.Steps.{step_free, step_there}
+use Rattle.remove_laws.proofs.TotalSteps.{step_free, step_there}
 use Rattle.insert_laws.proofs.Fresh.{IsNew, InOrNone, fresh_link, fresh_old, fresh_zero}
 use Rattle.center_laws.proofs.Hung.{beside, IsHangingSet, star_high, tip_high, closed, beside_closed}
 use Rattle.center_laws.proofs.HangingSets.{corner_hangs}

@@ -3,7 +3,7 @@ use Rattle.std.proofs.Common.{ℕ, zero, suc, ◌≡◌, ◌≢◌, ◌≤◌, �
 use Rattle.map_defs.specs.Kind.{beta}
 use Rattle.map_defs.specs.Links.{Links}
 use Rattle.map_defs.specs.Laws.{Laws}
-use Rattle.map_defs.specs.Words.{one_link, through, IsCellWord}
+use Rattle.map_defs.specs.LinkWords.{one_link, through, IsCellWord}
 use Rattle.map_defs.specs.Cells.{here, onward, Leads, InCell}
 use Rattle.map_defs.specs.Pairs.{seed}
 use Rattle.map_defs.specs.Births.{IsFresh}
@@ -11,9 +11,9 @@ use Rattle.map_defs.specs.Walks.{Walk, stop, go, step}
 use Rattle.map_defs.specs.Removal.{CommutesAt, across_removed, IsRemovable, IsRemoved}
 use Rattle.map_defs.specs.Insertion.{IsCut, InBetaCorner, BetaEdgeLeads, BetaEdgeDarts, AreBetaEdgePaired, IsBetaEdge}
 use Rattle.link_laws.proofs.Basics.{by_cases, same_or_not}
-use Rattle.link_laws.proofs.Turned.{turned_one, turned_of_laws}
+use Rattle.link_laws.proofs.InverseLinks.{turned_one, turned_of_laws}
 use Rattle.link_laws.proofs.Orbits.{orbit_back, orbit_trans}
-use Rattle.remove_laws.proofs.Steps.{step_free, step_there}
+use Rattle.remove_laws.proofs.TotalSteps.{step_free, step_there}
 use Rattle.insert_laws.proofs.Fresh.{IsNew, fresh_link, fresh_old}
 use Rattle.insert_laws.proofs.BetaEdge.{IsTurning, IsCorner, ComesBefore, one_out}
 use Rattle.insert_laws.proofs.BetaEdgeLaws.{high_out, side_at, cut_keeps}

@@ -2,7 +2,7 @@
 use Rattle.std.proofs.Common.{ℕ, zero, suc, ◌≡◌, ◌≢◌, ◌<◌, refl, sym, ap, inl, inr, ◌∙◌, arith, List, length, slice_index, Contains}
 use Rattle.map_defs.specs.Kind.{Kind, alpha, beta, inverse}
 use Rattle.map_defs.specs.Links.{Links}
-use Rattle.map_defs.specs.Words.{one_link, through}
+use Rattle.map_defs.specs.LinkWords.{one_link, through}
 use Rattle.map_defs.specs.Cells.{InOrbit, here, onward, InCell}
 use Rattle.map_defs.specs.Pairs.{seed, turned}
 use Rattle.map_defs.specs.Insertion.{IsCarrying, IsLinkedBy, IsInsertable, NoPairs, AlphaEdgeDarts, AlphaEdgePairs, IsNext, inside, FaceDarts, FacePairs}

@@ -10,7 +10,7 @@ use Rattle.map_defs.specs.Removal.{CommutesAt, IsBridged}
 use Rattle.map_defs.specs.Insertion.{IsInsertable, IsInserted}
 use Rattle.link_laws.proofs.Basics.{by_cases, same_or_not}
 use Rattle.link_laws.proofs.LawFacts.{alike}
-use Rattle.remove_laws.proofs.Steps.{step_free, step_there}
+use Rattle.remove_laws.proofs.TotalSteps.{step_free, step_there}
 use Rattle.insert_laws.proofs.Fresh.{IsNew, fresh_link, fresh_old, fresh_none}
 use Rattle.insert_laws.proofs.InsertAny.{inserted_old, inserted_outside, inserted_nil}
 use Rattle.link_laws.proofs.CellOf.{RunsAlongAll}

@@ -10,7 +10,7 @@ use Rattle.map_defs.specs.Removal.{Lands, across_removed, IsRemovable, IsRemoved
 use Rattle.map_defs.specs.Insertion.{IsInsertable, IsInserted}
 use Rattle.link_laws.proofs.Basics.{by_cases, same_or_not}
 use Rattle.link_laws.proofs.Walking.{walk_one}
-use Rattle.remove_laws.proofs.Steps.{step_free, step_there}
+use Rattle.remove_laws.proofs.TotalSteps.{step_free, step_there}
 use Rattle.insert_laws.proofs.Fresh.{IsNew}
 use Rattle.link_laws.proofs.CellOf.{all_alpha, all_beta}
 use Rattle.back_laws.proofs.Grown.{GrowsFrom}

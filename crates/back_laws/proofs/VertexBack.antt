@@ -3,7 +3,7 @@ use Rattle.std.proofs.Common.{ℕ, zero, suc, ◌≡◌, ◌≢◌, ◌≤◌, r
 use Rattle.map_defs.specs.Kind.{beta}
 use Rattle.map_defs.specs.Links.{Links}
 use Rattle.map_defs.specs.Laws.{Laws}
-use Rattle.map_defs.specs.Words.{Word, one_link, two_links, through, IsCellWord, inverse_word}
+use Rattle.map_defs.specs.LinkWords.{LinkWord, one_link, two_links, through, IsCellWord, inverse_word}
 use Rattle.map_defs.specs.Cells.{InOrbit, here, onward, Leads, InCell}
 use Rattle.map_defs.specs.Births.{IsFresh}
 use Rattle.map_defs.specs.Walks.{stop, go}
@@ -12,14 +12,14 @@ use Rattle.map_defs.specs.Insertion.{IsBetaVertex}
 use Rattle.link_laws.proofs.Basics.{by_cases, same_or_not, inverse_own}
 use Rattle.link_laws.proofs.VertexWords.{IsVertexStep, leave, enter, pass, vertex_word}
 use Rattle.link_laws.proofs.Walking.{walk_one}
-use Rattle.link_laws.proofs.Turned.{turned_one, turned_of_laws}
+use Rattle.link_laws.proofs.InverseLinks.{turned_one, turned_of_laws}
 use Rattle.link_laws.proofs.Orbits.{orbit_back, orbit_trans}
 use Rattle.insert_laws.proofs.Fresh.{IsNew, InOrNone, fresh_link, fresh_zero}
 use Rattle.insert_laws.proofs.BetaParts.{back_of, apart_of}
 use Rattle.insert_laws.proofs.BetaVertex.{IsEdgeSet, edge_set, on_or_none, out, new_at, first_at, back_new}
 
 -- the words of an edge are the links from 2 upwards, and they lead back
-pub high_word : (word : Word) → IsCellWord beta 1 word → (j : ℕ) × (2 ≤ j) × (word ≡ one_link j)
+pub high_word : (word : LinkWord) → IsCellWord beta 1 word → (j : ℕ) × (2 ≤ j) × (word ≡ one_link j)
 high_word word (inl p) = p
 high_word word (inr (v, (j, l, e), g)) = (j, l, g ∙ (ap (inverse_word beta) e ∙ ap one_link (inverse_own beta j l)))
 
@@ -40,7 +40,7 @@ module _ (L : Links) (w : Laws beta L) (d : ℕ) (hd : d ≢ 0) (star : ℕ → 
   new_links = new_at L w (InCell beta L 1 d) set star fresh N s
 
   -- the vertex holds new darts alone
-  step_new : (v : Word) → IsVertexStep v → (x : ℕ) → InCell beta L 1 d x → (u : ℕ) × InOrNone (InCell beta L 1 d) u × (through N v (star x) ≡ star u)
+  step_new : (v : LinkWord) → IsVertexStep v → (x : ℕ) → InCell beta L 1 d x → (u : ℕ) × InOrNone (InCell beta L 1 d) u × (through N v (star x) ≡ star u)
   step_new v (leave j l) x h =
       let o : InOrNone (InCell beta L 1 d) (L j x) = high_none x j (inl h) l in
       (L j x, o, ap (N 1) (s.old x j h l) ∙ first_at L w (InCell beta L 1 d) set star fresh N s (L j x) o)

@@ -7,7 +7,7 @@ use Rattle.std.proofs.lemmas.List.Elements.{Contains-get_or}
 use Rattle.std.specs.List.Sorted.{IsStrictlyIncreasing}
 use Rattle.map_defs.specs.Kind.{Kind}
 use Rattle.map_defs.specs.Links.{Links, HasDimension}
-use Rattle.map_defs.specs.Words.{Word, through, through_second, IsCellWord, IsWithin}
+use Rattle.map_defs.specs.LinkWords.{LinkWord, through, through_second, IsCellWord, IsWithin}
 use Rattle.map_defs.specs.Cells.{InOrbit, here, onward, Leads, InCell, NamesCell}
 use Rattle.map_defs.specs.Rows.{Rows, entry_of, links_of, IsSound}
 use Rattle.link_laws.proofs.Orbits.{orbit_trans}
@@ -24,7 +24,7 @@ pub links-nothing : (k : Kind) (n : ℕ) (rows : Rows) → IsSound k n rows → 
 links-nothing k n rows sound i = ap (λ row. entry_of row i) sound.nothing
 
 -- a word that leads somewhere has links of the map alone
-pub IsWithin-leads : (k : Kind) (n : ℕ) (rows : Rows) → IsSound k n rows → (w : Word) (x : ℕ) → through (links_of rows) w x ≢ 0 → IsWithin n w
+pub IsWithin-leads : (k : Kind) (n : ℕ) (rows : Rows) → IsSound k n rows → (w : LinkWord) (x : ℕ) → through (links_of rows) w x ≢ 0 → IsWithin n w
 IsWithin-leads k n rows sound w x leads = (first (cases_lt n w.first), second w.second refl)
   where
     free : HasDimension n (links_of rows)
@@ -46,32 +46,32 @@ IsWithin-leads k n rows sound w x leads = (first (cases_lt n w.first), second w.
     ]
 
 -- the words that `words` answers
-pub record AreWordsOf (k : Kind) (n i : ℕ) (words : List Word) : Type 0 where
-  pub are : (w : Word) → Contains words w ↔ (IsCellWord k i w × IsWithin n w)
+pub record AreWordsOf (k : Kind) (n i : ℕ) (words : List LinkWord) : Type 0 where
+  pub are : (w : LinkWord) → Contains words w ↔ (IsCellWord k i w × IsWithin n w)
 
-pub words-within : (k : Kind) (n i : ℕ) (words : List Word) → AreWordsOf k n i words → All (IsWithin n) words
+pub words-within : (k : Kind) (n i : ℕ) (words : List LinkWord) → AreWordsOf k n i words → All (IsWithin n) words
 words-within k n i words cell = λ at d low. ((cell.are (get_or words at d)).0 (Contains-get_or words at d low)).1
 
 -- these words and the words of the cell lead alike
-leads-to : (k : Kind) (n i : ℕ) (L : Links) (words : List Word) → AreWordsOf k n i words → (u v : ℕ) → Leads L (Contains words) u v → Leads L (IsCellWord k i) u v
+leads-to : (k : Kind) (n i : ℕ) (L : Links) (words : List LinkWord) → AreWordsOf k n i words → (u v : ℕ) → Leads L (Contains words) u v → Leads L (IsCellWord k i) u v
 leads-to k n i L words cell u v s = (s.0, ((cell.are s.0).0 s.1).0, s.2, s.3)
 
-leads-from : (k : Kind) (n i : ℕ) (rows : Rows) (words : List Word) → IsSound k n rows → AreWordsOf k n i words → (u v : ℕ) → Leads (links_of rows) (IsCellWord k i) u v → Leads (links_of rows) (Contains words) u v
+leads-from : (k : Kind) (n i : ℕ) (rows : Rows) (words : List LinkWord) → IsSound k n rows → AreWordsOf k n i words → (u v : ℕ) → Leads (links_of rows) (IsCellWord k i) u v → Leads (links_of rows) (Contains words) u v
 leads-from k n i rows words sound cell u v s = (s.0, (cell.are s.0).1 (s.1, IsWithin-leads k n rows sound s.0 u (λ none. s.3 (sym s.2 ∙ none))), s.2, s.3)
 
-pub words-turn : (k : Kind) (n i : ℕ) (rows : Rows) (words : List Word) → IsSound k n rows → AreWordsOf k n i words → TurnsBack (Leads (links_of rows) (Contains words))
+pub words-turn : (k : Kind) (n i : ℕ) (rows : Rows) (words : List LinkWord) → IsSound k n rows → AreWordsOf k n i words → TurnsBack (Leads (links_of rows) (Contains words))
 words-turn k n i rows words sound cell x y dart s =
     leads-from k n i rows words sound cell y x
     (step_turns k (links_of rows) (links-nothing k n rows sound) sound.back i x y dart (leads-to k n i (links_of rows) words cell x y s))
 
 -- the orbit under these words is the cell
-pub words-cell : (k : Kind) (n i : ℕ) (rows : Rows) (words : List Word) → IsSound k n rows → AreWordsOf k n i words → (d y : ℕ) → InOrbit (Leads (links_of rows) (Contains words)) d y ↔ InCell k (links_of rows) i d y
+pub words-cell : (k : Kind) (n i : ℕ) (rows : Rows) (words : List LinkWord) → IsSound k n rows → AreWordsOf k n i words → (d y : ℕ) → InOrbit (Leads (links_of rows) (Contains words)) d y ↔ InCell k (links_of rows) i d y
 words-cell k n i rows words sound cell d y = (
   orbit-wider (Leads (links_of rows) (Contains words)) (Leads (links_of rows) (IsCellWord k i)) (leads-to k n i (links_of rows) words cell) d y,
   orbit-wider (Leads (links_of rows) (IsCellWord k i)) (Leads (links_of rows) (Contains words)) (leads-from k n i rows words sound cell) d y,
 )
 
-pub words-least : (k : Kind) (n i : ℕ) (rows : Rows) (words : List Word) → IsSound k n rows → AreWordsOf k n i words → (d : ℕ) → IsLeast (Leads (links_of rows) (Contains words)) d ↔ NamesCell k (links_of rows) i d
+pub words-least : (k : Kind) (n i : ℕ) (rows : Rows) (words : List LinkWord) → IsSound k n rows → AreWordsOf k n i words → (d : ℕ) → IsLeast (Leads (links_of rows) (Contains words)) d ↔ NamesCell k (links_of rows) i d
 words-least k n i rows words sound cell d = (
   λ least e among. least e ((words-cell k n i rows words sound cell d e).1 among),
   λ names e o. names e ((words-cell k n i rows words sound cell d e).0 o),

@@ -4,7 +4,7 @@ use Rattle.std.proofs.lemmas.Bool.{cases_lt}
 use Rattle.std.proofs.lemmas.List.FromFn.{get_or-map-range_with_len, length-map-range_with_len}
 use Rattle.std.specs.List.{range_with_len}
 use Rattle.map_defs.specs.Kind.{Kind, inverse}
-use Rattle.map_defs.specs.Words.{Word, one_link, through, IsWithin}
+use Rattle.map_defs.specs.LinkWords.{LinkWord, one_link, through, IsWithin}
 use Rattle.map_defs.specs.Cells.{Leads, IsLinked, NamesComponent}
 use Rattle.map_defs.specs.Rows.{Rows, links_of, IsSound}
 use Rattle.link_laws.proofs.RowFacts.{rows_dimension}
@@ -12,14 +12,14 @@ use Rattle.cell_walk.specs.Surveys.{TurnsBack, IsLeast}
 use Rattle.cell_walk.proofs.CellDarts.{orbit-wider}
 
 -- the words of the links 0 to n
-abbrev pub all_links : ℕ → List Word
+abbrev pub all_links : ℕ → List LinkWord
 all_links n = map one_link (range_with_len 0 (n + 1))
 
 has-link : (n j : ℕ) → j ≤ n → Contains (all_links n) (one_link j)
 has-link n j low =
     (j, omega (arith, length-map-range_with_len one_link 0 (n + 1)), get_or-map-range_with_len one_link 0 (n + 1) j j (one_link j) (omega arith) (omega arith))
 
-link-at : (n j : ℕ) (w : Word) → j < length (all_links n) → get_or (all_links n) j w ≡ one_link j
+link-at : (n j : ℕ) (w : LinkWord) → j < length (all_links n) → get_or (all_links n) j w ≡ one_link j
 link-at n j w low = get_or-map-range_with_len one_link 0 (n + 1) j j w (omega (arith, length-map-range_with_len one_link 0 (n + 1))) (omega arith)
 
 pub links-within : (n : ℕ) → All (IsWithin n) (all_links n)

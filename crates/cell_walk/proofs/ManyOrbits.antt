@@ -3,7 +3,7 @@ use Rattle.std.proofs.Common.{◌≡◌, ℕ, ◌+◌, ◌<◌, ◌≤◌, ◌�
 use Rattle.std.proofs.lemmas.List.{take_all, take_more}
 use Rattle.std.proofs.lemmas.List.Elements.{Contains-append_left, Contains-push, Contains-push_cases}
 use Rattle.map_defs.specs.Links.{Links}
-use Rattle.map_defs.specs.Words.{Word}
+use Rattle.map_defs.specs.LinkWords.{LinkWord}
 use Rattle.map_defs.specs.Cells.{InOrbit, onward, Leads}
 use Rattle.cell_walk.specs.Visits.{IsClosed}
 use Rattle.cell_walk.proofs.Walks.{IsWalked, closed-none, walked-all, orbit-alone}
@@ -44,10 +44,10 @@ pub orbits-all : (Step : ℕ → ℕ → Type 0) (darts : List ℕ) (k : ℕ) (f
 orbits-all Step darts k found past holds = subst (λ ds. HoldsOrbits Step ds found) (take_all k darts past) holds
 
 -- a walk before which nothing was found: all that it finds lies in the orbit, and in the end it has found the orbit
-pub found-reached : (L : Links) (Words : Word → Type 0) (d next : ℕ) (found : List ℕ) → IsWalked L Words d [] next found → (y : ℕ) → Contains found y → InOrbit (Leads L Words) d y
+pub found-reached : (L : Links) (Words : LinkWord → Type 0) (d next : ℕ) (found : List ℕ) → IsWalked L Words d [] next found → (y : ℕ) → Contains found y → InOrbit (Leads L Words) d y
 found-reached L Words d next found walk y has = orbit-alone (Leads L Words) d y (walk.reached y has)
 
-pub found-whole : (L : Links) (Words : Word → Type 0) (d next : ℕ) (found : List ℕ) → length found ≤ next → IsWalked L Words d [] next found → (y : ℕ) → Contains found y ↔ InOrbit (Leads L Words) d y
+pub found-whole : (L : Links) (Words : LinkWord → Type 0) (d next : ℕ) (found : List ℕ) → length found ≤ next → IsWalked L Words d [] next found → (y : ℕ) → Contains found y ↔ InOrbit (Leads L Words) d y
 found-whole L Words d next found past walk y =
     let same = walked-all L Words d [] next found past (closed-none (Leads L Words)) walk y in
     (found-reached L Words d next found walk y, λ o. same.1 (inr o))

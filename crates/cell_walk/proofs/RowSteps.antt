@@ -3,13 +3,13 @@ use Rattle.std.proofs.Common.{◌≡◌, ◌≢◌, ℕ, ◌+◌, ◌≤◌, ◌
 use Rattle.std.proofs.lemmas.Bool.{cases_lt, false≢true}
 use Rattle.std.proofs.lemmas.List.{get_or_past}
 use Rattle.map_defs.specs.Kind.{Kind}
-use Rattle.map_defs.specs.Words.{Word, through_second}
+use Rattle.map_defs.specs.LinkWords.{LinkWord, through_second}
 use Rattle.map_defs.specs.Cells.{Leads}
 use Rattle.map_defs.specs.Rows.{Rows, row_at, links_of, made, IsLive, IsSound}
 use Rattle.cell_walk.specs.Surveys.{TurnsBack}
 use Rattle.cell_walk.proofs.SurveyFacts.{IsWalkable}
 
-pub rows-walkable : (k : Kind) (n : ℕ) (rows : Rows) (Words : Word → Type 0) → IsSound k n rows → TurnsBack (Leads (links_of rows) Words) → IsWalkable (Leads (links_of rows) Words) (IsLive rows)
+pub rows-walkable : (k : Kind) (n : ℕ) (rows : Rows) (Words : LinkWord → Type 0) → IsSound k n rows → TurnsBack (Leads (links_of rows) Words) → IsWalkable (Leads (links_of rows) Words) (IsLive rows)
 rows-walkable k n rows Words sound turns = record {
   dart = λ x y s. s.3;
   lands = λ x y s. lands s.0.first x y s.0.second s.2 s.3;

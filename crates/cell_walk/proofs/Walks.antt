@@ -4,10 +4,10 @@ use Rattle.std.proofs.lemmas.Bool.{cases_lt}
 use Rattle.std.proofs.lemmas.List.{take_all, take_at, length_push, take_more, get_or-take, length-take, take-take, get_or_default}
 use Rattle.std.proofs.lemmas.List.Elements.{Contains-append_left, Contains-push, Contains-push_cases, Contains-get_or}
 use Rattle.map_defs.specs.Links.{Links}
-use Rattle.map_defs.specs.Words.{Word, through, through_second}
+use Rattle.map_defs.specs.LinkWords.{LinkWord, through, through_second}
 use Rattle.map_defs.specs.Cells.{InOrbit, here, onward, Leads}
 use Rattle.map_defs.specs.Rows.{Rows, row_at, entry_of, links_of}
-use Rattle.cell_walk.specs.Visits.{IsAdded, IsVisited, IsClosed}
+use Rattle.cell_walk.specs.Visits.{IsDartAdded, IsVisited, IsClosed}
 
 -- no link leads on from 0
 pub through_second-none : (rows : Rows) (second : Option ℕ) → row_at rows 0 ≡ None → through_second (links_of rows) second 0 ≡ 0
@@ -28,7 +28,7 @@ visited-none L x found = record {
 }
 
 -- one word leads to y, which is added
-pub visited-added : (L : Links) (w : Word) (x y : ℕ) (old new : List ℕ) → through L w x ≡ y → y ≢ 0 → IsAdded old new y → IsVisited L (λ v. v ≡ w) x old new
+pub visited-added : (L : Links) (w : LinkWord) (x y : ℕ) (old new : List ℕ) → through L w x ≡ y → y ≢ 0 → IsDartAdded old new y → IsVisited L (λ v. v ≡ w) x old new
 visited-added L w x y old new is dart (inl known) = record {
   before = rw known.1 (take_all (length old) old (omega arith));
   only = λ z has. inl (subst (λ xs. Contains xs z) known.1 has);
@@ -45,7 +45,7 @@ visited-added L w x y old new is dart (inr fresh) = record {
     only z (inr e) = inr (w, refl, is ∙ e, λ none. dart (e ∙ none))
 
 -- the word leads nowhere
-pub visited-nowhere : (L : Links) (w : Word) (x : ℕ) (found : List ℕ) → through L w x ≡ 0 → IsVisited L (λ v. v ≡ w) x found found
+pub visited-nowhere : (L : Links) (w : LinkWord) (x : ℕ) (found : List ℕ) → through L w x ≡ 0 → IsVisited L (λ v. v ≡ w) x found found
 visited-nowhere L w x found none = record {
   before = take_all (length found) found (omega arith);
   only = λ y has. inl has;
@@ -53,7 +53,7 @@ visited-nowhere L w x found none = record {
 }
 
 -- after the words before place k, the word at place k
-pub visited-more : (L : Links) (words : List Word) (k : ℕ) (w : Word) (x : ℕ) (a b c : List ℕ) → k < length words → w ≡ get_or words k w → IsVisited L (Contains (take k words)) x a b → IsVisited L (λ v. v ≡ w) x b c → IsVisited L (Contains (take (k + 1) words)) x a c
+pub visited-more : (L : Links) (words : List LinkWord) (k : ℕ) (w : LinkWord) (x : ℕ) (a b c : List ℕ) → k < length words → w ≡ get_or words k w → IsVisited L (Contains (take k words)) x a b → IsVisited L (λ v. v ≡ w) x b c → IsVisited L (Contains (take (k + 1) words)) x a c
 visited-more L words k w x a b c within at first then = record {
   before = before;
   only = λ y has. only y (then.only y has);
@@ -82,7 +82,7 @@ visited-more L words k w x a b c within at first then = record {
 
 -- The walk from d, after some darts were found before: all else that was found lies in the orbit, d was found, and from
 -- each dart that was visited all that it leads to was found.
-pub record IsWalked (L : Links) (Words : Word → Type 0) (d : ℕ) (start : List ℕ) (next : ℕ) (found : List ℕ) : Type 0 where
+pub record IsWalked (L : Links) (Words : LinkWord → Type 0) (d : ℕ) (start : List ℕ) (next : ℕ) (found : List ℕ) : Type 0 where
   pub reached : (y : ℕ) → Contains found y → Contains start y ⊎ InOrbit (Leads L Words) d y
   pub begun : Contains found d
   pub before : take (length start) found ≡ start
@@ -90,7 +90,7 @@ pub record IsWalked (L : Links) (Words : Word → Type 0) (d : ℕ) (start : Lis
   pub from : length start ≤ next
   pub within : next ≤ length found
 
-pub walked-none : (L : Links) (Words : Word → Type 0) (d : ℕ) (start found : List ℕ) → IsAdded start found d → IsWalked L Words d start (length start) found
+pub walked-none : (L : Links) (Words : LinkWord → Type 0) (d : ℕ) (start found : List ℕ) → IsDartAdded start found d → IsWalked L Words d start (length start) found
 walked-none L Words d start found (inl known) = record {
   reached = λ y has. inl (subst (λ xs. Contains xs y) known.1 has);
   begun = subst (λ xs. Contains xs d) (sym known.1) known.0;
@@ -112,7 +112,7 @@ walked-none L Words d start found (inr fresh) = record {
     reached y (inl has) = inl has
     reached y (inr e) = inr (subst (InOrbit (Leads L Words) d) e here)
 
-pub walked-more : (L : Links) (Words : Word → Type 0) (d : ℕ) (start : List ℕ) (next x : ℕ) (old new : List ℕ) → next < length old → x ≡ get_or old next 0 → IsClosed (Leads L Words) start → IsWalked L Words d start next old → IsVisited L Words x old new → IsWalked L Words d start (next + 1) new
+pub walked-more : (L : Links) (Words : LinkWord → Type 0) (d : ℕ) (start : List ℕ) (next x : ℕ) (old new : List ℕ) → next < length old → x ≡ get_or old next 0 → IsClosed (Leads L Words) start → IsWalked L Words d start next old → IsVisited L Words x old new → IsWalked L Words d start (next + 1) new
 walked-more L Words d start next x old new low at shut walk visit = record {
   reached = λ y has. reached y (visit.only y has);
   begun = Contains-before old new visit.before d walk.begun;
@@ -144,7 +144,7 @@ walked-more L Words d start next x old new low at shut walk visit = record {
         visit.all y (subst (λ z. Leads L Words z y) (stays k (omega arith) ∙ ap (λ j. get_or old j 0) here_is ∙ sym at) leads)
 
 -- when all that was found was visited, it is the orbit, besides what was found before
-pub walked-all : (L : Links) (Words : Word → Type 0) (d : ℕ) (start : List ℕ) (next : ℕ) (found : List ℕ) → length found ≤ next → IsClosed (Leads L Words) start → IsWalked L Words d start next found → (y : ℕ) → Contains found y ↔ (Contains start y ⊎ InOrbit (Leads L Words) d y)
+pub walked-all : (L : Links) (Words : LinkWord → Type 0) (d : ℕ) (start : List ℕ) (next : ℕ) (found : List ℕ) → length found ≤ next → IsClosed (Leads L Words) start → IsWalked L Words d start next found → (y : ℕ) → Contains found y ↔ (Contains start y ⊎ InOrbit (Leads L Words) d y)
 walked-all L Words d start next found past shut walk y = (walk.reached y, all)
   where
     early : (z : ℕ) → Contains start z → Contains found z

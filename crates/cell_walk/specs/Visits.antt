@@ -2,15 +2,15 @@
 use Rattle.std.specs.Prelude.{ℕ, ◌≡◌, ◌⊎◌, ◌↔◌, List, [], ◌∷◌, ◌++◌, length, take, Contains, nat_eq}
 use Rattle.std.specs.List.{IsDistinct}
 use Rattle.map_defs.specs.Links.{Links}
-use Rattle.map_defs.specs.Words.{Word}
+use Rattle.map_defs.specs.LinkWords.{LinkWord}
 use Rattle.map_defs.specs.Cells.{Leads}
 
 -- the dart stands at the end of the list, unless the list had it
-abbrev pub IsAdded : List ℕ → List ℕ → ℕ → Type 0
-IsAdded old new d = (Contains old d × (new ≡ old)) ⊎ ((Contains old d → ⊥) × (new ≡ old ++ d ∷ []))
+abbrev pub IsDartAdded : List ℕ → List ℕ → ℕ → Type 0
+IsDartAdded old new d = (Contains old d × (new ≡ old)) ⊎ ((Contains old d → ⊥) × (new ≡ old ++ d ∷ []))
 
 -- The darts to which the words lead from x were added, and no others.
-pub record IsVisited (L : Links) (Words : Word → Type 0) (x : ℕ) (old new : List ℕ) : Type 0 where
+pub record IsVisited (L : Links) (Words : LinkWord → Type 0) (x : ℕ) (old new : List ℕ) : Type 0 where
   pub before : take (length old) new ≡ old
   pub only : (y : ℕ) → Contains new y → Contains old y ⊎ Leads L Words x y
   pub all : (y : ℕ) → Leads L Words x y → Contains new y

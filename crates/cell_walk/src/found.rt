@@ -1,6 +1,6 @@
 ghost use Rattle.std.specs.Prelude.{◌≡◌, ℕ, ◌≤◌, ◌<◌, ◌↔◌, [], ◌∷◌, ◌++◌, length, take, slice_index, Contains, IsTrue, IfOk, OnOk};
 ghost use Rattle.std.specs.List.Sorted.{IsStrictlyIncreasing};
-ghost use Rattle.cell_walk.specs.Visits.{IsAdded};
+ghost use Rattle.cell_walk.specs.Visits.{IsDartAdded};
 
 use crate::seen::{Seen, make_room};
 use map_kind::Dart;
@@ -79,7 +79,7 @@ impl Found {
 
     /// Adds a dart, unless it was found before.
     pub(crate) fn add(&mut self, dart: Dart) -> Result<(), AllocError>
-        ensures { OnOk result (IsAdded self.old self.new dart) }
+        ensures { OnOk result (IsDartAdded self.old self.new dart) }
     {
         if self.seen.contains(dart) {
             return Ok(());

@@ -1,14 +1,14 @@
 ghost use Rattle.std.specs.Prelude.{◌≡◌, ℕ, ◌+◌, ◌<◌, ◌↔◌, ◌⊎◌, length, take, Contains, IfOk, OnOk, All, IsNone, IfSome};
 ghost use Rattle.std.specs.List.Sorted.{IsStrictlyIncreasing};
 ghost use Rattle.map_defs.specs.Rows.{links_of};
-ghost use Rattle.map_defs.specs.Words.{Word as MapWord, through, IsWithin};
+ghost use Rattle.map_defs.specs.LinkWords.{LinkWord as MapWord, through, IsWithin};
 ghost use Rattle.map_defs.specs.Cells.{InOrbit, Leads};
 ghost use Rattle.cell_walk.specs.Visits.{IsVisited, IsClosed};
 ghost use Rattle.cell_walk.specs.CellLists.{AreOrbitsOf, lists_of};
 
 use crate::found::Found;
 use link_rows::Links;
-use map_kind::{Dart, Kind, Word};
+use map_kind::{Dart, Kind, LinkWord};
 use std::alloc::{AllocError, Global};
 
 /// The orbit of a dart under some words, ascending: the dart itself, and each dart to which a word leads from a dart of
@@ -18,7 +18,7 @@ use std::alloc::{AllocError, Global};
 pub fn orbit<K: Kind, const DIM: usize>(
     alloc: Global,
     links: &Links<K, DIM>,
-    words: &[Word],
+    words: &[LinkWord],
     dart: Dart,
 ) -> Result<Vec<Dart>, AllocError>
     requires { All (IsWithin DIM) words.now }
@@ -38,7 +38,7 @@ pub fn orbit<K: Kind, const DIM: usize>(
 pub fn orbits_of<K: Kind, const DIM: usize>(
     alloc: Global,
     links: &Links<K, DIM>,
-    words: &[Word],
+    words: &[LinkWord],
     darts: &[Dart],
 ) -> Result<Vec<Dart>, AllocError>
     requires { All (IsWithin DIM) words.now }
@@ -57,7 +57,7 @@ pub fn orbits_of<K: Kind, const DIM: usize>(
 pub(crate) fn each_orbit<K: Kind, const DIM: usize>(
     alloc: Global,
     links: &Links<K, DIM>,
-    words: &[Word],
+    words: &[LinkWord],
     darts: &[Dart],
 ) -> Result<Vec<Vec<Dart>>, AllocError>
     requires { All (IsWithin DIM) words.now }
@@ -76,7 +76,7 @@ pub(crate) fn each_orbit<K: Kind, const DIM: usize>(
 /// Finds the orbit of a dart, besides what was found before. Where a word leads from a dart found before, it led to one.
 pub(crate) fn walk<K: Kind, const DIM: usize>(
     links: &Links<K, DIM>,
-    words: &[Word],
+    words: &[LinkWord],
     dart: Dart,
     found: &mut Found,
 ) -> Result<(), AllocError>
@@ -98,7 +98,7 @@ pub(crate) fn walk<K: Kind, const DIM: usize>(
 /// Finds the darts to which the words lead from a dart.
 pub(crate) fn visit<K: Kind, const DIM: usize>(
     links: &Links<K, DIM>,
-    words: &[Word],
+    words: &[LinkWord],
     dart: Dart,
     found: &mut Found,
 ) -> Result<(), AllocError>
@@ -114,7 +114,7 @@ pub(crate) fn visit<K: Kind, const DIM: usize>(
 /// Finds the dart to which a word leads, if it leads to one.
 fn step<K: Kind, const DIM: usize>(
     links: &Links<K, DIM>,
-    word: Word,
+    word: LinkWord,
     dart: Dart,
     found: &mut Found,
 ) -> Result<(), AllocError>
@@ -131,7 +131,7 @@ fn step<K: Kind, const DIM: usize>(
 }
 
 /// The dart to which a word leads; none exactly where a link on its way is free.
-fn follow<K: Kind, const DIM: usize>(links: &Links<K, DIM>, word: Word, dart: Dart) -> Option<Dart>
+fn follow<K: Kind, const DIM: usize>(links: &Links<K, DIM>, word: LinkWord, dart: Dart) -> Option<Dart>
     requires { IsWithin DIM word }
     ensures free { IsNone result ↔ (through (links_of links.now.rows) word dart ≡ 0) }
     ensures leads { IfSome result (λ other. other ≡ through (links_of links.now.rows) word dart) }

@@ -1,12 +1,12 @@
 ghost use Rattle.std.specs.Prelude.{◌↔◌, All, Contains, IfOk, IsTrue};
 ghost use Rattle.map_defs.specs.Rows.{links_of};
-ghost use Rattle.map_defs.specs.Words.{IsWithin};
+ghost use Rattle.map_defs.specs.LinkWords.{IsWithin};
 ghost use Rattle.map_defs.specs.Cells.{InOrbit, Leads};
 
 use crate::found::Found;
 use crate::orbits::visit;
 use link_rows::Links;
-use map_kind::{Dart, Kind, Word};
+use map_kind::{Dart, Kind, LinkWord};
 use std::alloc::{AllocError, Global};
 
 /// Whether the orbit of `one` under some words holds `other`. The walk goes from `one` to nearer darts first, and stops as
@@ -17,7 +17,7 @@ use std::alloc::{AllocError, Global};
 pub fn reaches<K: Kind, const DIM: usize>(
     alloc: Global,
     links: &Links<K, DIM>,
-    words: &[Word],
+    words: &[LinkWord],
     one: Dart,
     other: Dart,
 ) -> Result<bool, AllocError>

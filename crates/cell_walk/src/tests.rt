@@ -4,7 +4,7 @@ use crate::{
     cell, cell_lists, cells, cells_of, components, counts, least, orbit, orbits_of, reaches, same,
 };
 use link_rows::{Change, Edit, Links, polygon_edit};
-use map_kind::{Alpha, Dart, Word};
+use map_kind::{Alpha, Dart, LinkWord};
 use std::alloc::{AllocError, Global};
 use std::process::Abort;
 use std::test::Fail;
@@ -36,13 +36,13 @@ fn numbers(alloc: Global, darts: &[Dart]) -> Result<Vec<u32>, AllocError> {
 fn walks_along_the_words_alone(rt: HostRuntime) -> Result<(), Fail> {
     let alloc = rt.alloc();
     let links = triangle_and_square(&rt, alloc)?;
-    let words = [Word::two(0, 1), Word::two(1, 0)];
+    let words = [LinkWord::two(0, 1), LinkWord::two(1, 0)];
     let every_second = orbit(alloc, &links, &words, dart(&rt, 9))?;
     assert_eq!(&rt;
         numbers(alloc, &every_second)?.as_slice(),
         [7, 9, 11, 13].as_slice()
     );
-    let alone = orbit(alloc, &links, &[Word::one(2)], dart(&rt, 9))?;
+    let alone = orbit(alloc, &links, &[LinkWord::one(2)], dart(&rt, 9))?;
     assert_eq!(&rt; numbers(alloc, &alone)?.as_slice(), [9].as_slice());
     Ok(())
 }
@@ -51,11 +51,11 @@ fn walks_along_the_words_alone(rt: HostRuntime) -> Result<(), Fail> {
 fn looks_for_a_dart_and_joins_orbits(rt: HostRuntime) -> Result<(), Fail> {
     let alloc = rt.alloc();
     let links = triangle_and_square(&rt, alloc)?;
-    let face = [Word::one(0), Word::one(1)];
+    let face = [LinkWord::one(0), LinkWord::one(1)];
     assert!(&rt; reaches(alloc, &links, &face, dart(&rt, 9), dart(&rt, 13))?);
     assert!(&rt; !reaches(alloc, &links, &face, dart(&rt, 9), dart(&rt, 1))?);
     let darts = [dart(&rt, 9), dart(&rt, 10), dart(&rt, 1)];
-    let sides = orbits_of(alloc, &links, &[Word::one(0)], &darts)?;
+    let sides = orbits_of(alloc, &links, &[LinkWord::one(0)], &darts)?;
     assert_eq!(&rt;
         numbers(alloc, &sides)?.as_slice(),
         [1, 2, 9, 10].as_slice()

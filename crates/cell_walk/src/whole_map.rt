@@ -2,7 +2,7 @@ ghost use Rattle.std.specs.Prelude.{◌≡◌, ℕ, ◌+◌, ◌≤◌, ◌↔�
 ghost use Rattle.std.specs.List.{range_with_len};
 ghost use Rattle.std.specs.List.Sorted.{IsStrictlyIncreasing};
 ghost use Rattle.map_defs.specs.Rows.{IsLive, IsSound, links_of};
-ghost use Rattle.map_defs.specs.Words.{one_link, IsWithin};
+ghost use Rattle.map_defs.specs.LinkWords.{one_link, IsWithin};
 ghost use Rattle.map_defs.specs.Cells.{Leads, NamesCell, NamesComponent};
 ghost use Rattle.map_defs.specs.Counts.{AreCounts};
 ghost use Rattle.cell_walk.specs.Surveys.{TurnsBack, IsLeast, IsSurveyed};
@@ -11,7 +11,7 @@ ghost use Rattle.cell_walk.specs.CellLists.{AreCellsOf, AreOrbitsOf, lists_of};
 use crate::found::Found;
 use crate::orbits::walk;
 use link_rows::Links;
-use map_kind::{Dart, Kind, Word};
+use map_kind::{Dart, Kind, LinkWord};
 use std::alloc::{AllocError, Global};
 
 /// The least darts of all cells of dimension `dim`, by which the cells are named, ascending.
@@ -116,18 +116,18 @@ pub fn counts<K: Kind, const DIM: usize>(
 }
 
 /// The words of one link each, for the links 0 to `dim`.
-fn single_words(alloc: Global, dim: usize) -> Result<Vec<Word>, AllocError>
+fn single_words(alloc: Global, dim: usize) -> Result<Vec<LinkWord>, AllocError>
     requires { dim ≤ 8 }
     ensures { IfOk result (λ words. words.items ≡ map one_link (range_with_len 0 (dim + 1))) }
 {
-    (0..dim + 1).map(|link| Word::one(link)).collect(alloc)
+    (0..dim + 1).map(|link| LinkWord::one(link)).collect(alloc)
 }
 
 /// The least darts of all orbits under words whose steps can be taken back, ascending.
 fn least_darts<K: Kind, const DIM: usize>(
     alloc: Global,
     links: &Links<K, DIM>,
-    words: &[Word],
+    words: &[LinkWord],
     found: &mut Found,
 ) -> Result<Vec<Dart>, AllocError>
     requires within { All (IsWithin DIM) words.now }
@@ -147,7 +147,7 @@ fn least_darts<K: Kind, const DIM: usize>(
 /// Lists a live dart as the least of its orbit and finds the orbit, unless the orbit of a lesser dart has it.
 fn take_least<K: Kind, const DIM: usize>(
     links: &Links<K, DIM>,
-    words: &[Word],
+    words: &[LinkWord],
     dart: Dart,
     found: &mut Found,
     least: &mut Vec<Dart>,
@@ -174,7 +174,7 @@ fn take_least<K: Kind, const DIM: usize>(
 fn orbit_lists<K: Kind, const DIM: usize>(
     alloc: Global,
     links: &Links<K, DIM>,
-    words: &[Word],
+    words: &[LinkWord],
 ) -> Result<CellLists, AllocError>
     requires within { All (IsWithin DIM) words.now }
     requires turns { TurnsBack (Leads (links_of links.now.rows) (Contains words.now)) }
@@ -207,7 +207,7 @@ fn orbit_lists<K: Kind, const DIM: usize>(
 fn take_orbit<K: Kind, const DIM: usize>(
     alloc: Global,
     links: &Links<K, DIM>,
-    words: &[Word],
+    words: &[LinkWord],
     dart: Dart,
     found: &mut Found,
     orbits: &mut CellLists,

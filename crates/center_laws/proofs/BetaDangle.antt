@@ -3,7 +3,7 @@ use Rattle.std.proofs.Common.{ℕ, ◌≡◌, ◌≢◌, ◌+◌, ◌≤◌, ref
 use Rattle.map_defs.specs.Kind.{beta}
 use Rattle.map_defs.specs.Links.{Links}
 use Rattle.map_defs.specs.Laws.{Laws}
-use Rattle.map_defs.specs.Words.{two_links, through}
+use Rattle.map_defs.specs.LinkWords.{two_links, through}
 use Rattle.map_defs.specs.Cells.{here, onward}
 use Rattle.map_defs.specs.Births.{IsFresh}
 use Rattle.map_defs.specs.Insertion.{InBetaCorner}

@@ -3,7 +3,7 @@ use Rattle.std.proofs.Common.{ℕ, zero, suc, ◌≡◌, ◌≢◌, ◌≤◌, �
 use Rattle.map_defs.specs.Kind.{beta}
 use Rattle.map_defs.specs.Links.{Links}
 use Rattle.map_defs.specs.Laws.{Laws}
-use Rattle.map_defs.specs.Words.{Word, one_link, two_links, through, IsCellWord}
+use Rattle.map_defs.specs.LinkWords.{LinkWord, one_link, two_links, through, IsCellWord}
 use Rattle.map_defs.specs.Cells.{InOrbit, here, onward, Leads, InCell}
 use Rattle.map_defs.specs.Births.{IsFresh}
 use Rattle.map_defs.specs.Insertion.{IsLinkedBy}
@@ -44,7 +44,7 @@ module _ (L : Links) (w : Laws beta L) (d : ℕ) (hd : d ≢ 0) (star tip : ℕ 
       (same_or_not j 2)
 
   -- the vertex in the middle holds the ends of the new edges alone
-  end_word : (v : Word) → IsVertexStep v → (y : ℕ) → InFace y → (u : ℕ) × InOrNone InFace u × (through N v (tip y) ≡ tip u)
+  end_word : (v : LinkWord) → IsVertexStep v → (y : ℕ) → InFace y → (u : ℕ) × InOrNone InFace u × (through N v (tip y) ≡ tip u)
   end_word v (leave j l) y h =
       let a : (u : ℕ) × InOrNone InFace u × (N j (tip y) ≡ star u) = end_up j y l (inl h) in
       (a.0, a.1, ap (N 1) a.2 ∙ centre.one_star L w d hd star tip fresh_star fresh_tip two N s a.0 a.1)

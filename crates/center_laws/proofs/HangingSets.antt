@@ -2,7 +2,7 @@
 use Rattle.std.proofs.Common.{ℕ, ◌≡◌, ◌≢◌, ◌≤◌, ◌⊎◌, refl, inl, inr, arith}
 use Rattle.map_defs.specs.Kind.{alpha}
 use Rattle.map_defs.specs.Links.{Links}
-use Rattle.map_defs.specs.Words.{one_link}
+use Rattle.map_defs.specs.LinkWords.{one_link}
 use Rattle.map_defs.specs.Cells.{onward, InCell}
 use Rattle.map_defs.specs.Insertion.{IsCarrying, InAlphaCorner}
 use Rattle.link_laws.proofs.Basics.{distant_alpha}

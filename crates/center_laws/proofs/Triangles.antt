@@ -3,7 +3,7 @@ use Rattle.std.proofs.Common.{ℕ, zero, suc, ◌≡◌, ◌≢◌, ◌≤◌, �
 use Rattle.map_defs.specs.Kind.{alpha}
 use Rattle.map_defs.specs.Links.{Links}
 use Rattle.map_defs.specs.Laws.{Laws}
-use Rattle.map_defs.specs.Words.{one_link, through, IsCellWord}
+use Rattle.map_defs.specs.LinkWords.{one_link, through, IsCellWord}
 use Rattle.map_defs.specs.Cells.{InOrbit, here, onward, Leads, InCell}
 use Rattle.map_defs.specs.Births.{IsFresh}
 use Rattle.map_defs.specs.Insertion.{IsLinkedBy}

@@ -35,7 +35,7 @@ module _ {R : Type 0} where
   live_count s = length (filter is_some s.rows)
 
   -- What each stock keeps, where so many darts are ever made at most.
-  pub record IsKept (made_max : ℕ) (s : Stock R) : Type 0 where
+  pub record IsStock (made_max : ℕ) (s : Stock R) : Type 0 where
     -- place 0 is there, and no dart's
     pub begun : 0 < length s.rows
     pub nothing : row_at s 0 ≡ None

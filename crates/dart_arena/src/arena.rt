@@ -1,7 +1,7 @@
 ghost use Rattle.std.specs.Prelude.{◌≡◌, ℕ, ◌+◌, ◌*◌, ◌^◌, ◌≤◌, ◌<◌, ◌↔◌, ◌++◌, [], ◌∷◌, None, length, replicate, take, drop, reverse, map, option_map, slice_index_or, false, vec_len, vec_capacity, IsTrue, IfSome, IfNone, IsOk, OnOk, OnErr, IsErrOf};
 ghost use Rattle.map_defs.specs.Rows.{links_of};
 ghost use Rattle.map_defs.specs.Edits.{free_row, with_entry};
-ghost use Rattle.dart_arena.specs.Stock.{made, row_at, IsLive, live_count, IsKept, born, unborn, buried, revived, IsNextLive};
+ghost use Rattle.dart_arena.specs.Stock.{made, row_at, IsLive, live_count, IsStock, born, unborn, buried, revived, IsNextLive};
 ghost use Rattle.dart_arena.specs.Table.{zeroed, rows_reversed};
 
 use map_kind::Dart;
@@ -81,7 +81,7 @@ impl<const DIM: usize> Arena<DIM> {
     /// How many darts were made so far, dead ones among them: the greatest number of a dart, or 0.
     pub fn made(&self) -> u32
         ensures made { result ≡ made self.now }
-        ensures kept { IsKept MADE_MAX self.now }
+        ensures kept { IsStock MADE_MAX self.now }
     {
         self.live.len() as u32
     }

@@ -3,7 +3,7 @@ use Rattle.std.proofs.Common.{ℕ, zero, suc, ◌≡◌, ◌≢◌, ◌⊎◌, �
 use Rattle.map_defs.specs.Kind.{alpha, beta, inverse}
 use Rattle.map_defs.specs.Links.{Links}
 use Rattle.map_defs.specs.Laws.{Laws}
-use Rattle.map_defs.specs.Words.{Word, through, RunsAlong, IsCellWord, inverse_word}
+use Rattle.map_defs.specs.LinkWords.{LinkWord, through, RunsAlong, IsCellWord, inverse_word}
 use Rattle.map_defs.specs.Cells.{here, Leads, InCell}
 use Rattle.map_defs.specs.Dual.{IsAlphaDual, IsBetaDual}
 use Rattle.link_laws.proofs.LawFacts.{dart_of_link}
@@ -27,7 +27,7 @@ module _ (n : ℕ) (L N : Links) (b : IsAlphaDual n L N) where
               let is : L (n - j) x ≡ y = sym (b.reversed j x g) ∙ h in
               subst (InCell alpha L o x) is (by_link alpha L o (n - j) x x (inl (n - j, (λ f. m (omega arith)), refl)) here (λ z. s.3 (sym is ∙ z)))
 
-      go : (v : Word) → IsCellWord alpha i v → through N v x ≡ y → InCell alpha L o x y
+      go : (v : LinkWord) → IsCellWord alpha i v → through N v x ≡ y → InCell alpha L o x y
       go v (inl r) h = at r.0 r.1 (subst (λ u. through N u x ≡ y) r.2 h)
       go v (inr r) h = at r.1.0 r.1.1 (subst (λ u. through N u x ≡ y) (r.2 ∙ ap (inverse_word alpha) r.1.2) h)
 
@@ -109,7 +109,7 @@ module _ (n : ℕ) (L N : Links) (c : IsClosedMap n L) (b : IsBetaDual n L N) (w
       go (inr (inr (inl e))) = absurd (m e)
       go (inr (inr (inr g))) = absurd (k (b.above j x g))
 
-  along : (i o : ℕ) → i + o ≡ n → (v : Word) → RunsAlong beta i v → (x y : ℕ) → through N v x ≡ y → y ≢ 0 → InCell beta L o x y
+  along : (i o : ℕ) → i + o ≡ n → (v : LinkWord) → RunsAlong beta i v → (x y : ℕ) → through N v x ≡ y → y ≢ 0 → InCell beta L o x y
   along zero o e v r x y h m =
       let is : N r.0 (N r.1 x) ≡ y = subst (λ u. through N u x ≡ y) r.4 h in
       let f : n ≡ o = omega arith in

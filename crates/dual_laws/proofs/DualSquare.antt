@@ -5,7 +5,7 @@ use Rattle.map_defs.specs.Links.{Links, HasDimension}
 use Rattle.map_defs.specs.Laws.{Laws}
 use Rattle.map_defs.specs.Dual.{IsBetaDual}
 use Rattle.link_laws.proofs.Basics.{inverse_own, inverse_twice, distant_high, distant_zero_is, distant_one_is, IsDistant-turned, IsDistant-inverse_right}
-use Rattle.link_laws.proofs.Turned.{turned_of_laws, turned_one}
+use Rattle.link_laws.proofs.InverseLinks.{turned_of_laws, turned_one}
 use Rattle.dual_laws.proofs.DualAlpha.{low_or_high}
 use Rattle.dual_laws.proofs.DualBeta.{IsAllLinked, IsClosedMap, link_case, next_linked, top_twice, top_turns, top_around, dual_zero, dual_free, dual_linked, nil, back, apart}
 

@@ -7,7 +7,7 @@ use Rattle.std.proofs.lemmas.List.Elements.{All-append, Contains-get_or, Contain
 use Rattle.map_defs.specs.Links.{Links}
 use Rattle.map_defs.specs.Edits.{Change}
 use Rattle.link_laws.proofs.Basics.{same_or_not}
-use Rattle.link_rows.proofs.PolygonSides.{flat_map-range_more}
+use Rattle.edit_laws.proofs.PolygonSides.{flat_map-range_more}
 use Rattle.dual_map.specs.Differences.{link_changes, dart_changes, map_changes}
 
 -- ---- lists that are put together
@@ -55,7 +55,7 @@ AreApart b c = b.dart ≡ c.dart → b.link ≡ c.link → ⊥
 
 module _ (L N : Links) where
   -- a change from L to N
-  pub record Tells (c : Change) : Type 0 where
+  pub record TellsChange (c : Change) : Type 0 where
     pub old : c.old ≡ L c.link c.dart
     pub new : c.new ≡ N c.link c.dart
     pub differ : c.old ≢ c.new
@@ -64,7 +64,7 @@ module _ (L N : Links) where
   change : ℕ → ℕ → Change
   change d i = record { dart = d; link = i; old = L i d; new = N i d }
 
-  link-of : (d i : ℕ) (c : Change) → Contains (link_changes L N d i) c → (c.dart ≡ d) × (c.link ≡ i) × Tells c
+  link-of : (d i : ℕ) (c : Change) → Contains (link_changes L N d i) c → (c.dart ≡ d) × (c.link ≡ i) × TellsChange c
   unfolding change
   link-of d i c has = elim (same_or_not (L i d) (N i d)) [
     | inl same ↦ absurd (none (L i d == N i d) (eq-eqb (L i d) (N i d) same) has)
@@ -74,8 +74,8 @@ module _ (L N : Links) where
       none : (b : Bool) → b ≡ true → Contains (cond b [] (change d i ∷ [])) c → ⊥
       none b is has = let e = rw is at has in omega (arith, e.1)
 
-      one : L i d ≢ N i d → Contains (change d i ∷ []) c → (c.dart ≡ d) × (c.link ≡ i) × Tells c
-      one other (zero, low, is) = subst (λ (b : Change). (b.dart ≡ d) × (b.link ≡ i) × Tells b) is (refl, refl, record { old = refl; new = refl; differ = other })
+      one : L i d ≢ N i d → Contains (change d i ∷ []) c → (c.dart ≡ d) × (c.link ≡ i) × TellsChange c
+      one other (zero, low, is) = subst (λ (b : Change). (b.dart ≡ d) × (b.link ≡ i) × TellsChange b) is (refl, refl, record { old = refl; new = refl; differ = other })
       one other (suc p, low, is) = absurd (omega arith)
 
   link-has : (d i : ℕ) → L i d ≢ N i d → Contains (link_changes L N d i) (change d i)
@@ -91,7 +91,7 @@ module _ (L N : Links) where
 
   module _ (n : ℕ) where
     -- ---- of one dart
-    dart-of : (d : ℕ) (c : Change) → Contains (dart_changes n L N d) c → (c.dart ≡ d) × (c.link ≤ n) × Tells c
+    dart-of : (d : ℕ) (c : Change) → Contains (dart_changes n L N d) c → (c.dart ≡ d) × (c.link ≤ n) × TellsChange c
     dart-of d c has =
         let e = flat-of (link_changes L N d) 0 (n + 1) c has in
         let t = link-of d e.0 c e.3 in
@@ -102,7 +102,7 @@ module _ (L N : Links) where
         (λ i j b c low has had. λ dart link. omega (arith, (link-of d i b has).1, (link-of d j c had).1)) 0 (n + 1)
 
     -- ---- of the darts 1 to made
-    pub map-of : (made : ℕ) (c : Change) → Contains (map_changes n L N made) c → (c.link ≤ n) × Tells c
+    pub map-of : (made : ℕ) (c : Change) → Contains (map_changes n L N made) c → (c.link ≤ n) × TellsChange c
     map-of made c has =
         let e = flat-of (λ p. dart_changes n L N (p + 1)) 0 made c has in
         let t = dart-of (e.0 + 1) c e.3 in

@@ -10,11 +10,11 @@ use Rattle.map_defs.specs.Rows.{Rows, row_at, links_of, made, IsLive, IsSound}
 use Rattle.map_defs.specs.Edits.{Change, Edit, with_births, after_edit, Fits}
 use Rattle.link_laws.proofs.Basics.{same_or_not}
 use Rattle.link_laws.proofs.RowFacts.{live_or_free, rows_dimension}
-use Rattle.link_rows.proofs.RowWrites.{births-links, births-wide, births-old, live-within}
-use Rattle.link_rows.proofs.EditLinks.{touched, untouched}
+use Rattle.edit_laws.proofs.RowWrites.{births-links, births-wide, births-old, live-within}
+use Rattle.edit_laws.proofs.EditLinks.{touched, untouched}
 use Rattle.dual_map.specs.Differences.{map_changes}
 use Rattle.dual_map.proofs.DualEntries.{AreFreeAlike}
-use Rattle.dual_map.proofs.ChangeLists.{Tells, map-of, map-has, map-pairs}
+use Rattle.dual_map.proofs.ChangeLists.{TellsChange, map-of, map-has, map-pairs}
 
 -- the changes from the links of rows to others, and the edit that makes them
 abbrev pub changes : ℕ → Rows → Links → List Change
@@ -37,7 +37,7 @@ module _ (k : Kind) (n : ℕ) (rows : Rows) (sound : IsSound k n rows) (N : Link
       let low : d < length rows = live-within rows d live in
       (omega arith, omega arith)
 
-  each : (P : Change → Type 0) → ((c : Change) → c.link ≤ n → Tells (links_of rows) N c → P c) → All P (changes n rows N)
+  each : (P : Change → Type 0) → ((c : Change) → c.link ≤ n → TellsChange (links_of rows) N c → P c) → All P (changes n rows N)
   each P f p z h =
       let c : Change = get_or (changes n rows N) p z in
       let e = map-of (links_of rows) N n (made rows) c (Contains-get_or (changes n rows N) p z h) in
@@ -63,7 +63,7 @@ module _ (k : Kind) (n : ℕ) (rows : Rows) (sound : IsSound k n rows) (N : Link
       (touched n (changes n rows N) (with_births n 0 rows) (births-wide n 0 rows sound.wide) lives within (map-pairs (links_of rows) N n (made rows)))
       (map-has (links_of rows) N n (made rows) d i live.0 live.1 low other)
 
-  left : (i d : ℕ) → ((c : Change) → c.link ≤ n → Tells (links_of rows) N c → d ≡ c.dart → i ≡ c.link → ⊥) → links_of (after_edit n (changing n rows N) rows) i d ≡ links_of rows i d
+  left : (i d : ℕ) → ((c : Change) → c.link ≤ n → TellsChange (links_of rows) N c → d ≡ c.dart → i ≡ c.link → ⊥) → links_of (after_edit n (changing n rows N) rows) i d ≡ links_of rows i d
   left i d none =
       untouched (changes n rows N) (with_births n 0 rows) i d (each (λ c. d ≡ c.dart → i ≡ c.link → ⊥) none)
       ∙ births-links n 0 rows i d

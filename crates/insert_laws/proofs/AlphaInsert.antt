@@ -2,7 +2,7 @@
 use Rattle.std.proofs.Common.{ℕ, ◌≡◌, ◌≢◌, ◌+◌, ◌≤◌, refl, sym, ap, inl, inr, ⊎_elim, ◌∙◌, arith}
 use Rattle.map_defs.specs.Kind.{alpha}
 use Rattle.map_defs.specs.Links.{Links}
-use Rattle.map_defs.specs.Words.{one_link}
+use Rattle.map_defs.specs.LinkWords.{one_link}
 use Rattle.map_defs.specs.Cells.{here, onward, InCell}
 use Rattle.map_defs.specs.Pairs.{seed, turned, across}
 use Rattle.map_defs.specs.Insertion.{IsInsertable, GoesAlong, IsCarrying, IsPairing, IsLinkedBy, NoPairs, InAlphaCorner, AlphaEdgeDarts, AlphaEdgePairs, AreAlphaEdgePaired}

@@ -3,7 +3,7 @@ use Rattle.std.proofs.Common.{ℕ, zero, suc, ◌≡◌, ◌≢◌, ◌≤◌, �
 use Rattle.map_defs.specs.Kind.{beta, inverse}
 use Rattle.map_defs.specs.Links.{Links}
 use Rattle.map_defs.specs.Laws.{Laws}
-use Rattle.map_defs.specs.Words.{two_links, through}
+use Rattle.map_defs.specs.LinkWords.{two_links, through}
 use Rattle.map_defs.specs.Cells.{here, onward, Leads}
 use Rattle.map_defs.specs.Pairs.{seed, turned, across}
 use Rattle.map_defs.specs.Insertion.{IsCornerWord, InBetaCorner, BetaEdgePairs, BetaEdgeLeads, AreBetaEdgePaired}

@@ -3,7 +3,7 @@ use Rattle.std.proofs.Common.{ℕ, ◌≡◌, ◌≢◌, ◌+◌, ◌≤◌, ref
 use Rattle.map_defs.specs.Kind.{beta}
 use Rattle.map_defs.specs.Links.{Links}
 use Rattle.map_defs.specs.Laws.{Laws}
-use Rattle.map_defs.specs.Words.{one_link}
+use Rattle.map_defs.specs.LinkWords.{one_link}
 use Rattle.map_defs.specs.Cells.{onward, InCell}
 use Rattle.map_defs.specs.Births.{IsFresh}
 use Rattle.map_defs.specs.Insertion.{IsSplit}

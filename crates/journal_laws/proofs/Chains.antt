@@ -1,8 +1,8 @@
 -- Contents that follow one another, by the differences between neighbours.
 use Rattle.std.proofs.Common.{◌≡◌, ℕ, zero, suc, ◌-◌, ◌<◌, ◌≤◌, List, [], ◌∷◌, ◌++◌, length, get_or, take, drop, refl, sym, ap, ◌∙◌, arith}
 use Rattle.std.proofs.lemmas.List.{take_all}
-use Rattle.map_defs.specs.State.{Content}
-use Rattle.map_defs.specs.Difference.{Difference, IsDifference, AreDifferences, taken_back}
+use Rattle.machine_defs.specs.State.{Content}
+use Rattle.machine_defs.specs.Difference.{Difference, IsDifference, AreDifferences, taken_back}
 use Rattle.journal_laws.specs.Following.{Follows, AllFollow, all_put_forward, all_taken_back}
 use Rattle.journal_laws.proofs.Leading.{leads-on, leads-back}
 

@@ -6,8 +6,8 @@ use Rattle.std.proofs.lemmas.List.Elements.{All-contains}
 use Rattle.map_defs.specs.Kind.{Kind}
 use Rattle.map_defs.specs.Rows.{Rows, row_at, links_of, IsLive, IsSound}
 use Rattle.map_defs.specs.Edits.{Change, Edit, after_edit, Fits, IsLed}
-use Rattle.link_rows.proofs.EditLinks.{links-at, links-else, ended, lives-on}
-use Rattle.link_rows.proofs.EditSound.{length-after}
+use Rattle.edit_laws.proofs.EditLinks.{links-at, links-else, ended, lives-on}
+use Rattle.edit_laws.proofs.EditSound.{length-after}
 use Rattle.journal_laws.specs.Ordering.{IsInOrder, IsRowsDifference}
 use Rattle.journal_laws.proofs.EditOrder.{Names, named-or-not}
 

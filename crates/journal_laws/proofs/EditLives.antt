@@ -5,10 +5,10 @@ use Rattle.std.proofs.lemmas.Bool.{cases_lt, false≢true}
 use Rattle.map_defs.specs.Kind.{Kind}
 use Rattle.map_defs.specs.Rows.{Rows, row_at, IsLive, IsSound}
 use Rattle.map_defs.specs.Edits.{Edit, with_births, with_changes, after_edit, Fits}
-use Rattle.link_rows.proofs.RowWrites.{births-old, live-within}
-use Rattle.link_rows.proofs.EditSteps.{linked-live, buried-other}
-use Rattle.link_rows.proofs.EditLinks.{ended}
-use Rattle.link_rows.proofs.EditSound.{length-after}
+use Rattle.edit_laws.proofs.RowWrites.{births-old, live-within}
+use Rattle.edit_laws.proofs.EditSteps.{linked-live, buried-other}
+use Rattle.edit_laws.proofs.EditLinks.{ended}
+use Rattle.edit_laws.proofs.EditSound.{length-after}
 
 module _ (k : Kind) (n : ℕ) (rows : Rows) (e : Edit) (sound : IsSound k n rows) (fits : Fits k n rows e) (d : ℕ) (live : IsLive (after_edit n e rows) d) where
   -- it is not one that ends

@@ -9,9 +9,9 @@ use Rattle.map_defs.specs.Kind.{Kind, inverse}
 use Rattle.map_defs.specs.Rows.{Rows, row_at, links_of, IsLive, IsSound}
 use Rattle.map_defs.specs.Edits.{Change, Edit, with_births, linked, with_changes, after_edit, buried, Fits}
 use Rattle.link_laws.proofs.SameRows.{same_rows}
-use Rattle.link_rows.proofs.RowWrites.{IsWide, births-wide}
-use Rattle.link_rows.proofs.EditSteps.{linked-length, linked-live, linked-wide}
-use Rattle.link_rows.proofs.EditLinks.{untouched, touched}
+use Rattle.edit_laws.proofs.RowWrites.{IsWide, births-wide}
+use Rattle.edit_laws.proofs.EditSteps.{linked-length, linked-live, linked-wide}
+use Rattle.edit_laws.proofs.EditLinks.{untouched, touched}
 use Rattle.journal_laws.proofs.Reordered.{AllPairs-permutation}
 
 -- the two changes name different links

@@ -1,9 +1,9 @@
 -- A difference leads on from the first content to the next, and back.
 use Rattle.std.proofs.Common.{◌≡◌, ℕ, sym, ap, ◌∙◌, arith}
 use Rattle.map_defs.specs.Edits.{IsLed, before_edit}
-use Rattle.map_defs.specs.State.{Content}
-use Rattle.map_defs.specs.Difference.{Difference, IsDifference, put_forward, taken_back}
-use Rattle.value_laws.proofs.ValueFacts.{same-content}
+use Rattle.machine_defs.specs.State.{Content}
+use Rattle.machine_defs.specs.Difference.{Difference, IsDifference, put_forward, taken_back}
+use Rattle.journal_laws.proofs.ContentFacts.{same-content}
 use Rattle.journal_laws.specs.Following.{Follows}
 use Rattle.journal_laws.proofs.RowsOn.{difference-fits, rows-on, rows-back}
 use Rattle.journal_laws.proofs.ValuesOn.{values-on, values-back}

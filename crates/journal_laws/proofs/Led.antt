@@ -3,9 +3,9 @@ use Rattle.std.proofs.Common.{◌≡◌, ℕ, ◌+◌, ◌<◌, ◌≤◌, ◌�
 use Rattle.map_defs.specs.Kind.{Kind}
 use Rattle.map_defs.specs.Rows.{Rows, made, IsLive, IsSound}
 use Rattle.map_defs.specs.Edits.{Edit, IsLed}
-use Rattle.map_defs.specs.State.{Content, HasPlaces}
-use Rattle.link_rows.proofs.EditSound.{length-after, after-sound}
-use Rattle.link_rows.proofs.EditBack.{born-live}
+use Rattle.machine_defs.specs.State.{Content, HasPlaces}
+use Rattle.edit_laws.proofs.EditSound.{length-after, after-sound}
+use Rattle.edit_laws.proofs.EditBack.{born-live}
 use Rattle.journal_laws.specs.Following.{Follows}
 use Rattle.journal_laws.proofs.EditLives.{lived-or-born}
 

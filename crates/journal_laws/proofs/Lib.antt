@@ -1,3 +1,4 @@
+pub mod ContentFacts
 pub mod InOrder
 pub mod OneDifference
 pub mod EditLives

@@ -1,9 +1,9 @@
 -- Two contents have one difference, and contents in a row one list of differences.
 use Rattle.std.proofs.Common.{◌≡◌, ℕ, List, [], ◌∷◌, refl, sym, ap, ◌∙◌, inl, inr, arith}
 use Rattle.value_laws.proofs.Rising.{rising_one}
-use Rattle.map_defs.specs.State.{Content}
+use Rattle.machine_defs.specs.State.{Content}
 use Rattle.map_defs.specs.Edits.{Change, Edit}
-use Rattle.map_defs.specs.Difference.{Difference, ValueChange, RuleChange, IsDifference, AreDifferences, IsLinkBefore, IsValueBefore, IsRuleBefore, first_born}
+use Rattle.machine_defs.specs.Difference.{Difference, ValueChange, RuleChange, IsDifference, AreDifferences, IsLinkBefore, IsValueBefore, IsRuleBefore, first_born}
 use Rattle.journal_laws.proofs.InOrder.{one-list}
 
 pub links-apart : (b c : Change) → IsLinkBefore b c → IsLinkBefore c b → ⊥

@@ -7,16 +7,16 @@ use Rattle.std.proofs.lemmas.List.Kept.{AllPairs-from_increasing}
 use Rattle.map_defs.specs.Kind.{Kind, inverse}
 use Rattle.map_defs.specs.Rows.{Rows, row_at, links_of, IsLive}
 use Rattle.map_defs.specs.Edits.{Change, with_births, linked, with_changes, after_edit, before_edit, Fits}
-use Rattle.map_defs.specs.State.{Content}
-use Rattle.map_defs.specs.Difference.{Difference, IsDifference}
+use Rattle.machine_defs.specs.State.{Content}
+use Rattle.machine_defs.specs.Difference.{Difference, IsDifference}
 use Rattle.link_laws.proofs.Basics.{by_cases, stable}
 use Rattle.link_laws.proofs.RowFacts.{live_or_free, linked_live, rows_dimension}
 use Rattle.link_laws.proofs.SameRows.{same_rows}
-use Rattle.link_rows.proofs.RowWrites.{births-links, births-wide, births-old, births-new, live-within}
-use Rattle.link_rows.proofs.EditSteps.{linked-wide, buried-wide, buried-links}
-use Rattle.link_rows.proofs.EditLinks.{untouched, touched, lives-on}
-use Rattle.link_rows.proofs.EditSound.{length-after}
-use Rattle.link_rows.proofs.EditBack.{before-after, born-live}
+use Rattle.edit_laws.proofs.RowWrites.{births-links, births-wide, births-old, births-new, live-within}
+use Rattle.edit_laws.proofs.EditSteps.{linked-wide, buried-wide, buried-links}
+use Rattle.edit_laws.proofs.EditLinks.{untouched, touched, lives-on}
+use Rattle.edit_laws.proofs.EditSound.{length-after}
+use Rattle.edit_laws.proofs.EditBack.{before-after, born-live}
 use Rattle.journal_laws.specs.Following.{Follows}
 use Rattle.journal_laws.proofs.EditLives.{never-ended, lived-or-born}
 

@@ -5,8 +5,8 @@ use Rattle.std.proofs.lemmas.Bool.{cases_lt}
 use Rattle.std.proofs.lemmas.List.{ext_get_or, get_or-set_same, get_or-set_other, get_or_past, set-set, set-get_or, length-set}
 use Rattle.std.proofs.lemmas.List.Elements.{All-contains, Contains-get_or}
 use Rattle.map_defs.specs.Values.{Merge, First, Last, Sum, Min, Max, Mid, Split, Copied, Keep, Share, Host, Rule}
-use Rattle.map_defs.specs.State.{Content, rule_at}
-use Rattle.map_defs.specs.Difference.{Difference, RuleChange, IsDifference, ruled, unruled}
+use Rattle.machine_defs.specs.State.{Content, rule_at}
+use Rattle.machine_defs.specs.Difference.{Difference, RuleChange, IsDifference, ruled, unruled}
 use Rattle.link_laws.proofs.Basics.{same_or_not}
 use Rattle.journal_laws.specs.Following.{Follows}
 

@@ -5,9 +5,9 @@ use Rattle.std.proofs.lemmas.Bool.{cases_lt, cases_eq}
 use Rattle.std.proofs.lemmas.List.{ext_get_or, get_or-set_same, get_or-set_other, get_or_past, get_or_append_left, get_or-append_right, get_or-replicate, set-set, set-get_or, length-set, length-append, length-replicate, take_at}
 use Rattle.std.proofs.lemmas.List.Elements.{All-contains, Contains-get_or}
 use Rattle.map_defs.specs.Values.{Value}
-use Rattle.map_defs.specs.State.{Content, value_at, no_values}
-use Rattle.map_defs.specs.Difference.{Difference, ValueChange, IsDifference, with_value, valued, unvalued}
-use Rattle.value_laws.proofs.ValueFacts.{value-cases}
+use Rattle.machine_defs.specs.State.{Content, value_at, no_values}
+use Rattle.machine_defs.specs.Difference.{Difference, ValueChange, IsDifference, with_value, valued, unvalued}
+use Rattle.journal_laws.proofs.ContentFacts.{value-cases}
 use Rattle.journal_laws.specs.Following.{Follows}
 
 abbrev pub Values : Type 0

@@ -1,8 +1,8 @@
 -- Contents that follow one another, and many differences put forward and taken back. Source: this project's.
 use Rattle.std.specs.Prelude.{ℕ, ◌≡◌, ◌≤◌, ◌<◌, ◌⊎◌, List, [], ◌∷◌, length}
 use Rattle.map_defs.specs.Rows.{made, IsLive, IsSound}
-use Rattle.map_defs.specs.State.{Content, HasPlaces}
-use Rattle.map_defs.specs.Difference.{Difference, put_forward, taken_back}
+use Rattle.machine_defs.specs.State.{Content, HasPlaces}
+use Rattle.machine_defs.specs.Difference.{Difference, put_forward, taken_back}
 
 -- The content b can follow the content a in one step.
 pub record Follows (a b : Content) : Type 0 where

@@ -4,7 +4,7 @@ use Rattle.std.specs.List.{AllPairs}
 use Rattle.std.specs.List.Sorted.{IsStrictlyIncreasing}
 use Rattle.map_defs.specs.Rows.{Rows, IsLive, links_of}
 use Rattle.map_defs.specs.Edits.{Change, Edit}
-use Rattle.map_defs.specs.Difference.{IsLinkBefore}
+use Rattle.machine_defs.specs.Difference.{IsLinkBefore}
 
 -- An edit is in order: each change changes something, the changes stand in the order of a log, and the deaths ascend.
 pub record IsInOrder (e : Edit) : Type 0 where

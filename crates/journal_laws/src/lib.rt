@@ -9,8 +9,8 @@ ghost use Rattle.std.specs.List.Sorted.{IsPermutation};
 ghost use Rattle.map_defs.specs.Kind.{Kind};
 ghost use Rattle.map_defs.specs.Rows.{Rows, IsSound};
 ghost use Rattle.map_defs.specs.Edits.{Change, Edit, Fits, IsLed, after_edit};
-ghost use Rattle.map_defs.specs.State.{Content};
-ghost use Rattle.map_defs.specs.Difference.{Difference, IsDifference, AreDifferences, put_forward, taken_back};
+ghost use Rattle.machine_defs.specs.State.{Content};
+ghost use Rattle.machine_defs.specs.Difference.{Difference, IsDifference, AreDifferences, put_forward, taken_back};
 ghost use Rattle.journal_laws.specs.Following.{Follows, AllFollow, all_put_forward, all_taken_back};
 ghost use Rattle.journal_laws.specs.Ordering.{IsInOrder, IsRowsDifference};
 

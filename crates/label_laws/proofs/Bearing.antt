@@ -3,15 +3,15 @@ use Rattle.std.proofs.Common.{ℕ, ◌≡◌, ◌≢◌, ◌+◌, ◌<◌, sym, 
 use Rattle.map_defs.specs.Kind.{Kind}
 use Rattle.map_defs.specs.Links.{Links}
 use Rattle.map_defs.specs.Laws.{Laws}
-use Rattle.map_defs.specs.Words.{through_second}
+use Rattle.map_defs.specs.LinkWords.{through_second}
 use Rattle.map_defs.specs.Cells.{InCell, here, onward}
 use Rattle.link_laws.proofs.CellFacts.{cell_back}
 use Rattle.machine_laws.proofs.Ended.{alone-cell}
-use Rattle.attr_pool.specs.Stores.{Store}
-use Rattle.attr_pool.specs.Labelings.{Labeling, id_of}
-use Rattle.label_laws.specs.Stored.{worth, AreStored}
+use Rattle.store_defs.specs.Stores.{Store}
+use Rattle.store_defs.specs.Labelings.{Labeling, id_of}
+use Rattle.label_laws.specs.Stored.{stored_value, AreStored}
 use Rattle.label_laws.specs.Changing.{AreTaken}
-use Rattle.label_laws.proofs.Storing.{AreSpared, stored-taken, worth-stays}
+use Rattle.label_laws.proofs.Storing.{AreSpared, stored-taken, stored_value-stays}
 
 -- L and N are the same inside, and L leads nowhere else
 module _ (k : Kind) (L N : Links) (Inside : ℕ → Type 0) (same : (t x : ℕ) → Inside x → N t x ≡ L t x) (stays : (t x : ℕ) → Inside (L t x)) where
@@ -66,8 +66,8 @@ module _ (k : Kind) (L N : Links) (w : Laws k L) (same : (t x : ℕ) → N t x �
   stored-ended = stored-taken k L N Live LiveAfter (λ i d. (i < n + 1) × (d ≡ dart)) l m p q s t ended-spared
 
   -- the values of all other places stay
-  pub worth-beyond : (i d : ℕ) → ((i < n + 1) × (d ≡ dart) → ⊥) → worth q m i d ≡ worth p l i d
-  worth-beyond = worth-stays k L N Live LiveAfter (λ i d. (i < n + 1) × (d ≡ dart)) l m p q s t ended-spared
+  pub stored_value-beyond : (i d : ℕ) → ((i < n + 1) × (d ≡ dart) → ⊥) → stored_value q m i d ≡ stored_value p l i d
+  stored_value-beyond = stored_value-stays k L N Live LiveAfter (λ i d. (i < n + 1) × (d ≡ dart)) l m p q s t ended-spared
 
-  pub worth-ended : (i d : ℕ) → d ≢ dart → worth q m i d ≡ worth p l i d
-  worth-ended i d other = worth-beyond i d (λ h. other h.1)
+  pub stored_value-ended : (i d : ℕ) → d ≢ dart → stored_value q m i d ≡ stored_value p l i d
+  stored_value-ended i d other = stored_value-beyond i d (λ h. other h.1)

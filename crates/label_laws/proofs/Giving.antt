@@ -5,12 +5,12 @@ use Rattle.map_defs.specs.Kind.{Kind}
 use Rattle.map_defs.specs.Links.{Links}
 use Rattle.map_defs.specs.Cells.{InCell}
 use Rattle.map_defs.specs.Values.{Value}
-use Rattle.attr_pool.specs.Stores.{Store}
-use Rattle.attr_pool.specs.Labelings.{Labeling, id_of, KeepsPlaces}
-use Rattle.transport.specs.Groups.{Group, group_at, labelled_value}
-use Rattle.label_laws.specs.Stored.{worth, AreStored}
+use Rattle.store_defs.specs.Stores.{Store}
+use Rattle.store_defs.specs.Labelings.{Labeling, id_of, KeepsPlaces}
+use Rattle.store_defs.specs.Groups.{Group, group_at, labelled_value}
+use Rattle.label_laws.specs.Stored.{stored_value, AreStored}
 use Rattle.label_laws.specs.Changing.{IsGroupedBelow, HaveIdFor, AreGroupsGiven}
-use Rattle.label_laws.proofs.Storing.{stored-given, worth-given, worth-beside}
+use Rattle.label_laws.proofs.Storing.{stored-given, stored_value-given, stored_value-beside}
 
 -- giving ids makes no places
 given-places : (i : ℕ) (darts : List ℕ) (v : Option Value) (l m : Labeling) (p q : Store) → HaveIdFor i darts v l m p q → (m.made ≡ l.made) × KeepsPlaces l m
@@ -33,9 +33,9 @@ pub record AreCells (k : Kind) (N : Links) (Live : ℕ → Type 0) (groups : Lis
 -- What holds once the first h groups were given their ids.
 pub record AreUpTo (k : Kind) (N : Links) (Live : ℕ → Type 0) (groups : List Group) (h : ℕ) (l m : Labeling) (p q : Store) : Type 0 where
   pub stored : AreStored k N Live m q
-  pub values : (n d : ℕ) → n < h → Contains (group_at groups n).darts d → worth q m (group_at groups n).dim d ≡ (group_at groups n).value
+  pub values : (n d : ℕ) → n < h → Contains (group_at groups n).darts d → stored_value q m (group_at groups n).dim d ≡ (group_at groups n).value
   pub ids : (i d : ℕ) → (IsGroupedBelow h groups i d → ⊥) → id_of m i d ≡ id_of l i d
-  pub others : (i d : ℕ) → (IsGroupedBelow h groups i d → ⊥) → worth q m i d ≡ worth p l i d
+  pub others : (i d : ℕ) → (IsGroupedBelow h groups i d → ⊥) → stored_value q m i d ≡ stored_value p l i d
 
 module _ (k : Kind) (N : Links) (Live : ℕ → Type 0) (groups : List Group) (below : ℕ) (cells : AreCells k N Live groups below)
     (l : Labeling) (p : Store) (s : AreStored k N Live l p) (bare : (n d : ℕ) → n < below → Contains (group_at groups n).darts d → id_of l (group_at groups n).dim d ≡ None) where
@@ -44,7 +44,7 @@ module _ (k : Kind) (N : Links) (Live : ℕ → Type 0) (groups : List Group) (b
     stored = subst (λ (n : Labeling). AreStored k N Live n q) (sym e.0) (subst (λ (r : Store). AreStored k N Live l r) (sym e.1) s);
     values = λ n d lt h. absurd (omega arith);
     ids = λ i d out. ap (λ (n : Labeling). id_of n i d) e.0;
-    others = λ i d out. ap (λ (n : Labeling). worth q n i d) e.0 ∙ ap (λ (r : Store). worth r l i d) e.1;
+    others = λ i d out. ap (λ (n : Labeling). stored_value q n i d) e.0 ∙ ap (λ (r : Store). stored_value r l i d) e.1;
   }
 
   -- a dart of group h is of no group before
@@ -63,17 +63,17 @@ module _ (k : Kind) (N : Links) (Live : ℕ → Type 0) (groups : List Group) (b
     others = λ i d out. same i d ∙ u.others i d (less h i d out);
   }
     where
-      same : (i d : ℕ) → worth r n i d ≡ worth q m i d
-      same i d = ap (λ (x : Labeling). worth r x i d) g.0 ∙ ap (λ (y : Store). worth y m i d) g.1
+      same : (i d : ℕ) → stored_value r n i d ≡ stored_value q m i d
+      same i d = ap (λ (x : Labeling). stored_value r x i d) g.0 ∙ ap (λ (y : Store). stored_value y m i d) g.1
 
-      at-h : (d : ℕ) → Contains (group_at groups h).darts d → worth q m (group_at groups h).dim d ≡ (group_at groups h).value
+      at-h : (d : ℕ) → Contains (group_at groups h).darts d → stored_value q m (group_at groups h).dim d ≡ (group_at groups h).value
       at-h d here = u.others (group_at groups h).dim d (outside h d lt here) ∙ ap (labelled_value p) (bare h d lt here) ∙ sym is
 
-      value : (a d : ℕ) → (a < h) ⊎ (h ≤ a) → a < suc h → Contains (group_at groups a).darts d → worth q m (group_at groups a).dim d ≡ (group_at groups a).value
+      value : (a d : ℕ) → (a < h) ⊎ (h ≤ a) → a < suc h → Contains (group_at groups a).darts d → stored_value q m (group_at groups a).dim d ≡ (group_at groups a).value
       value a d (inl a_lt) b here = u.values a d a_lt here
       value a d (inr le) b here =
           let e : h ≡ a = omega arith in
-          subst (λ (x : ℕ). Contains (group_at groups x).darts d → worth q m (group_at groups x).dim d ≡ (group_at groups x).value) e (at-h d) here
+          subst (λ (x : ℕ). Contains (group_at groups x).darts d → stored_value q m (group_at groups x).dim d ≡ (group_at groups x).value) e (at-h d) here
   one-given h lt (Some v) is m n q r u g = record {
     stored = stored-given k N Live (group_at groups h).dim (Contains (group_at groups h).darts) v m n q r u.stored g live cell none;
     values = λ a d a_lt here. value a d (cases_lt a h) a_lt here;
@@ -93,17 +93,17 @@ module _ (k : Kind) (N : Links) (Live : ℕ → Type 0) (groups : List Group) (b
       none : (d : ℕ) → Contains (group_at groups h).darts d → id_of m (group_at groups h).dim d ≡ None
       none d here = u.ids (group_at groups h).dim d (outside h d lt here) ∙ bare h d lt here
 
-      beside : (i d : ℕ) → (i ≡ (group_at groups h).dim → Contains (group_at groups h).darts d → ⊥) → worth r n i d ≡ worth q m i d
-      beside i d out = worth-beside k N Live (group_at groups h).dim (Contains (group_at groups h).darts) v m n q r u.stored g live cell none i d out
+      beside : (i d : ℕ) → (i ≡ (group_at groups h).dim → Contains (group_at groups h).darts d → ⊥) → stored_value r n i d ≡ stored_value q m i d
+      beside i d out = stored_value-beside k N Live (group_at groups h).dim (Contains (group_at groups h).darts) v m n q r u.stored g live cell none i d out
 
-      at-h : (d : ℕ) → Contains (group_at groups h).darts d → worth r n (group_at groups h).dim d ≡ (group_at groups h).value
-      at-h d here = worth-given k N Live (group_at groups h).dim (Contains (group_at groups h).darts) v m n q r u.stored g live cell none d here ∙ sym is
+      at-h : (d : ℕ) → Contains (group_at groups h).darts d → stored_value r n (group_at groups h).dim d ≡ (group_at groups h).value
+      at-h d here = stored_value-given k N Live (group_at groups h).dim (Contains (group_at groups h).darts) v m n q r u.stored g live cell none d here ∙ sym is
 
-      value : (a d : ℕ) → (a < h) ⊎ (h ≤ a) → a < suc h → Contains (group_at groups a).darts d → worth r n (group_at groups a).dim d ≡ (group_at groups a).value
+      value : (a d : ℕ) → (a < h) ⊎ (h ≤ a) → a < suc h → Contains (group_at groups a).darts d → stored_value r n (group_at groups a).dim d ≡ (group_at groups a).value
       value a d (inl a_lt) b here = beside (group_at groups a).dim d (λ e c. cells.apart a h d a_lt lt e here c) ∙ u.values a d a_lt here
       value a d (inr le) b here =
           let e : h ≡ a = omega arith in
-          subst (λ (x : ℕ). Contains (group_at groups x).darts d → worth r n (group_at groups x).dim d ≡ (group_at groups x).value) e (at-h d) here
+          subst (λ (x : ℕ). Contains (group_at groups x).darts d → stored_value r n (group_at groups x).dim d ≡ (group_at groups x).value) e (at-h d) here
 
   pub groups-given : (h : ℕ) → h ≤ below → (m : Labeling) (q : Store) → AreGroupsGiven groups h l m p q → AreUpTo k N Live groups h l m p q
   groups-given zero le m q g = none-given m q g

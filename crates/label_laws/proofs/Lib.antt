@@ -7,13 +7,13 @@ pub mod Bearing
 pub mod Setting
 pub mod Showing
 pub mod Same
-pub mod Steps
+pub mod LineSteps
 pub mod Loops
 pub mod Remaking
 pub mod Making
 pub mod Valued
-pub mod Listed
+pub mod ListedValues
 pub mod Loading
-pub mod Turned
+pub mod DualLabels
 pub mod TurnedBelow
 pub mod Restored

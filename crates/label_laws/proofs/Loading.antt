@@ -11,17 +11,17 @@ use Rattle.map_defs.specs.Rows.{Rows, IsLive, IsSound, links_of, made}
 use Rattle.map_defs.specs.Cells.{InCell, NamesCell}
 use Rattle.map_defs.specs.Values.{Place, Rule}
 use Rattle.map_defs.specs.Carry.{known}
-use Rattle.map_defs.specs.State.{Content, value_at}
+use Rattle.machine_defs.specs.State.{Content, value_at}
 use Rattle.link_laws.proofs.Basics.{same_or_not}
 use Rattle.link_laws.proofs.CellFacts.{cell_back}
 use Rattle.link_laws.proofs.RowFacts.{rows_lead_to_live}
-use Rattle.link_rows.proofs.RowWrites.{live-within}
+use Rattle.edit_laws.proofs.RowWrites.{live-within}
 use Rattle.value_laws.proofs.Touching.{cell_live}
 use Rattle.value_laws.proofs.MapValues.{cell_trans}
-use Rattle.attr_pool.specs.Stores.{Store}
-use Rattle.attr_pool.specs.Labelings.{Labeling, id_of, KeepsIds, KeepsPlaces, HasPlaces as HasIdPlaces}
-use Rattle.transport.specs.Groups.{Group, group_at, no_group, rule_at, labelled_value}
-use Rattle.label_laws.specs.Stored.{worth, AreStored}
+use Rattle.store_defs.specs.Stores.{Store}
+use Rattle.store_defs.specs.Labelings.{Labeling, id_of, KeepsIds, KeepsPlaces, HasPlaces as HasIdPlaces}
+use Rattle.store_defs.specs.Groups.{Group, group_at, no_group, rule_at, labelled_value}
+use Rattle.label_laws.specs.Stored.{stored_value, AreStored}
 use Rattle.label_laws.specs.Changing.{IsGroupedBelow, AreGroupsGiven}
 use Rattle.label_laws.specs.Contents.{all_rules, content_of}
 use Rattle.label_laws.specs.Maps.{IsStoredMap}
@@ -30,7 +30,7 @@ use Rattle.label_laws.specs.Touching.{CanLabel}
 use Rattle.label_laws.proofs.Giving.{AreCells, AreUpTo, groups-given, groups-places}
 use Rattle.label_laws.proofs.Same.{stored-alike, content-alike}
 use Rattle.label_laws.proofs.Showing.{value-shown, rule-shown, rules-long}
-use Rattle.label_laws.proofs.Steps.{made_rules, made-rules-are, made-rules-long, all-rules-full}
+use Rattle.label_laws.proofs.LineSteps.{made_rules, made-rules-are, made-rules-long, all-rules-full}
 
 -- the 0-cells of places, one after another
 pub placed-begun : (k : Kind) (L : Links) (places : List Place) → ArePlacedCells k L places 0 []
@@ -220,7 +220,7 @@ module _ (k : Kind) (n : ℕ) (old new : Rows) (before l : Labeling) (was p : St
           let this = are.each j place lt in
           let has = (this.members d).1 cell in
           value-shown k n new m q Next loaded-stored 0 d
-          ∙ subst (λ (i : ℕ). worth q m i d ≡ (group_at groups j).value) this.dim (upto.values j d below has) ∙ this.value
+          ∙ subst (λ (i : ℕ). stored_value q m i d ≡ (group_at groups j).value) this.dim (upto.values j d below has) ∙ this.value
 
       pub loaded-others : (i d : ℕ) → i ≢ 0 → value_at Loaded i d ≡ None
       loaded-others i d other =

@@ -3,9 +3,9 @@ use Rattle.std.proofs.Common.{ℕ, ◌≡◌, ◌≢◌, ◌⊎◌, ◌↔◌, �
 use Rattle.std.proofs.lemmas.Bool.{cases_eq}
 use Rattle.std.proofs.lemmas.List.{take_more, get_or_default}
 use Rattle.std.proofs.lemmas.List.Elements.{Contains-append_left, Contains-push, Contains-push_cases}
-use Rattle.attr_pool.specs.Stores.{Store}
-use Rattle.attr_pool.specs.Labelings.{Labeling, id_of, KeepsPlaces, IsRelabelled}
-use Rattle.transport.specs.Groups.{Group, group_at, no_group}
+use Rattle.store_defs.specs.Stores.{Store}
+use Rattle.store_defs.specs.Labelings.{Labeling, id_of, KeepsPlaces, IsRelabelled}
+use Rattle.store_defs.specs.Groups.{Group, group_at, no_group}
 use Rattle.label_laws.specs.Changing.{AreTaken, HaveId, IsGroupedBelow}
 use Rattle.label_laws.proofs.Taking.{taken-none, taken-as, taken-then}
 

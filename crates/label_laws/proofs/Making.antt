@@ -8,20 +8,20 @@ use Rattle.map_defs.specs.Rows.{Rows, IsLive, links_of, made, made_max, IsSound}
 use Rattle.map_defs.specs.Edits.{Edit, Fits, IsLed, after_edit}
 use Rattle.map_defs.specs.Touched.{IsTouched, Touches, Covers, IsLabelled}
 use Rattle.map_defs.specs.Values.{Rule, Meaning, KeepsWhole}
-use Rattle.map_defs.specs.State.{Content, with_born, without_dart}
+use Rattle.machine_defs.specs.State.{Content, with_born, without_dart}
 use Rattle.link_laws.proofs.RowFacts.{rows_lead_to_live}
-use Rattle.link_rows.proofs.EditSound.{length-after, after-sound}
-use Rattle.link_rows.proofs.EditLinks.{lives-on}
-use Rattle.link_rows.proofs.EditPlain.{death_edit, death-fits}
-use Rattle.link_rows.proofs.RowWrites.{live-within}
-use Rattle.link_rows.proofs.KeptLaws.{death-keeps}
+use Rattle.edit_laws.proofs.EditSound.{length-after, after-sound}
+use Rattle.edit_laws.proofs.EditLinks.{lives-on}
+use Rattle.edit_laws.proofs.EditPlain.{death_edit, death-fits}
+use Rattle.edit_laws.proofs.RowWrites.{live-within}
+use Rattle.edit_laws.proofs.KeptLaws.{death-keeps}
 use Rattle.value_laws.proofs.OfRows.{told_live}
 use Rattle.value_laws.proofs.Touching.{cell_live, touched_touch}
 use Rattle.value_laws.proofs.Covering.{touching_covers}
-use Rattle.attr_pool.specs.Stores.{Store}
-use Rattle.attr_pool.specs.Labelings.{Labeling, id_of, KeepsIds, KeepsPlaces}
-use Rattle.transport.specs.Groups.{Group, group_at, rule_at, HasCarriedValue}
-use Rattle.label_laws.specs.Stored.{AreStored, worth}
+use Rattle.store_defs.specs.Stores.{Store}
+use Rattle.store_defs.specs.Labelings.{Labeling, id_of, KeepsIds, KeepsPlaces}
+use Rattle.store_defs.specs.Groups.{Group, group_at, rule_at, HasCarriedValue}
+use Rattle.label_laws.specs.Stored.{AreStored, stored_value}
 use Rattle.label_laws.specs.Changing.{AreTaken, AreRelabelled, IsGroupedBelow}
 use Rattle.label_laws.specs.Contents.{content_of, IsCarriedOn}
 use Rattle.label_laws.specs.Maps.{IsStoredMap}
@@ -29,7 +29,7 @@ use Rattle.label_laws.specs.Touching.{CanLabel, AreAllTouched}
 use Rattle.label_laws.proofs.Taking.{taken-as}
 use Rattle.label_laws.proofs.Showing.{ruled-low}
 use Rattle.label_laws.proofs.Same.{content-alike}
-use Rattle.label_laws.proofs.Steps.{stored-grown, born-stored, born-content, ended-stored, ended-content, relinked-stored, relinked-outside, relinked-carried, ended-outside}
+use Rattle.label_laws.proofs.LineSteps.{stored-grown, born-stored, born-content, ended-stored, ended-content, relinked-stored, relinked-outside, relinked-carried, ended-outside}
 use Rattle.label_laws.proofs.Remaking.{not-ended}
 
 out-more : (x : ℕ) (ds : List ℕ) (d : ℕ) → x ≢ d → All (λ (y : ℕ). d ≢ y) ds → All (λ (y : ℕ). d ≢ y) (x ∷ ds)
@@ -119,7 +119,7 @@ module _ (k : Kind) (n : ℕ) (rows : Rows) (e : Edit) (l : Labeling) (p : Store
               relinked-stored k n rows New m m' q q' rules grown-stored laws (Contains e.deaths) gone-for-good live-or-ended touched.0 touched.1 groups touched.2 touched.3 r labels-long begun-new sound-new
 
           -- the values of places whose ids are not given anew stay
-          pub relink-outside : (i d : ℕ) → (((i < n + 1) × Contains e.deaths d) ⊎ IsGroupedBelow (length groups) groups i d → ⊥) → worth q' m' i d ≡ worth q m i d
+          pub relink-outside : (i d : ℕ) → (((i < n + 1) × Contains e.deaths d) ⊎ IsGroupedBelow (length groups) groups i d → ⊥) → stored_value q' m' i d ≡ stored_value q m i d
           relink-outside =
               relinked-outside k n rows New m m' q q' rules grown-stored laws (Contains e.deaths) gone-for-good live-or-ended touched.0 touched.1 groups touched.2 touched.3 r labels-long begun-new sound-new
 
@@ -161,7 +161,7 @@ module _ (k : Kind) (n : ℕ) (rows : Rows) (dart : ℕ) (l m : Labeling) (p q :
   end-stored = ended-stored k n rows After l m p q rules s dart live alone after-is sound-one laws-one taken-one
 
   -- the values of other darts stay
-  pub end-outside : (i d : ℕ) → ((i < n + 1) × Contains (dart ∷ []) d → ⊥) → worth q m i d ≡ worth p l i d
+  pub end-outside : (i d : ℕ) → ((i < n + 1) × Contains (dart ∷ []) d → ⊥) → stored_value q m i d ≡ stored_value p l i d
   end-outside i d out = ended-outside k n rows After l m p q rules s dart live alone after-is sound-one laws-one taken-one i d (λ here. out ((only i d).1 here))
 
   pub end-content : content_of k n After m q rules ≡ without_dart (content_of k n rows l p rules) dart

@@ -18,12 +18,12 @@ use Rattle.value_laws.proofs.Renaming.{renamed}
 use Rattle.value_laws.proofs.MapValues.{kept_is_carried}
 use Rattle.value_laws.proofs.Rules.{keeps_whole}
 use Rattle.value_laws.proofs.Rising.{rising_one}
-use Rattle.attr_pool.specs.Stores.{Store, value_of}
-use Rattle.attr_pool.specs.Labelings.{Labeling, id_of, KeepsPlaces}
-use Rattle.transport.specs.Groups.{Group, group_at, rule_at, least_of, worth_of, labelled_value, IsTouchedCell, AreTouchedCells, HasCarriedValue}
-use Rattle.label_laws.specs.Stored.{worth, AreStored}
+use Rattle.store_defs.specs.Stores.{Store, value_of}
+use Rattle.store_defs.specs.Labelings.{Labeling, id_of, KeepsPlaces}
+use Rattle.store_defs.specs.Groups.{Group, group_at, rule_at, least_of, known_value, labelled_value, IsTouchedCell, AreTouchedCells, HasCarriedValue}
+use Rattle.label_laws.specs.Stored.{stored_value, AreStored}
 use Rattle.label_laws.specs.Changing.{AreTaken, IsGroupedBelow, AreGroupsGiven}
-use Rattle.label_laws.proofs.Storing.{AreSpared, worth-stays, stored-taken}
+use Rattle.label_laws.proofs.Storing.{AreSpared, stored_value-stays, stored-taken}
 use Rattle.label_laws.proofs.Giving.{AreCells, AreUpTo, groups-given, groups-places}
 use Rattle.label_laws.proofs.Reliving.{relived}
 
@@ -43,8 +43,8 @@ module _ (k : Kind) (n : ℕ) (old new : Rows) (w : Laws k (links_of old)) (wn :
       go None (Some c) e f = s.whole i y x c f (cell_back k (links_of old) w i x y cell) ∙ sym f
       go None None e f = e ∙ sym f
 
-  pub worth-equal : (i : ℕ) → AreEqualOnCells k i (links_of old) (IsLive old) (λ d. worth p l i d)
-  worth-equal i x y live cell = ap (labelled_value p) (ids-equal i x y cell)
+  pub stored_value-equal : (i : ℕ) → AreEqualOnCells k i (links_of old) (IsLive old) (λ d. stored_value p l i d)
+  stored_value-equal i x y live cell = ap (labelled_value p) (ids-equal i x y cell)
 
   -- an id stands for a value
   valued-id : (o : Option ℕ) → ((c : ℕ) → o ≡ Some c → IsSome (value_of p c)) → IsSome (labelled_value p o) → (c : ℕ) × (o ≡ Some c)
@@ -54,13 +54,13 @@ module _ (k : Kind) (n : ℕ) (old new : Rows) (w : Laws k (links_of old)) (wn :
   id-valued : (o : Option ℕ) (c : ℕ) → o ≡ Some c → IsSome (value_of p c) → IsSome (labelled_value p o)
   id-valued o c e v = subst (λ (z : Option ℕ). IsSome (labelled_value p z)) (sym e) v
 
-  alike-valued : (i x y : ℕ) → IsAlike (id_of l i) x y ↔ IsValuedWith k i (links_of old) (λ d. worth p l i d) x y
+  alike-valued : (i x y : ℕ) → IsAlike (id_of l i) x y ↔ IsValuedWith k i (links_of old) (λ d. stored_value p l i d) x y
   alike-valued i x y = (to, from)
     where
-      to : IsAlike (id_of l i) x y → IsValuedWith k i (links_of old) (λ d. worth p l i d) x y
+      to : IsAlike (id_of l i) x y → IsValuedWith k i (links_of old) (λ d. stored_value p l i d) x y
       to a = ((s.apart i x i y a.0 a.1 a.2).1, id-valued (id_of l i x) a.0 a.1 (s.held i x a.0 a.1))
 
-      from : IsValuedWith k i (links_of old) (λ d. worth p l i d) x y → IsAlike (id_of l i) x y
+      from : IsValuedWith k i (links_of old) (λ d. stored_value p l i d) x y → IsAlike (id_of l i) x y
       from v = let c = valued-id (id_of l i x) (λ c e. s.held i x c e) v.1 in (c.0, c.1, s.whole i x y c.0 c.1 v.0)
 
   -- The darts of Ended end, and the groups are the cells that were touched.
@@ -161,10 +161,10 @@ module _ (k : Kind) (n : ℕ) (old new : Rows) (w : Laws k (links_of old)) (wn :
           (g.0 ∙ taken.made, λ i. ((λ h. (taken.places i).0 ((g.1 i).0 h)), λ h. (g.1 i).1 ((taken.places i).1 h)))
 
       -- the values at places outside stay
-      pub worth-outside : (i d : ℕ) → (Place i d → ⊥) → worth q m i d ≡ worth p l i d
-      worth-outside i d out =
+      pub stored_value-outside : (i d : ℕ) → (Place i d → ⊥) → stored_value q m i d ≡ stored_value p l i d
+      stored_value-outside i d out =
           upto.others i d (λ g. out (inr g))
-          ∙ worth-stays k (links_of old) (links_of new) (IsLive old) (IsLive new) Place l mid p rest s taken spared i d out
+          ∙ stored_value-stays k (links_of old) (links_of new) (IsLive old) (IsLive new) Place l mid p rest s taken spared i d out
 
       -- a dimension without a rule has no ids
       pub bare-after : (i d : ℕ) → rule_at rules i ≡ None → id_of m i d ≡ None
@@ -181,46 +181,46 @@ module _ (k : Kind) (n : ℕ) (old new : Rows) (w : Laws k (links_of old)) (wn :
       module _ (hook : Meaning) (whole : KeepsWhole hook)
           (carried : (g : ℕ) → g < length groups → HasCarriedValue k (links_of new) (IsLive new) (id_of l) p hook rules (group_at groups g)) where
         abbrev Goal : ℕ → Rule → ℕ → Option Value → Type 0
-        Goal i rule d r = IsCarried (meaning_of hook rule) (λ x. known (worth p l i x)) (λ x. IsLive old x × IsLive new x)
-            (IsValuedWith k i (links_of old) (λ x. worth p l i x)) (InCell k (links_of new) i) d r
+        Goal i rule d r = IsCarried (meaning_of hook rule) (λ x. known (stored_value p l i x)) (λ x. IsLive old x × IsLive new x)
+            (IsValuedWith k i (links_of old) (λ x. stored_value p l i x)) (InCell k (links_of new) i) d r
 
-        valued-live : (i a x : ℕ) → IsValuedWith k i (links_of old) (λ y. worth p l i y) a x → IsLive old x
+        valued-live : (i a x : ℕ) → IsValuedWith k i (links_of old) (λ y. stored_value p l i y) a x → IsLive old x
         valued-live i a x v = let b = (alike-valued i a x).1 v in s.live i x b.0 b.2
 
         by-values : (i : ℕ) (rule : Rule) (d : ℕ) (r : Option Value)
-            → IsCarried (meaning_of hook rule) (worth_of p (id_of l i)) (IsLive new) (IsAlike (id_of l i)) (InCell k (links_of new) i) d r → Goal i rule d r
+            → IsCarried (meaning_of hook rule) (known_value p (id_of l i)) (IsLive new) (IsAlike (id_of l i)) (InCell k (links_of new) i) d r → Goal i rule d r
         by-values i rule d r a =
-            relived (IsLive new) (λ x. IsLive old x × IsLive new x) (IsValuedWith k i (links_of old) (λ x. worth p l i x)) (InCell k (links_of new) i)
-            (λ b x v h. (valued-live i b x v, h)) (λ b x v h. h.1) (meaning_of hook rule) (λ x. known (worth p l i x)) d r
-            (renamed (IsLive new) (IsAlike (id_of l i)) (IsValuedWith k i (links_of old) (λ x. worth p l i x)) (InCell k (links_of new) i)
-            (λ x y _ _. alike-valued i x y) (meaning_of hook rule) (worth_of p (id_of l i)) (λ x. known (worth p l i x)) (λ x _ _. refl) d r a)
+            relived (IsLive new) (λ x. IsLive old x × IsLive new x) (IsValuedWith k i (links_of old) (λ x. stored_value p l i x)) (InCell k (links_of new) i)
+            (λ b x v h. (valued-live i b x v, h)) (λ b x v h. h.1) (meaning_of hook rule) (λ x. known (stored_value p l i x)) d r
+            (renamed (IsLive new) (IsAlike (id_of l i)) (IsValuedWith k i (links_of old) (λ x. stored_value p l i x)) (InCell k (links_of new) i)
+            (λ x y _ _. alike-valued i x y) (meaning_of hook rule) (known_value p (id_of l i)) (λ x. known (stored_value p l i x)) (λ x _ _. refl) d r a)
 
-        grouped-carried : (i : ℕ) (rule : Rule) (d : ℕ) → rule_at rules i ≡ Some rule → IsGroupedBelow (length groups) groups i d → Goal i rule d (worth q m i d)
+        grouped-carried : (i : ℕ) (rule : Rule) (d : ℕ) → rule_at rules i ≡ Some rule → IsGroupedBelow (length groups) groups i d → Goal i rule d (stored_value q m i d)
         grouped-carried i rule d is g =
             let is-there : rule_at rules (group_at groups g.0).dim ≡ Some rule = ap (rule_at rules) (sym g.2) ∙ is in
             let at = by-values (group_at groups g.0).dim rule d (group_at groups g.0).value (carried g.0 g.1 rule d is-there g.3) in
             let back = subst (λ (v : Option Value). Goal (group_at groups g.0).dim rule d v) (sym (upto.values g.0 d g.1 g.3)) at in
-            subst (λ (j : ℕ). Goal j rule d (worth q m j d)) (sym g.2) back
+            subst (λ (j : ℕ). Goal j rule d (stored_value q m j d)) (sym g.2) back
 
-        told : (i d : ℕ) → (Place i d → ⊥) → IsTold (InCell k (links_of new) i d) ⊎ (worth p l i d ≡ None)
+        told : (i d : ℕ) → (Place i d → ⊥) → IsTold (InCell k (links_of new) i d) ⊎ (stored_value p l i d ≡ None)
         told i d out = go (id_of l i d) refl
           where
-            go : (o : Option ℕ) → id_of l i d ≡ o → IsTold (InCell k (links_of new) i d) ⊎ (worth p l i d ≡ None)
+            go : (o : Option ℕ) → id_of l i d ≡ o → IsTold (InCell k (links_of new) i d) ⊎ (stored_value p l i d ≡ None)
             go None e = inr (ap (labelled_value p) e)
             go (Some c) e = inl (λ x. (elim (some-or-not (id_of l i x) c) [
               | inl f ↦ inl (((spared-cell i d c out e).same x).1 (s.apart i d i x c e f).1)
               | inr no-id ↦ inr (λ cell. no-id (s.whole i d x c e (((spared-cell i d c out e).same x).0 cell)))
             ]))
 
-        spared-carried : (i : ℕ) (rule : Rule) (d : ℕ) → rule_at rules i ≡ Some rule → IsLive new d → (Place i d → ⊥) → Goal i rule d (worth q m i d)
+        spared-carried : (i : ℕ) (rule : Rule) (d : ℕ) → rule_at rules i ≡ Some rule → IsLive new d → (Place i d → ⊥) → Goal i rule d (stored_value q m i d)
         spared-carried i rule d is h out =
             let o = old-cell i d (subst (λ (z : Option Rule). IsSome z) (sym is) refl) h out in
             let kept = kept_is_carried k i (meaning_of hook rule) (links_of old) (links_of new) (IsLive old) (IsLive new) w wn (rows_lead_to_live k new wn)
-            (λ x. worth p l i x) (worth-equal i) d h o (keeps_whole hook rule whole) (told i d out) in
-            subst (λ (v : Option Value). Goal i rule d v) (sym (worth-outside i d out)) kept
+            (λ x. stored_value p l i x) (stored_value-equal i) d h o (keeps_whole hook rule whole) (told i d out) in
+            subst (λ (v : Option Value). Goal i rule d v) (sym (stored_value-outside i d out)) kept
 
         pub carried-after : (i : ℕ) (rule : Rule) → rule_at rules i ≡ Some rule
-            → AreCarried k i (meaning_of hook rule) (links_of old) (IsLive old) (λ x. worth p l i x) (links_of new) (IsLive new) (λ x. worth q m i x)
+            → AreCarried k i (meaning_of hook rule) (links_of old) (IsLive old) (λ x. stored_value p l i x) (links_of new) (IsLive new) (λ x. stored_value q m i x)
         carried-after i rule is d h = elim (taken.each i d) [
           | inl place ↦ elim place.0 [ inl gone ↦ absurd (ends d gone.1 h) | inr g ↦ grouped-carried i rule d is g ]
           | inr out ↦ spared-carried i rule d is h out.0

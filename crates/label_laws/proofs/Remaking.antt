@@ -7,16 +7,16 @@ use Rattle.map_defs.specs.Kind.{Kind}
 use Rattle.map_defs.specs.Links.{Links}
 use Rattle.map_defs.specs.Rows.{Rows, row_at, links_of, made, IsLive, IsSound, AreWide}
 use Rattle.map_defs.specs.Values.{Rule, Meaning}
-use Rattle.map_defs.specs.State.{Content}
+use Rattle.machine_defs.specs.State.{Content}
 use Rattle.map_defs.specs.Edits.{Edit, with_births, with_changes, after_edit, Fits}
-use Rattle.map_defs.specs.Relinking.{IsRelinked}
-use Rattle.link_rows.proofs.RowWrites.{births-wide, births-old, live-within}
-use Rattle.link_rows.proofs.EditSteps.{linked-live, linked-wide, buried-wide, buried-dead, buried-none}
-use Rattle.link_rows.proofs.EditSound.{length-after, length-births}
-use Rattle.link_rows.proofs.EditLinks.{lives-on}
-use Rattle.link_rows.proofs.EditBack.{born-live}
-use Rattle.attr_pool.specs.Stores.{Store}
-use Rattle.attr_pool.specs.Labelings.{Labeling}
+use Rattle.machine_defs.specs.Relinking.{IsRelinked}
+use Rattle.edit_laws.proofs.RowWrites.{births-wide, births-old, live-within}
+use Rattle.edit_laws.proofs.EditSteps.{linked-live, linked-wide, buried-wide, buried-dead, buried-none}
+use Rattle.edit_laws.proofs.EditSound.{length-after, length-births}
+use Rattle.edit_laws.proofs.EditLinks.{lives-on}
+use Rattle.edit_laws.proofs.EditBack.{born-live}
+use Rattle.store_defs.specs.Stores.{Store}
+use Rattle.store_defs.specs.Labelings.{Labeling}
 use Rattle.label_laws.specs.Contents.{content_of, IsCarriedOn}
 
 none-or-some : (o : Option (List ℕ)) → (o ≡ None) ⊎ IsSome o

@@ -12,20 +12,20 @@ use Rattle.link_laws.proofs.CellFacts.{cell_back}
 use Rattle.link_laws.proofs.RowFacts.{rows_lead_to_live}
 use Rattle.value_laws.proofs.Touching.{cell_live}
 use Rattle.value_laws.proofs.Rising.{rising_one}
-use Rattle.attr_pool.specs.Stores.{Store, value_of}
-use Rattle.attr_pool.specs.Labelings.{Labeling, id_of}
-use Rattle.transport.specs.Groups.{Group, group_at, least_of, labelled_value}
-use Rattle.label_laws.specs.Stored.{worth, AreStored}
+use Rattle.store_defs.specs.Stores.{Store, value_of}
+use Rattle.store_defs.specs.Labelings.{Labeling, id_of}
+use Rattle.store_defs.specs.Groups.{Group, group_at, least_of, labelled_value}
+use Rattle.label_laws.specs.Stored.{stored_value, AreStored}
 use Rattle.label_laws.specs.Changing.{AreTaken, IsGroupedBelow, AreGroupsGiven}
 use Rattle.label_laws.specs.Restoring.{IsRestored, AreRestored}
-use Rattle.label_laws.proofs.Storing.{AreSpared, worth-stays, stored-taken}
+use Rattle.label_laws.proofs.Storing.{AreSpared, stored_value-stays, stored-taken}
 use Rattle.label_laws.proofs.Giving.{AreCells, AreUpTo, groups-given}
 
 -- What is known of the values that the earlier map had: a place that is not changed has the value that its id stands for,
 -- a dart with a value lives in the earlier map and its dimension is one of those, and a cell has one value. A place that
 -- is changed is wanted, and a cell of such a dimension without a dart that is wanted is a cell of the later map.
 pub record IsEarlier (k : Kind) (old new : Rows) (l : Labeling) (p : Store) (Changed Wanted : ℕ → ℕ → Type 0) (Dims : ℕ → Type 0) (value : ℕ → ℕ → Option Value) : Type 0 where
-  pub stays : (i d : ℕ) → (Changed i d → ⊥) → value i d ≡ worth p l i d
+  pub stays : (i d : ℕ) → (Changed i d → ⊥) → value i d ≡ stored_value p l i d
   pub lives : (i d : ℕ) → IsSome (value i d) → IsLive new d
   pub ruled : (i d : ℕ) → IsSome (value i d) → Dims i
   pub equal : (i x y : ℕ) → IsLive new x → InCell k (links_of new) i x y → value i x ≡ value i y
@@ -119,34 +119,34 @@ module _ (k : Kind) (old new : Rows) (w : Laws k (links_of old)) (wn : Laws k (l
     pub stored-before : AreStored k (links_of new) (IsLive new) m q
     stored-before = upto.stored
 
-    grouped-worth : (i d : ℕ) → IsGroupedBelow (length groups) groups i d → worth q m i d ≡ value i d
-    grouped-worth i d g =
-        let there : worth q m (group_at groups g.0).dim d ≡ value (group_at groups g.0).dim d = upto.values g.0 d g.1 g.3 ∙ group-value g.0 d g.1 g.3 in
-        subst (λ (j : ℕ). worth q m j d ≡ value j d) (sym g.2) there
+    grouped-stored_value : (i d : ℕ) → IsGroupedBelow (length groups) groups i d → stored_value q m i d ≡ value i d
+    grouped-stored_value i d g =
+        let there : stored_value q m (group_at groups g.0).dim d ≡ value (group_at groups g.0).dim d = upto.values g.0 d g.1 g.3 ∙ group-value g.0 d g.1 g.3 in
+        subst (λ (j : ℕ). stored_value q m j d ≡ value j d) (sym g.2) there
 
     -- a place whose id was taken and that is of no group has no value
-    taken-worth : (i d : ℕ) → id_of mid i d ≡ None → (IsGroupedBelow (length groups) groups i d → ⊥) → worth q m i d ≡ None
-    taken-worth i d none out = upto.others i d out ∙ ap (labelled_value rest) none
+    taken-stored_value : (i d : ℕ) → id_of mid i d ≡ None → (IsGroupedBelow (length groups) groups i d → ⊥) → stored_value q m i d ≡ None
+    taken-stored_value i d none out = upto.others i d out ∙ ap (labelled_value rest) none
 
-    taken-value : (i d : ℕ) → id_of mid i d ≡ None → Changed i d → (v : Option Value) → value i d ≡ v → (o : Option Value) → worth q m i d ≡ o → worth q m i d ≡ value i d
+    taken-value : (i d : ℕ) → id_of mid i d ≡ None → Changed i d → (v : Option Value) → value i d ≡ v → (o : Option Value) → stored_value q m i d ≡ o → stored_value q m i d ≡ value i d
     taken-value i d none ch (Some v) is o has =
         let some : IsSome (value i d) = subst (λ (z : Option Value). IsSome z) (sym is) refl in
-        grouped-worth i d (r.all i d (e.ruled i d some) (e.wanted i d ch) (e.lives i d some))
+        grouped-stored_value i d (r.all i d (e.ruled i d some) (e.wanted i d ch) (e.lives i d some))
     taken-value i d none ch None is None has = has ∙ sym is
     taken-value i d none ch None is (Some v) has =
-        absurd (let out : IsGroupedBelow (length groups) groups i d → ⊥ = λ g. (let f = grouped-worth i d g in cc (f, is, has)) in
-        let f = taken-worth i d none out in cc (f, has))
+        absurd (let out : IsGroupedBelow (length groups) groups i d → ⊥ = λ g. (let f = grouped-stored_value i d g in cc (f, is, has)) in
+        let f = taken-stored_value i d none out in cc (f, has))
 
     -- the values are the earlier ones
-    pub worth-before : (i d : ℕ) → worth q m i d ≡ value i d
-    worth-before i d = elim (taken.each i d) [
+    pub stored_value-before : (i d : ℕ) → stored_value q m i d ≡ value i d
+    stored_value-before i d = elim (taken.each i d) [
       | inl place ↦ elim place.0 [
-        | inl ch ↦ taken-value i d place.1 ch (value i d) refl (worth q m i d) refl
-        | inr g ↦ grouped-worth i d g
+        | inl ch ↦ taken-value i d place.1 ch (value i d) refl (stored_value q m i d) refl
+        | inr g ↦ grouped-stored_value i d g
       ]
       | inr out ↦
           upto.others i d (λ g. out.0 (inr g))
-          ∙ worth-stays k (links_of old) (links_of new) (IsLive old) (IsLive new) Place l mid p rest s taken spared i d out.0
+          ∙ stored_value-stays k (links_of old) (links_of new) (IsLive old) (IsLive new) Place l mid p rest s taken spared i d out.0
           ∙ sym (e.stays i d (λ ch. out.0 (inl ch)))
     ]
 
@@ -157,5 +157,5 @@ module _ (k : Kind) (old new : Rows) (w : Laws k (links_of old)) (wn : Laws k (l
         go : (o : Option ℕ) → id_of m i d ≡ o → id_of m i d ≡ None
         go None is = is
         go (Some c) is = absurd
-            (false≢true (subst (λ (o : Option Value). IsSome o) (worth-before i d ∙ none)
+            (false≢true (subst (λ (o : Option Value). IsSome o) (stored_value-before i d ∙ none)
             (subst (λ (o : Option ℕ). IsSome (labelled_value q o)) (sym is) (upto.stored.held i d c is))))

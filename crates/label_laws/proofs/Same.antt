@@ -10,18 +10,18 @@ use Rattle.map_defs.specs.Carry.{IsCarried, AreCarried, IsValuedWith, known}
 use Rattle.map_defs.specs.Touched.{IsAlike}
 use Rattle.map_defs.specs.Cells.{InCell}
 use Rattle.value_laws.proofs.Renaming.{renamed}
-use Rattle.attr_pool.specs.Stores.{Store}
-use Rattle.attr_pool.specs.Labelings.{Labeling, id_of, KeepsIds}
-use Rattle.transport.specs.Groups.{Group, labelled_value, worth_of, HasCarriedValue}
-use Rattle.label_laws.specs.Stored.{worth, AreStored}
+use Rattle.store_defs.specs.Stores.{Store}
+use Rattle.store_defs.specs.Labelings.{Labeling, id_of, KeepsIds}
+use Rattle.store_defs.specs.Groups.{Group, labelled_value, known_value, HasCarriedValue}
+use Rattle.label_laws.specs.Stored.{stored_value, AreStored}
 use Rattle.label_laws.specs.Contents.{table, content_of}
 
 slots-same : (p q : Store) → q.slots ≡ p.slots → (o : Option ℕ) → labelled_value q o ≡ labelled_value p o
 slots-same p q e None = refl
 slots-same p q e (Some c) = ap (λ (xs : List (Option Value)). get_or xs c None) e
 
-pub worth-alike : (l m : Labeling) (p q : Store) → KeepsIds l m → q.slots ≡ p.slots → (i d : ℕ) → worth q m i d ≡ worth p l i d
-worth-alike l m p q ids e i d = ap (labelled_value q) (ids i d) ∙ slots-same p q e (id_of l i d)
+pub stored_value-alike : (l m : Labeling) (p q : Store) → KeepsIds l m → q.slots ≡ p.slots → (i d : ℕ) → stored_value q m i d ≡ stored_value p l i d
+stored_value-alike l m p q ids e i d = ap (labelled_value q) (ids i d) ∙ slots-same p q e (id_of l i d)
 
 pub stored-alike : (k : Kind) (L : Links) (Live : ℕ → Type 0) (l m : Labeling) (p q : Store) → KeepsIds l m → q.slots ≡ p.slots → AreStored k L Live l p → AreStored k L Live m q
 stored-alike k L Live l m p q ids same s = record {
@@ -35,7 +35,7 @@ pub carried-pool : (k : Kind) (L : Links) (Live : ℕ → Type 0) (l : Labeling)
     → HasCarriedValue k L Live (id_of l) p hook rules g → HasCarriedValue k L Live (id_of l) q hook rules g
 carried-pool k L Live l p q hook rules g e h rule d is here =
     renamed Live (IsAlike (id_of l g.dim)) (IsAlike (id_of l g.dim)) (InCell k L g.dim) (λ x y _ _. ((λ a. a), λ a. a)) (meaning_of hook rule)
-    (worth_of p (id_of l g.dim)) (worth_of q (id_of l g.dim)) (λ x _ _. ap known (sym (slots-same p q e (id_of l g.dim x)))) d g.value (h rule d is here)
+    (known_value p (id_of l g.dim)) (known_value q (id_of l g.dim)) (λ x _ _. ap known (sym (slots-same p q e (id_of l g.dim x)))) d g.value (h rule d is here)
 
 -- values that are the same everywhere are carried alike
 pub carried-alike : (k : Kind) (i : ℕ) (rule : Meaning) (L : Links) (Live : ℕ → Type 0) (values other : ℕ → Option Value) (N : Links) (LiveAfter : ℕ → Type 0) (after last : ℕ → Option Value)
@@ -69,4 +69,4 @@ table-same n places value other same =
 pub content-alike : (k : Kind) (n : ℕ) (rows : Rows) (l m : Labeling) (p q : Store) (rules : List (Option Rule)) → KeepsIds l m → q.slots ≡ p.slots
     → content_of k n rows m q rules ≡ content_of k n rows l p rules
 content-alike k n rows l m p q rules ids e =
-    ap (λ (vs : List (List (Option Value))). record (content_of k n rows l p rules) { values = vs }) (table-same n (length rows) (worth q m) (worth p l) (worth-alike l m p q ids e))
+    ap (λ (vs : List (List (Option Value))). record (content_of k n rows l p rules) { values = vs }) (table-same n (length rows) (stored_value q m) (stored_value p l) (stored_value-alike l m p q ids e))

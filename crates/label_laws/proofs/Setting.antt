@@ -8,18 +8,18 @@ use Rattle.map_defs.specs.Values.{Value}
 use Rattle.link_laws.proofs.Basics.{same_or_not}
 use Rattle.link_laws.proofs.CellFacts.{cell_back}
 use Rattle.value_laws.proofs.MapValues.{cell_trans}
-use Rattle.attr_pool.specs.Stores.{Store, value_of, IsHeld, IsPut}
-use Rattle.attr_pool.specs.Labelings.{Labeling, id_of}
-use Rattle.transport.specs.Groups.{labelled_value}
-use Rattle.label_laws.specs.Stored.{worth, AreStored}
+use Rattle.store_defs.specs.Stores.{Store, value_of, IsHeld, IsPut}
+use Rattle.store_defs.specs.Labelings.{Labeling, id_of}
+use Rattle.store_defs.specs.Groups.{labelled_value}
+use Rattle.label_laws.specs.Stored.{stored_value, AreStored}
 use Rattle.label_laws.specs.Changing.{AreTaken, AreGiven}
-use Rattle.label_laws.proofs.Storing.{AreSpared, stored-taken, worth-stays, stored-given, worth-given, worth-beside}
+use Rattle.label_laws.proofs.Storing.{AreSpared, stored-taken, stored_value-stays, stored-given, stored_value-given, stored_value-beside}
 
 -- The i-cell of d has this value now, or none, and the ids still tell the cells; all else has the value that it had.
 pub record IsSetIn (k : Kind) (L : Links) (Live : ℕ → Type 0) (i d : ℕ) (value : Option Value) (l m : Labeling) (p q : Store) : Type 0 where
   pub stored : AreStored k L Live m q
-  pub cell : (x : ℕ) → InCell k L i d x → worth q m i x ≡ value
-  pub others : (j x : ℕ) → (j ≡ i → InCell k L i d x → ⊥) → worth q m j x ≡ worth p l j x
+  pub cell : (x : ℕ) → InCell k L i d x → stored_value q m i x ≡ value
+  pub others : (j x : ℕ) → (j ≡ i → InCell k L i d x → ⊥) → stored_value q m j x ≡ stored_value p l j x
 
 module _ (k : Kind) (L : Links) (w : Laws k L) (Live : ℕ → Type 0) (l : Labeling) (p : Store) (s : AreStored k L Live l p) (i d : ℕ) where
   -- the value that its id stands for is replaced
@@ -60,8 +60,8 @@ module _ (k : Kind) (L : Links) (w : Laws k L) (Live : ℕ → Type 0) (l : Labe
     pub set-given : IsSetIn k L Live i d (Some value) l m p q
     set-given = record {
       stored = stored-given k L Live i (Contains darts) value l m p q s g (λ x h. live x ((are x).0 h)) cell-same cell-bare;
-      cell = λ x cell. worth-given k L Live i (Contains darts) value l m p q s g (λ x h. live x ((are x).0 h)) cell-same cell-bare x ((are x).1 cell);
-      others = λ j x out. worth-beside k L Live i (Contains darts) value l m p q s g (λ x h. live x ((are x).0 h)) cell-same cell-bare j x (λ e h. out e ((are x).0 h));
+      cell = λ x cell. stored_value-given k L Live i (Contains darts) value l m p q s g (λ x h. live x ((are x).0 h)) cell-same cell-bare x ((are x).1 cell);
+      others = λ j x out. stored_value-beside k L Live i (Contains darts) value l m p q s g (λ x h. live x ((are x).0 h)) cell-same cell-bare j x (λ e h. out e ((are x).0 h));
     }
 
   -- the ids of the cell are taken away
@@ -82,7 +82,7 @@ module _ (k : Kind) (L : Links) (w : Laws k L) (Live : ℕ → Type 0) (l : Labe
     set-taken = record {
       stored = stored-taken k L L Live Live Place l m p q s t cell-spared;
       cell = λ x cell. (elim (t.each i x) [ inl h ↦ ap (labelled_value q) h.1 | inr h ↦ absurd (h.0 (refl, (are x).1 cell)) ]);
-      others = λ j x out. worth-stays k L L Live Live Place l m p q s t cell-spared j x (λ h. out h.0 ((are x).0 h.1));
+      others = λ j x out. stored_value-stays k L L Live Live Place l m p q s t cell-spared j x (λ h. out h.0 ((are x).0 h.1));
     }
 
   -- where the cell has no id nothing changes

@@ -7,18 +7,18 @@ use Rattle.std.proofs.lemmas.List.FromFn.{length-map-range_with_len, get_or-map-
 use Rattle.map_defs.specs.Kind.{Kind}
 use Rattle.map_defs.specs.Rows.{Rows, IsLive, links_of}
 use Rattle.map_defs.specs.Values.{Value, Rule}
-use Rattle.map_defs.specs.State.{empty_content, no_values, value_at, HasPlaces}
-use Rattle.map_defs.specs.Kept.{IsKept}
+use Rattle.machine_defs.specs.State.{empty_content, no_values, value_at, HasPlaces}
+use Rattle.machine_defs.specs.Kept.{IsLawfulContent}
 use Rattle.link_laws.proofs.Told.{told_of_laws}
-use Rattle.link_rows.proofs.RowWrites.{live-within}
+use Rattle.edit_laws.proofs.RowWrites.{live-within}
 use Rattle.machine_laws.proofs.Born.{no-value}
-use Rattle.attr_pool.specs.Stores.{Store}
-use Rattle.attr_pool.specs.Labelings.{Labeling, id_of}
-use Rattle.transport.specs.Groups.{rule_at, labelled_value}
-use Rattle.label_laws.specs.Stored.{worth}
+use Rattle.store_defs.specs.Stores.{Store}
+use Rattle.store_defs.specs.Labelings.{Labeling, id_of}
+use Rattle.store_defs.specs.Groups.{rule_at, labelled_value}
+use Rattle.label_laws.specs.Stored.{stored_value}
 use Rattle.label_laws.specs.Contents.{table, all_rules, content_of}
 use Rattle.label_laws.specs.Maps.{IsStoredMap}
-use Rattle.label_laws.proofs.Relabelling.{worth-equal}
+use Rattle.label_laws.proofs.Relabelling.{stored_value-equal}
 
 -- what stands in a table
 pub table-long : (n places : ℕ) (value : ℕ → ℕ → Option Value) → length (table n places value) ≡ places
@@ -80,20 +80,20 @@ module _ (k : Kind) (n : ℕ) (rows : Rows) (l : Labeling) (p : Store) (rules : 
   pub id-low : (i d c : ℕ) → id_of l i d ≡ Some c → i < n + 1
   id-low i d c e = ruled-low n i rules s.ruled (some-rule (rule_at rules i) (λ none. let f = s.bare i d none in cc (e, f)))
 
-  none-unless : (i d : ℕ) → ((c : ℕ) → id_of l i d ≡ Some c → ⊥) → worth p l i d ≡ None
+  none-unless : (i d : ℕ) → ((c : ℕ) → id_of l i d ≡ Some c → ⊥) → stored_value p l i d ≡ None
   none-unless i d no-id = ap (labelled_value p) (go (id_of l i d) refl)
     where
       go : (o : Option ℕ) → id_of l i d ≡ o → id_of l i d ≡ None
       go None e = e
       go (Some c) e = absurd (no-id c e)
 
-  pub worth-dead : (i d : ℕ) → (IsLive rows d → ⊥) → worth p l i d ≡ None
-  worth-dead i d dead = none-unless i d (λ c e. dead (s.stored.live i d c e))
+  pub stored_value-dead : (i d : ℕ) → (IsLive rows d → ⊥) → stored_value p l i d ≡ None
+  stored_value-dead i d dead = none-unless i d (λ c e. dead (s.stored.live i d c e))
 
-  pub value-shown : (i d : ℕ) → value_at (content_of k n rows l p rules) i d ≡ worth p l i d
-  value-shown = table-value n (length rows) (worth p l)
+  pub value-shown : (i d : ℕ) → value_at (content_of k n rows l p rules) i d ≡ stored_value p l i d
+  value-shown = table-value n (length rows) (stored_value p l)
       (λ i d high. none-unless i d (λ c e. let low = id-low i d c e in omega arith))
-      (λ i d past. worth-dead i d (λ live. let within = live-within rows d live in omega arith))
+      (λ i d past. stored_value-dead i d (λ live. let within = live-within rows d live in omega arith))
 
   -- above the dimension of the map there are no values
   pub value-low : (i d : ℕ) → n + 1 ≤ i → value_at (content_of k n rows l p rules) i d ≡ None
@@ -101,12 +101,12 @@ module _ (k : Kind) (n : ℕ) (rows : Rows) (l : Labeling) (p : Store) (rules : 
 
   pub places-shown : HasPlaces (content_of k n rows l p rules)
   places-shown = record {
-    long = table-long n (length rows) (worth p l);
-    wide = λ d h. ap (λ (vs : List (Option Value)). length vs) (table-place n (length rows) (worth p l) d h) ∙ length-map-range_with_len (λ (i : ℕ). worth p l i d) 0 (n + 1);
-    none = λ i d dead. value-shown i d ∙ worth-dead i d dead;
+    long = table-long n (length rows) (stored_value p l);
+    wide = λ d h. ap (λ (vs : List (Option Value)). length vs) (table-place n (length rows) (stored_value p l) d h) ∙ length-map-range_with_len (λ (i : ℕ). stored_value p l i d) 0 (n + 1);
+    none = λ i d dead. value-shown i d ∙ stored_value-dead i d dead;
   }
 
-  pub kept-shown : IsKept (content_of k n rows l p rules)
+  pub kept-shown : IsLawfulContent (content_of k n rows l p rules)
   kept-shown = record {
     flat = s.flat;
     sound = s.sound;
@@ -114,7 +114,7 @@ module _ (k : Kind) (n : ℕ) (rows : Rows) (l : Labeling) (p : Store) (rules : 
     lawful = told_of_laws k (links_of rows) s.laws;
     places = places-shown;
     ruled = rules-long n rules s.ruled;
-    equal = λ i x y live cell. value-shown i x ∙ worth-equal k n rows rows s.laws s.laws l p s.stored i x y live cell ∙ sym (value-shown i y);
+    equal = λ i x y live cell. value-shown i x ∙ stored_value-equal k n rows rows s.laws s.laws l p s.stored i x y live cell ∙ sym (value-shown i y);
     none = λ i d none. value-shown i d ∙ ap (labelled_value p) (s.bare i d (sym (rule-shown n i rules) ∙ none));
   }
 
@@ -123,9 +123,9 @@ pub begun-content : (k : Kind) (n : ℕ) (l : Labeling) (p : Store) → ((i d : 
 begun-content k n l p bare = ap (λ (vs : List (Option Value)). record (empty_content k n) { values = vs ∷ [] }) row
   where
     one : ℕ → Option Value
-    one i = worth p l i 0
+    one i = stored_value p l i 0
 
-    row : map (λ (i : ℕ). worth p l i 0) (range_with_len 0 (n + 1)) ≡ no_values n
+    row : map (λ (i : ℕ). stored_value p l i 0) (range_with_len 0 (n + 1)) ≡ no_values n
     row =
         let long = length-map-range_with_len one 0 (n + 1) in
         let long' = length-replicate (n + 1) (let none : Option Value = None in none) in

@@ -5,10 +5,10 @@ use Rattle.map_defs.specs.Kind.{Kind}
 use Rattle.map_defs.specs.Links.{Links}
 use Rattle.map_defs.specs.Cells.{InCell}
 use Rattle.map_defs.specs.Values.{Value}
-use Rattle.attr_pool.specs.Stores.{Store, value_of, IsHeld}
-use Rattle.attr_pool.specs.Labelings.{Labeling, id_of}
-use Rattle.transport.specs.Groups.{labelled_value}
-use Rattle.label_laws.specs.Stored.{worth, AreStored}
+use Rattle.store_defs.specs.Stores.{Store, value_of, IsHeld}
+use Rattle.store_defs.specs.Labelings.{Labeling, id_of}
+use Rattle.store_defs.specs.Groups.{labelled_value}
+use Rattle.label_laws.specs.Stored.{stored_value, AreStored}
 use Rattle.label_laws.specs.Changing.{AreTaken, AreGiven}
 
 -- The cells that have ids at places outside go on as they were: their darts live, and none of them is of those places.
@@ -43,15 +43,15 @@ module _ (k : Kind) (L N : Links) (Live LiveAfter : ℕ → Type 0) (Place : ℕ
             let both = s.apart i d g.0 g.1 c e g.3 in
             absurd (a.clear i d c g.1 out e both.1 (subst (λ (j : ℕ). Place j g.1) both.0 g.2))
 
-    worth-same : (o : Option ℕ) → ((c : ℕ) → o ≡ Some c → value_of q c ≡ value_of p c) → labelled_value q o ≡ labelled_value p o
-    worth-same None same = refl
-    worth-same (Some c) same = same c refl
+    stored_value-same : (o : Option ℕ) → ((c : ℕ) → o ≡ Some c → value_of q c ≡ value_of p c) → labelled_value q o ≡ labelled_value p o
+    stored_value-same None same = refl
+    stored_value-same (Some c) same = same c refl
 
     -- what is not taken keeps its value
-    pub worth-stays : (i d : ℕ) → (Place i d → ⊥) → worth q m i d ≡ worth p l i d
-    worth-stays i d out = elim (t.each i d) [
+    pub stored_value-stays : (i d : ℕ) → (Place i d → ⊥) → stored_value q m i d ≡ stored_value p l i d
+    stored_value-stays i d out = elim (t.each i d) [
       | inl h ↦ absurd (out h.0)
-      | inr h ↦ ap (labelled_value q) h.1 ∙ worth-same (id_of l i d) (λ c e. same-value i d c out e)
+      | inr h ↦ ap (labelled_value q) h.1 ∙ stored_value-same (id_of l i d) (λ c e. same-value i d c out e)
     ]
 
     pub stored-taken : AreStored k N LiveAfter m q
@@ -112,18 +112,18 @@ module _ (k : Kind) (N : Links) (Live : ℕ → Type 0) (i : ℕ) (Darts : ℕ �
   }
 
   -- the darts have the value, and all else has the value that it had
-  pub worth-given : (d : ℕ) → Darts d → worth q m i d ≡ Some value
-  worth-given d h = elim (g.each i d) [
+  pub stored_value-given : (d : ℕ) → Darts d → stored_value q m i d ≡ Some value
+  stored_value-given d h = elim (g.each i d) [
     | inl y ↦ ap (labelled_value q) y.2 ∙ g.value_is
     | inr y ↦ absurd (y.0 refl h)
   ]
 
-  worth-unless : (o : Option ℕ) → ((c : ℕ) → o ≡ Some c → c ≢ g.id) → labelled_value q o ≡ labelled_value p o
-  worth-unless None other = refl
-  worth-unless (Some c) other = g.values c (other c refl)
+  stored_value-unless : (o : Option ℕ) → ((c : ℕ) → o ≡ Some c → c ≢ g.id) → labelled_value q o ≡ labelled_value p o
+  stored_value-unless None other = refl
+  stored_value-unless (Some c) other = g.values c (other c refl)
 
-  pub worth-beside : (j d : ℕ) → (j ≡ i → Darts d → ⊥) → worth q m j d ≡ worth p l j d
-  worth-beside j d out = elim (g.each j d) [
+  pub stored_value-beside : (j d : ℕ) → (j ≡ i → Darts d → ⊥) → stored_value q m j d ≡ stored_value p l j d
+  stored_value-beside j d out = elim (g.each j d) [
     | inl y ↦ absurd (out y.0 y.1)
-    | inr y ↦ ap (labelled_value q) y.1 ∙ worth-unless (id_of l j d) (λ c e. other-id j d c e)
+    | inr y ↦ ap (labelled_value q) y.1 ∙ stored_value-unless (id_of l j d) (λ c e. other-id j d c e)
   ]

@@ -1,7 +1,7 @@
 -- Ids that are taken away.
 use Rattle.std.proofs.Common.{ℕ, ◌≡◌, ◌⊎◌, ◌↔◌, inl, inr, refl, sym, ◌∙◌, Some, None, arith}
-use Rattle.attr_pool.specs.Stores.{Store, value_of}
-use Rattle.attr_pool.specs.Labelings.{Labeling, id_of}
+use Rattle.store_defs.specs.Stores.{Store, value_of}
+use Rattle.store_defs.specs.Labelings.{Labeling, id_of}
 use Rattle.label_laws.specs.Changing.{AreTaken}
 
 -- nothing taken

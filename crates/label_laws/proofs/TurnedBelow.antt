@@ -2,7 +2,7 @@
 use Rattle.std.proofs.Common.{ℕ, ◌≡◌, ◌≢◌, ◌↔◌, ◌+◌, ◌-◌, ◌<◌, ◌≤◌, inl, inr, refl, sym, ap, subst, ◌∙◌, arith}
 use Rattle.std.proofs.lemmas.Bool.{cases_lt, lt-ltb, le-ltb, eq-eqb}
 use Rattle.std.proofs.lemmas.Bool.Decides.{eqb_tells}
-use Rattle.attr_pool.specs.Labelings.{Labeling, id_of, HasPlaces, exchanged}
+use Rattle.store_defs.specs.Labelings.{Labeling, id_of, HasPlaces, exchanged}
 use Rattle.label_laws.specs.Turning.{turned_below, AreTurnedBelow}
 
 below-low : (n m i : ℕ) → i < m → turned_below n m i ≡ n - i

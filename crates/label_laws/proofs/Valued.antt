@@ -5,22 +5,22 @@ use Rattle.map_defs.specs.Kind.{Kind}
 use Rattle.map_defs.specs.Rows.{Rows, IsLive, links_of}
 use Rattle.map_defs.specs.Cells.{InCell}
 use Rattle.map_defs.specs.Values.{Value, Rule}
-use Rattle.map_defs.specs.State.{Content, rule_at as rule_in}
-use Rattle.map_defs.specs.Valuing.{IsValued}
+use Rattle.machine_defs.specs.State.{Content, rule_at as rule_in}
+use Rattle.machine_defs.specs.Valuing.{IsValued}
 use Rattle.link_laws.proofs.Basics.{same_or_not}
 use Rattle.link_laws.proofs.RowFacts.{rows_lead_to_live}
-use Rattle.link_rows.proofs.RowWrites.{live-within}
+use Rattle.edit_laws.proofs.RowWrites.{live-within}
 use Rattle.value_laws.proofs.Touching.{cell_live}
-use Rattle.attr_pool.specs.Stores.{Store, IsPut}
-use Rattle.attr_pool.specs.Labelings.{Labeling, id_of, KeepsIds, KeepsPlaces, HasPlaces as HasIdPlaces}
-use Rattle.transport.specs.Groups.{rule_at}
+use Rattle.store_defs.specs.Stores.{Store, IsPut}
+use Rattle.store_defs.specs.Labelings.{Labeling, id_of, KeepsIds, KeepsPlaces, HasPlaces as HasIdPlaces}
+use Rattle.store_defs.specs.Groups.{rule_at}
 use Rattle.label_laws.specs.Changing.{AreTaken, AreGiven}
 use Rattle.label_laws.specs.Contents.{content_of}
 use Rattle.label_laws.specs.Maps.{IsStoredMap}
 use Rattle.label_laws.proofs.Same.{stored-alike, content-alike}
 use Rattle.label_laws.proofs.Setting.{IsSetIn, set-replaced, set-given, set-taken, set-none}
 use Rattle.label_laws.proofs.Showing.{rule-shown}
-use Rattle.label_laws.proofs.Steps.{stored-set, valued-set, stored-grown}
+use Rattle.label_laws.proofs.LineSteps.{stored-set, valued-set, stored-grown}
 
 same-places : (l : Labeling) → KeepsPlaces l l
 same-places l j = ((λ h. h), λ h. h)

@@ -1,9 +1,9 @@
 -- Ids that are taken away, and ids that are given.
 use Rattle.std.specs.Prelude.{ℕ, zero, suc, ◌≡◌, ◌≢◌, ◌≤◌, ◌<◌, ◌⊎◌, List, length, Option, Some, None, Contains}
 use Rattle.map_defs.specs.Values.{Value}
-use Rattle.attr_pool.specs.Stores.{Store, value_of}
-use Rattle.attr_pool.specs.Labelings.{Labeling, id_of, KeepsPlaces}
-use Rattle.transport.specs.Groups.{Group, group_at}
+use Rattle.store_defs.specs.Stores.{Store, value_of}
+use Rattle.store_defs.specs.Labelings.{Labeling, id_of, KeepsPlaces}
+use Rattle.store_defs.specs.Groups.{Group, group_at}
 
 -- The ids of these places were taken away: each place is among them and has no id, or it is not and has the id that it
 -- had. A value that is gone had an id of such a place.

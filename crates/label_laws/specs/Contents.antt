@@ -4,11 +4,11 @@ use Rattle.std.specs.List.{range_with_len}
 use Rattle.map_defs.specs.Kind.{Kind}
 use Rattle.map_defs.specs.Rows.{Rows}
 use Rattle.map_defs.specs.Values.{Value, Rule, Meaning}
-use Rattle.map_defs.specs.State.{Content, HasPlaces, rule_at}
-use Rattle.map_defs.specs.Relinking.{AreCarriedBy}
-use Rattle.attr_pool.specs.Stores.{Store}
-use Rattle.attr_pool.specs.Labelings.{Labeling}
-use Rattle.label_laws.specs.Stored.{worth}
+use Rattle.machine_defs.specs.State.{Content, HasPlaces, rule_at}
+use Rattle.machine_defs.specs.Relinking.{AreCarriedBy}
+use Rattle.store_defs.specs.Stores.{Store}
+use Rattle.store_defs.specs.Labelings.{Labeling}
+use Rattle.label_laws.specs.Stored.{stored_value}
 
 -- the values of so many places, in each one for each dimension from 0 to n
 abbrev pub table : ℕ → ℕ → (ℕ → ℕ → Option Value) → List (List (Option Value))
@@ -20,7 +20,7 @@ all_rules n [] = replicate (n + 1) None
 all_rules n (rule ∷ rules) = rule ∷ rules
 
 abbrev pub content_of : Kind → ℕ → Rows → Labeling → Store → List (Option Rule) → Content
-content_of k n rows labels pool rules = record { kind = k; dim = n; rows = rows; values = table n (length rows) (worth pool labels); rules = all_rules n rules }
+content_of k n rows labels pool rules = record { kind = k; dim = n; rows = rows; values = table n (length rows) (stored_value pool labels); rules = all_rules n rules }
 
 -- the content with these rows, and with the values that the rules carry to its cells
 pub record IsCarriedOn (hook : Meaning) (c : Content) (rows : Rows) (next : Content) : Type 0 where

@@ -4,10 +4,10 @@ use Rattle.map_defs.specs.Kind.{Kind}
 use Rattle.map_defs.specs.Rows.{Rows, IsLive, links_of}
 use Rattle.map_defs.specs.Cells.{NamesCell}
 use Rattle.map_defs.specs.Values.{Value}
-use Rattle.map_defs.specs.Listing.{ListValue, IsBefore}
-use Rattle.attr_pool.specs.Stores.{Store}
-use Rattle.attr_pool.specs.Labelings.{Labeling}
-use Rattle.label_laws.specs.Stored.{worth}
+use Rattle.machine_defs.specs.Listing.{ListValue, IsBefore}
+use Rattle.store_defs.specs.Stores.{Store}
+use Rattle.store_defs.specs.Labelings.{Labeling}
+use Rattle.label_laws.specs.Stored.{stored_value}
 
 -- the line of a cell, if it has a value
 abbrev pub listed : ℕ → ℕ → Option Value → List ListValue
@@ -20,5 +20,5 @@ IsNamed k rows i d = IsLive rows d × NamesCell k (links_of rows) i d
 
 -- The values of the places among these are listed in order, by dimension and dart.
 pub record AreListed (labels : Labeling) (pool : Store) (Among : ℕ → ℕ → Type 0) (values : List ListValue) : Type 0 where
-  pub members : (v : ListValue) → Contains values v ↔ (Among v.dim v.dart × (worth pool labels v.dim v.dart ≡ Some v.value))
+  pub members : (v : ListValue) → Contains values v ↔ (Among v.dim v.dart × (stored_value pool labels v.dim v.dart ≡ Some v.value))
   pub ordered : (j k : ℕ) (d : ListValue) → j < k → k < length values → IsBefore (slice_index_or values j d) (slice_index_or values k d)

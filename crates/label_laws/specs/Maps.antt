@@ -4,9 +4,9 @@ use Rattle.map_defs.specs.Kind.{Kind}
 use Rattle.map_defs.specs.Laws.{Laws}
 use Rattle.map_defs.specs.Rows.{Rows, IsLive, IsSound, links_of, made}
 use Rattle.map_defs.specs.Values.{Rule}
-use Rattle.attr_pool.specs.Stores.{Store}
-use Rattle.attr_pool.specs.Labelings.{Labeling, id_of, HasPlaces}
-use Rattle.transport.specs.Groups.{rule_at}
+use Rattle.store_defs.specs.Stores.{Store}
+use Rattle.store_defs.specs.Labelings.{Labeling, id_of, HasPlaces}
+use Rattle.store_defs.specs.Groups.{rule_at}
 use Rattle.label_laws.specs.Stored.{AreStored}
 
 pub record IsStoredMap (k : Kind) (n : ℕ) (rows : Rows) (labels : Labeling) (pool : Store) (rules : List (Option Rule)) : Type 0 where

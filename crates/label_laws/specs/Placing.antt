@@ -4,7 +4,7 @@ use Rattle.map_defs.specs.Kind.{Kind}
 use Rattle.map_defs.specs.Links.{Links}
 use Rattle.map_defs.specs.Cells.{InCell}
 use Rattle.map_defs.specs.Values.{Place}
-use Rattle.transport.specs.Groups.{Group, group_at}
+use Rattle.store_defs.specs.Groups.{Group, group_at}
 
 -- The group is the 0-cell of the place's dart, and has the place's value.
 pub record IsPlacedCell (k : Kind) (L : Links) (place : Place) (g : Group) : Type 0 where

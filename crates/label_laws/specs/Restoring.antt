@@ -5,7 +5,7 @@ use Rattle.map_defs.specs.Kind.{Kind}
 use Rattle.map_defs.specs.Links.{Links}
 use Rattle.map_defs.specs.Cells.{InCell}
 use Rattle.map_defs.specs.Values.{Value}
-use Rattle.transport.specs.Groups.{Group, group_at, least_of, IsBefore}
+use Rattle.store_defs.specs.Groups.{Group, group_at, least_of, IsBefore}
 use Rattle.label_laws.specs.Changing.{IsGroupedBelow}
 
 -- The group is a cell of live darts of one of these dimensions, and has the value that its least dart is to have.

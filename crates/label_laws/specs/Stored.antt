@@ -4,13 +4,13 @@ use Rattle.map_defs.specs.Kind.{Kind}
 use Rattle.map_defs.specs.Links.{Links}
 use Rattle.map_defs.specs.Cells.{InCell}
 use Rattle.map_defs.specs.Values.{Value}
-use Rattle.attr_pool.specs.Stores.{Store, IsHeld}
-use Rattle.attr_pool.specs.Labelings.{Labeling, id_of}
-use Rattle.transport.specs.Groups.{labelled_value}
+use Rattle.store_defs.specs.Stores.{Store, IsHeld}
+use Rattle.store_defs.specs.Labelings.{Labeling, id_of}
+use Rattle.store_defs.specs.Groups.{labelled_value}
 
 -- the value of the i-cell of dart d, by its id
-abbrev pub worth : Store → Labeling → ℕ → ℕ → Option Value
-worth pool labels i d = labelled_value pool (id_of labels i d)
+abbrev pub stored_value : Store → Labeling → ℕ → ℕ → Option Value
+stored_value pool labels i d = labelled_value pool (id_of labels i d)
 
 -- Only live darts have ids, and these stand for values; the darts of one cell have the same id, or none; and the darts of
 -- two cells never have the same.

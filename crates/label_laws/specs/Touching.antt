@@ -4,8 +4,8 @@ use Rattle.map_defs.specs.Kind.{Kind}
 use Rattle.map_defs.specs.Rows.{Rows, IsLive, links_of}
 use Rattle.map_defs.specs.Touched.{Touches}
 use Rattle.map_defs.specs.Values.{Rule}
-use Rattle.attr_pool.specs.Labelings.{Labeling, HasPlaces as HasIdPlaces}
-use Rattle.transport.specs.Groups.{Group, rule_at, AreTouchedCells}
+use Rattle.store_defs.specs.Labelings.{Labeling, HasPlaces as HasIdPlaces}
+use Rattle.store_defs.specs.Groups.{Group, rule_at, AreTouchedCells}
 
 -- place is made for an id of each dart of the group
 pub record CanLabel (dimension : ℕ) (labels : Labeling) (g : Group) : Type 0 where

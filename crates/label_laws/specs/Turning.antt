@@ -1,6 +1,6 @@
 -- Ids that go to other dimensions, as the cells of a map do in its dual.
 use Rattle.std.specs.Prelude.{ℕ, ◌≡◌, ◌-◌, ◌↔◌, nat_lt, if◌then◌else◌}
-use Rattle.attr_pool.specs.Labelings.{Labeling, id_of, HasPlaces}
+use Rattle.store_defs.specs.Labelings.{Labeling, id_of, HasPlaces}
 
 -- the dimension of a map of dimension n whose cells are those of dimension i of its dual
 abbrev pub turned : ℕ → ℕ → ℕ

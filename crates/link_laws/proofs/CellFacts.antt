@@ -3,13 +3,13 @@ use Rattle.std.proofs.Common.{◌≡◌, ◌≢◌, ◌+◌, ◌≤◌, ℕ, zer
 use Rattle.map_defs.specs.Kind.{Kind, alpha, beta, inverse}
 use Rattle.map_defs.specs.Links.{Links, IsMadeUpTo}
 use Rattle.map_defs.specs.Laws.{Laws}
-use Rattle.map_defs.specs.Words.{Word, one_link, two_links, through, through_second, inverse_word, IsCellWord}
+use Rattle.map_defs.specs.LinkWords.{LinkWord, one_link, two_links, through, through_second, inverse_word, IsCellWord}
 use Rattle.link_laws.proofs.Orbits.{orbit_dart}
 use Rattle.link_laws.proofs.CellTurns.{word_turns, step_turns, cell_turns}
 use Rattle.map_defs.specs.Cells.{InOrbit, here, onward, Leads, InCell}
 
 -- an orbit of a dart does not hold 0
-pub orbit_nonzero : (L : Links) (W : Word → Type 0) {d x : ℕ} → d ≢ 0 → InOrbit (Leads L W) d x → x ≢ 0
+pub orbit_nonzero : (L : Links) (W : LinkWord → Type 0) {d x : ℕ} → d ≢ 0 → InOrbit (Leads L W) d x → x ≢ 0
 orbit_nonzero L W {d = d} {x = x} n o = orbit_dart (Leads L W) (λ u v s. s.3) d x n o
 
 module _ (k : Kind) (L : Links) (w : Laws k L) (made : ℕ) (bound : IsMadeUpTo made L) where
@@ -22,19 +22,19 @@ module _ (k : Kind) (L : Links) (w : Laws k L) (made : ℕ) (bound : IsMadeUpTo 
       u_zero : L (inverse k t) y ≡ 0 → u ≡ 0
       u_zero z = cc (z, e, back)
 
-  word_low : (v : Word) (x y : ℕ) → through L v x ≡ y → y ≢ 0 → y ≤ made
+  word_low : (v : LinkWord) (x y : ℕ) → through L v x ≡ y → y ≢ 0 → y ≤ made
   word_low v x y e n = go v.second e
     where
       go : (s : Option ℕ) → through_second L s (L v.first x) ≡ y → y ≤ made
       go None f = led_low v.first x y f n
       go (Some j) f = led_low j (L v.first x) y f n
 
-  pub orbit_bounded : (W : Word → Type 0) {d x : ℕ} → InOrbit (Leads L W) d x → x ≤ made + d
+  pub orbit_bounded : (W : LinkWord → Type 0) {d x : ℕ} → InOrbit (Leads L W) d x → x ≤ made + d
   orbit_bounded W here = omega arith
   orbit_bounded W (onward o s) = let h = word_low s.0 _ _ s.2 s.3 in omega arith
 
 -- the word that leads back leads back
-pub word_back : (k : Kind) (L : Links) → Laws k L → (v : Word) (x y : ℕ) → through L v x ≡ y → y ≢ 0 → through L (inverse_word k v) y ≡ x
+pub word_back : (k : Kind) (L : Links) → Laws k L → (v : LinkWord) (x y : ℕ) → through L v x ≡ y → y ≢ 0 → through L (inverse_word k v) y ≡ x
 word_back k L w v x y e n = word_turns k L w.nil w.back v x y e n
 
 -- each step along a cell can be taken back

@@ -2,7 +2,7 @@
 use Rattle.std.proofs.Common.{ℕ, zero, suc, ◌≡◌, ◌≢◌, sym, ap, inl, inr, ◌∙◌, arith}
 use Rattle.map_defs.specs.Kind.{Kind, alpha, beta, inverse}
 use Rattle.map_defs.specs.Links.{Links}
-use Rattle.map_defs.specs.Words.{Word, one_link, through, IsCellWord, inverse_word}
+use Rattle.map_defs.specs.LinkWords.{LinkWord, one_link, through, IsCellWord, inverse_word}
 use Rattle.map_defs.specs.Cells.{here, onward, InCell}
 use Rattle.link_laws.proofs.CellFacts.{alpha_closed, beta_closed}
 
@@ -16,7 +16,7 @@ cell_on k i all_alpha N j d x n h m = alpha_closed N i j d x n h m
 cell_on k i (all_beta {i = c}) N j d x n h m = beta_closed N c j d x n h m
 
 -- a word of such a cell is one link, and not the cell's own
-pub word_one : (k : Kind) (i : ℕ) → RunsAlongAll k i → (v : Word) → IsCellWord k i v → (j : ℕ) × (j ≢ i) × (v ≡ one_link j)
+pub word_one : (k : Kind) (i : ℕ) → RunsAlongAll k i → (v : LinkWord) → IsCellWord k i v → (j : ℕ) × (j ≢ i) × (v ≡ one_link j)
 word_one k i all_alpha v (inl p) = p
 word_one k i all_alpha v (inr (u, (j, n, e), g)) = (j, n, g ∙ ap (inverse_word alpha) e)
 word_one k i (all_beta {i = c}) v (inl (j, l, n, e)) = (j, n, e)

@@ -3,12 +3,12 @@
 use Rattle.std.proofs.Common.{◌≡◌, ◌≢◌, ◌⊎◌, ℕ, inl, inr, refl, sym, ap, ap₂, subst, ◌∙◌, Option, Some, None}
 use Rattle.map_defs.specs.Kind.{Kind, inverse}
 use Rattle.map_defs.specs.Links.{Links}
-use Rattle.map_defs.specs.Words.{Word, one_link, two_links, through, inverse_word, IsCellWord}
+use Rattle.map_defs.specs.LinkWords.{LinkWord, one_link, two_links, through, inverse_word, IsCellWord}
 use Rattle.map_defs.specs.Cells.{InOrbit, here, onward, Leads, InCell}
 use Rattle.link_laws.proofs.Basics.{same_or_not, inverse_twice}
 use Rattle.link_laws.proofs.Orbits.{orbit_back}
 
-pub inverse_word_twice : (k : Kind) (v : Word) → inverse_word k (inverse_word k v) ≡ v
+pub inverse_word_twice : (k : Kind) (v : LinkWord) → inverse_word k (inverse_word k v) ≡ v
 inverse_word_twice k v = go v.first v.second
   where
     go : (f : ℕ) (s : Option ℕ) → inverse_word k (inverse_word k (record { first = f; second = s })) ≡ record { first = f; second = s }
@@ -20,7 +20,7 @@ module _ (k : Kind) (L : Links) (nil : (i : ℕ) → L i 0 ≡ 0) (back : (i x :
   link_turns i x y h e = ap (L (inverse k i)) (sym e) ∙ back i x (λ z. h (sym e ∙ z))
 
   -- the word that leads back leads back
-  pub word_turns : (v : Word) (x y : ℕ) → through L v x ≡ y → y ≢ 0 → through L (inverse_word k v) y ≡ x
+  pub word_turns : (v : LinkWord) (x y : ℕ) → through L v x ≡ y → y ≢ 0 → through L (inverse_word k v) y ≡ x
   word_turns v x y e n = go v.first v.second e
     where
       go : (f : ℕ) (s : Option ℕ) → through L (record { first = f; second = s }) x ≡ y → through L (inverse_word k (record { first = f; second = s })) y ≡ x
@@ -38,7 +38,7 @@ module _ (k : Kind) (L : Links) (nil : (i : ℕ) → L i 0 ≡ 0) (back : (i x :
       go (inl r) = (inverse_word k s.0, inr (s.0, r, refl), word_turns s.0 x y s.2 s.3, m)
       go (inr r) = (r.0, inl r.1, subst (λ v. through L v y ≡ x) (ap (inverse_word k) r.2 ∙ inverse_word_twice k r.0) (word_turns s.0 x y s.2 s.3), m)
 
-  word_nowhere : (v : Word) → through L v 0 ≡ 0
+  word_nowhere : (v : LinkWord) → through L v 0 ≡ 0
   word_nowhere v = go v.first v.second
     where
       go : (f : ℕ) (s : Option ℕ) → through L (record { first = f; second = s }) 0 ≡ 0

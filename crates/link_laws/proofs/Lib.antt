@@ -8,7 +8,7 @@ pub mod SewnBack
 pub mod Pigeonhole
 pub mod SameRows
 pub mod Orbits
-pub mod Turned
+pub mod InverseLinks
 pub mod Walking
 pub mod CellTurns
 pub mod CellFacts

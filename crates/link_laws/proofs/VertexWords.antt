@@ -1,10 +1,10 @@
 -- The words of a vertex of a combinatorial map.
 use Rattle.std.proofs.Common.{ℕ, zero, suc, ◌<◌, ◌≤◌, ap, inl, inr, ◌∙◌, arith}
 use Rattle.map_defs.specs.Kind.{beta, inverse}
-use Rattle.map_defs.specs.Words.{Word, two_links, IsCellWord, inverse_word}
+use Rattle.map_defs.specs.LinkWords.{LinkWord, two_links, IsCellWord, inverse_word}
 
 -- the words of a vertex: with link 1, with its inverse, and with two higher links
-pub data IsVertexStep : Word → Type 0 where
+pub data IsVertexStep : LinkWord → Type 0 where
   leave : (j : ℕ) → 2 ≤ j → IsVertexStep (two_links j 1)
   enter : (j : ℕ) → 2 ≤ j → IsVertexStep (two_links 0 j)
   pass : (i j : ℕ) → 2 ≤ i → 2 ≤ j → IsVertexStep (two_links i j)
@@ -21,6 +21,6 @@ enter_or_pass (suc i) (suc zero) a b = absurd (omega arith)
 enter_or_pass (suc zero) (suc (suc j)) a b = enter (suc (suc j)) (omega arith)
 enter_or_pass (suc (suc i)) (suc (suc j)) a b = pass (suc (suc i)) (suc (suc j)) (omega arith) (omega arith)
 
-pub vertex_word : (w : Word) → IsCellWord beta 0 w → IsVertexStep w
+pub vertex_word : (w : LinkWord) → IsCellWord beta 0 w → IsVertexStep w
 vertex_word w (inl (i, j, a, b, e)) = rw e (leave_or_pass i j a b)
 vertex_word w (inr (v, (i, j, a, b, e), g)) = rw (g ∙ ap (inverse_word beta) e) (enter_or_pass i j a b)

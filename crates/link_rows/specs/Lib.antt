@@ -2,4 +2,3 @@ pub use Rattle.map_defs.specs.Rows
 pub use Rattle.map_defs.specs.Edits
 pub use Rattle.map_defs.specs.Polygon
 pub use Rattle.dart_arena.specs.Stock
-pub mod BirthChanges

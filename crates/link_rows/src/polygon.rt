@@ -4,7 +4,7 @@ ghost use Rattle.map_defs.specs.Rows.{links_of, made};
 ghost use Rattle.map_defs.specs.Laws.{Laws};
 ghost use Rattle.map_defs.specs.Edits.{Fits, after_edit};
 ghost use Rattle.map_defs.specs.Polygon.{per_side, polygon_rows, side_rows, next_side, previous_side};
-ghost use Rattle.link_rows.specs.BirthChanges.{birth_changes};
+ghost use Rattle.edit_laws.specs.BirthChanges.{birth_changes};
 
 use crate::edit::{Change, Edit};
 use crate::links::Links;

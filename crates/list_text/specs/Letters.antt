@@ -1,7 +1,6 @@
 -- The letters by which listings name the kinds of map.
 use Rattle.std.specs.Prelude.{ℕ, ◌≡◌, ◌==◌, if◌then◌else◌}
-use Rattle.map_defs.specs.Kind.{Kind, alpha, beta}
-use Rattle.map_defs.specs.Text.{letter}
+use Rattle.map_defs.specs.Kind.{Kind, alpha, beta, letter}
 
 -- the kind that a letter names
 abbrev pub kind_named : ℕ → Kind

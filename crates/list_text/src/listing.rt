@@ -10,7 +10,7 @@ pub struct ListRow {
 }
 
 impl Model for ListRow {
-    ghost use Rattle.map_defs.specs.Listing as listing;
+    ghost use Rattle.machine_defs.specs.Listing as listing;
 
     ghost Value = { listing.ListRow };
 
@@ -25,7 +25,7 @@ pub struct ListValue {
 }
 
 impl Model for ListValue {
-    ghost use Rattle.map_defs.specs.Listing as listing;
+    ghost use Rattle.machine_defs.specs.Listing as listing;
 
     ghost Value = { listing.ListValue };
 
@@ -51,7 +51,7 @@ pub struct Listing {
 }
 
 impl Model for Listing {
-    ghost use Rattle.map_defs.specs.Listing as listing;
+    ghost use Rattle.machine_defs.specs.Listing as listing;
 
     ghost Value = { listing.Listing };
 

@@ -1,7 +1,7 @@
 //! The text of a listing, appended line by line.
 ghost use Rattle.std.specs.Prelude.{◌≡◌, ◌++◌, ◌∷◌, IfOk, OnOk};
 ghost use Rattle.std.specs.List.{flat_map};
-ghost use Rattle.map_defs.specs.Text.{header_line, row_text, value_text, listing_text};
+ghost use Rattle.machine_defs.specs.Text.{header_line, row_text, value_text, listing_text};
 
 use crate::{ListRow, ListValue, Listing};
 use itoa::{Buffer, Integer};

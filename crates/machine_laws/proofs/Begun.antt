@@ -5,9 +5,9 @@ use Rattle.map_defs.specs.Kind.{Kind, inverse}
 use Rattle.map_defs.specs.Values.{Value}
 use Rattle.map_defs.specs.Laws.{Laws}
 use Rattle.map_defs.specs.Rows.{Rows, links_of}
-use Rattle.map_defs.specs.State.{Content, empty_state, value_at}
-use Rattle.map_defs.specs.Kept.{IsKept, AreMarksKept, AreKept}
-use Rattle.map_defs.specs.Loading.{first_state}
+use Rattle.machine_defs.specs.State.{Content, empty_state, value_at}
+use Rattle.machine_defs.specs.Kept.{IsLawfulContent, AreMarksKept, IsLawfulState}
+use Rattle.machine_defs.specs.Loading.{first_state}
 use Rattle.link_laws.proofs.Told.{told_of_laws}
 use Rattle.machine_laws.proofs.Born.{no-value}
 
@@ -57,7 +57,7 @@ no-marks c = record {
   copies = λ p z h. absurd (omega arith);
 }
 
-pub empty-kept : (k : Kind) (n : ℕ) → 2 ≤ n → AreKept (empty_state k n)
+pub empty-kept : (k : Kind) (n : ℕ) → 2 ≤ n → IsLawfulState (empty_state k n)
 empty-kept k n flat = record {
   present = record {
     flat = flat;
@@ -82,5 +82,5 @@ empty-kept k n flat = record {
 }
 
 -- a content that is kept makes a state that is kept
-pub first-kept : (c : Content) → IsKept c → AreKept (first_state c)
+pub first-kept : (c : Content) → IsLawfulContent c → IsLawfulState (first_state c)
 first-kept c kept = record { present = kept; past = λ i d h. absurd (omega arith); marks = λ i d h. absurd (omega arith); marked = no-marks c; undone = λ i d h. absurd (omega arith) }

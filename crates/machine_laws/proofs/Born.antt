@@ -6,15 +6,15 @@ use Rattle.map_defs.specs.Kind.{Kind, inverse}
 use Rattle.map_defs.specs.Links.{Links}
 use Rattle.map_defs.specs.Laws.{Laws}
 use Rattle.map_defs.specs.Rows.{Rows, IsLive, entry_of, links_of, IsSound}
-use Rattle.map_defs.specs.Words.{through_second}
+use Rattle.map_defs.specs.LinkWords.{through_second}
 use Rattle.map_defs.specs.Cells.{here, onward, InCell}
 use Rattle.map_defs.specs.Values.{Value}
 use Rattle.map_defs.specs.Carry.{AreEqualOnCells}
-use Rattle.map_defs.specs.State.{Content, with_born, no_values, value_at, rule_at, HasPlaces}
-use Rattle.map_defs.specs.Kept.{IsKept}
+use Rattle.machine_defs.specs.State.{Content, with_born, no_values, value_at, rule_at, HasPlaces}
+use Rattle.machine_defs.specs.Kept.{IsLawfulContent}
 use Rattle.link_laws.proofs.Basics.{same_or_not}
 use Rattle.link_laws.proofs.Told.{told_of_laws}
-use Rattle.link_rows.proofs.RowWrites.{live-within}
+use Rattle.edit_laws.proofs.RowWrites.{live-within}
 
 -- N are the links L with new darts from `first` upwards, which are linked among each other alone
 module _ (k : Kind) (L N : Links) (first : ℕ) (low : 1 ≤ first) (old : (t x : ℕ) → x < first → N t x ≡ L t x) (below : (t x : ℕ) → L t x < first) (lawful : Laws k N) where
@@ -55,7 +55,7 @@ no-value (suc m) zero = refl
 no-value (suc m) (suc i) = no-value m i
 
 -- a content with new darts behind
-module _ (c : Content) (kept : IsKept c) (born : List (List ℕ))
+module _ (c : Content) (kept : IsLawfulContent c) (born : List (List ℕ))
     (sound : IsSound c.kind c.dim (with_born c born).rows) (lawful : Laws c.kind (links_of (with_born c born).rows)) where
   abbrev next : Content
   next = with_born c born
@@ -129,7 +129,7 @@ module _ (c : Content) (kept : IsKept c) (born : List (List ℕ))
         | inr over ↦ new-value i d over
       ]
 
-  pub kept-born : IsKept next
+  pub kept-born : IsLawfulContent next
   kept-born = record {
     flat = kept.flat;
     sound = sound;

@@ -8,14 +8,14 @@ use Rattle.map_defs.specs.Rows.{IsLive, links_of, IsSound}
 use Rattle.map_defs.specs.Cells.{InCell}
 use Rattle.map_defs.specs.Values.{Rule}
 use Rattle.map_defs.specs.Carry.{AreEqualOnCells}
-use Rattle.map_defs.specs.State.{Content, value_at, rule_at}
+use Rattle.machine_defs.specs.State.{Content, value_at, rule_at}
 use Rattle.map_defs.specs.Dual.{IsDualable}
-use Rattle.map_defs.specs.Dualling.{IsDualOf}
-use Rattle.map_defs.specs.Kept.{IsKept}
+use Rattle.machine_defs.specs.Dualling.{IsDualOf}
+use Rattle.machine_defs.specs.Kept.{IsLawfulContent}
 use Rattle.link_laws.proofs.Told.{told_of_laws}
 use Rattle.link_laws.proofs.SameRows.{same_rows}
 use Rattle.dual_laws.proofs.DualLaws.{dual_laws, dual_cells, dual_one}
-use Rattle.value_laws.proofs.ValueFacts.{value-above, values-one, same-content}
+use Rattle.journal_laws.proofs.ContentFacts.{value-above, values-one, same-content}
 use Rattle.machine_laws.proofs.Keeping.{laws-of, dead-at, sound-of}
 
 module _ (c a b : Content) (p : IsDualOf c a) (q : IsDualOf c b) where
@@ -35,7 +35,7 @@ module _ (c a b : Content) (p : IsDualOf c a) (q : IsDualOf c b) where
           (λ i d within live. let low = subst (λ (n : ℕ). i ≤ n) p.dim within in p.values i d low ∙ sym (q.values i d low))
 
 -- the dual of a content that has one
-module _ (c : Content) (kept : IsKept c) (can : IsDualable c.kind c.dim (links_of c.rows) (IsLive c.rows)) (next : Content) (r : IsDualOf c next) where
+module _ (c : Content) (kept : IsLawfulContent c) (can : IsDualable c.kind c.dim (links_of c.rows) (IsLive c.rows)) (next : Content) (r : IsDualOf c next) where
   lawful : Laws c.kind (links_of next.rows)
   lawful = dual_laws c.dim c.rows kept.flat c.kind (links_of next.rows) (laws-of c kept) can r.links
 
@@ -75,7 +75,7 @@ module _ (c : Content) (kept : IsKept c) (can : IsDualable c.kind c.dim (links_o
   ruled : length next.rules ≡ next.dim + 1
   ruled = ap (λ (rules : List (Option Rule)). length rules) r.rules ∙ length-reverse c.rules ∙ kept.ruled ∙ ap (λ (n : ℕ). n + 1) (sym r.dim)
 
-  pub kept-dualled : IsKept next
+  pub kept-dualled : IsLawfulContent next
   kept-dualled = record {
     flat = rw r.dim kept.flat;
     sound = subst (λ (k : Kind). IsSound k next.dim next.rows) (sym r.kind) (subst (λ (n : ℕ). IsSound c.kind n next.rows) (sym r.dim) sound);

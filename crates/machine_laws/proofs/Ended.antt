@@ -5,17 +5,17 @@ use Rattle.map_defs.specs.Kind.{Kind}
 use Rattle.map_defs.specs.Links.{Links}
 use Rattle.map_defs.specs.Laws.{Laws}
 use Rattle.map_defs.specs.Rows.{IsLive, links_of, IsSound}
-use Rattle.map_defs.specs.Words.{through_second}
+use Rattle.map_defs.specs.LinkWords.{through_second}
 use Rattle.map_defs.specs.Cells.{here, onward, InCell}
 use Rattle.map_defs.specs.Values.{Value}
 use Rattle.map_defs.specs.Carry.{AreEqualOnCells}
-use Rattle.map_defs.specs.State.{Content, without_dart, no_values, value_at, rule_at, HasPlaces}
-use Rattle.map_defs.specs.Kept.{IsKept}
+use Rattle.machine_defs.specs.State.{Content, without_dart, no_values, value_at, rule_at, HasPlaces}
+use Rattle.machine_defs.specs.Kept.{IsLawfulContent}
 use Rattle.link_laws.proofs.Basics.{same_or_not}
 use Rattle.link_laws.proofs.Told.{told_of_laws}
 use Rattle.link_laws.proofs.CellFacts.{cell_back}
-use Rattle.link_rows.proofs.RowWrites.{live-within, none-links}
-use Rattle.link_rows.proofs.KeptLaws.{laws-same}
+use Rattle.edit_laws.proofs.RowWrites.{live-within, none-links}
+use Rattle.edit_laws.proofs.KeptLaws.{laws-same}
 use Rattle.machine_laws.proofs.Keeping.{laws-of}
 use Rattle.machine_laws.proofs.Born.{no-value}
 
@@ -41,7 +41,7 @@ alone-cell k L nil i d x alone (onward {x = z} {y = y'} o step) =
     absurd (step.3 (sym step.2 ∙ free_through L nil step.0.second (L step.0.first z) at))
 
 -- a content without a dart that has no links
-module _ (c : Content) (kept : IsKept c) (d : ℕ) (live : IsLive c.rows d) (alone : (t : ℕ) → links_of c.rows t d ≡ 0) where
+module _ (c : Content) (kept : IsLawfulContent c) (d : ℕ) (live : IsLive c.rows d) (alone : (t : ℕ) → links_of c.rows t d ≡ 0) where
   abbrev next : Content
   next = without_dart c d
 
@@ -98,7 +98,7 @@ module _ (c : Content) (kept : IsKept c) (d : ℕ) (live : IsLive c.rows d) (alo
         | inr other ↦ same-value i x other ∙ kept.places.none i x (λ lives. out (subst (λ (o : Option (List ℕ)). IsSome o) (sym (same-row x other)) lives))
       ]
 
-  pub kept-ended : IsSound c.kind c.dim next.rows → IsKept next
+  pub kept-ended : IsSound c.kind c.dim next.rows → IsLawfulContent next
   kept-ended sound = record {
     flat = kept.flat;
     sound = sound;

@@ -5,12 +5,12 @@ use Rattle.std.proofs.lemmas.List.{get_or_append_left, get_or-append_right, get_
 use Rattle.map_defs.specs.Links.{Links}
 use Rattle.map_defs.specs.Rows.{Rows, made, IsLive}
 use Rattle.map_defs.specs.Values.{Meaning}
-use Rattle.map_defs.specs.State.{Content, with_born}
-use Rattle.map_defs.specs.Relinking.{IsRelinked}
-use Rattle.map_defs.specs.Kept.{IsKept}
+use Rattle.machine_defs.specs.State.{Content, with_born}
+use Rattle.machine_defs.specs.Relinking.{IsRelinked}
+use Rattle.machine_defs.specs.Kept.{IsLawfulContent}
 use Rattle.journal_laws.specs.Following.{Follows}
 
-module _ (a b : Content) (kept : IsKept a) (next : IsKept b) (kind : b.kind ≡ a.kind) (dim : b.dim ≡ a.dim) where
+module _ (a b : Content) (kept : IsLawfulContent a) (next : IsLawfulContent b) (kind : b.kind ≡ a.kind) (dim : b.dim ≡ a.dim) where
   -- with new darts
   pub grown-follows : (births : ℕ) → length b.rows ≡ length a.rows + births
       → ((d : ℕ) → IsLive b.rows d → IsLive a.rows d ⊎ (made a.rows < d))
@@ -35,7 +35,7 @@ module _ (a b : Content) (kept : IsKept a) (next : IsKept b) (kind : b.kind ≡ 
 
 -- after a change of links, where no new dart ends
 pub relinked-follows : (hook : Meaning) (c next : Content) (births : ℕ) (Ended : ℕ → Type 0) (Becomes : Links → Type 0)
-    → IsKept c → IsKept next → ((d : ℕ) → made c.rows < d → d ≤ made c.rows + births → Ended d → ⊥)
+    → IsLawfulContent c → IsLawfulContent next → ((d : ℕ) → made c.rows < d → d ≤ made c.rows + births → Ended d → ⊥)
     → IsRelinked hook c births Ended Becomes next → Follows c next
 relinked-follows hook c next births Ended Becomes kept kept' stay r =
     grown-follows c next kept kept' r.kind r.dim births r.long ended (λ d low high. (r.live d).1 (inr (low, high), stay d low high))
@@ -44,7 +44,7 @@ relinked-follows hook c next births Ended Becomes kept kept' stay r =
     ended d live = elim ((r.live d).0 live).0 [ inl old ↦ inl old | inr new ↦ inr new.0 ]
 
 -- with new darts behind
-module _ (c : Content) (born : List (List ℕ)) (kept : IsKept c) (kept' : IsKept (with_born c born)) where
+module _ (c : Content) (born : List (List ℕ)) (kept : IsLawfulContent c) (kept' : IsLawfulContent (with_born c born)) where
   abbrev rows : Rows
   rows = c.rows
 

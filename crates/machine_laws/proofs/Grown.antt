@@ -7,10 +7,10 @@ use Rattle.map_defs.specs.Rows.{made}
 use Rattle.map_defs.specs.Cells.{here, InCell}
 use Rattle.map_defs.specs.Births.{IsNumbered}
 use Rattle.map_defs.specs.Insertion.{NoPairs, AlphaEdgeDarts, AlphaEdgePairs, BetaEdgeLeads, FaceDarts, FacePairs, IsClosedPath, IsFacePaired, IsFace}
-use Rattle.map_defs.specs.Inserting.{VertexDarts, IsVertex, InCorner, EdgeDarts, AreEdgePaired, IsEdge, IsGrown}
+use Rattle.map_defs.specs.Inserting.{VertexDarts, IsVertex, InCorner, EdgeDarts, AreEdgePaired, IsEdge}
+use Rattle.machine_defs.specs.Relinking.{IsGrown, NoDart, IsRelinked}
 use Rattle.map_defs.specs.Values.{Meaning}
-use Rattle.map_defs.specs.State.{Content}
-use Rattle.map_defs.specs.Relinking.{NoDart, IsRelinked}
+use Rattle.machine_defs.specs.State.{Content}
 use Rattle.insert_laws.proofs.AlphaInsert.{alpha_vertex_can, alpha_edge_can}
 use Rattle.insert_laws.proofs.Paths.{has_next}
 use Rattle.insert_laws.proofs.Face.{alpha_face_can, beta_face_can}

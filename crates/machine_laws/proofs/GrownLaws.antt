@@ -9,13 +9,13 @@ use Rattle.map_defs.specs.Rows.{Rows, made, made_max, IsLive, links_of}
 use Rattle.map_defs.specs.Cells.{InOrbit, here, onward, InCell}
 use Rattle.map_defs.specs.Births.{IsNumbered, IsFresh}
 use Rattle.map_defs.specs.Insertion.{NoPairs, IsLinkedBy, AlphaEdgeDarts, AlphaEdgePairs, BetaEdgeLeads, FaceDarts}
-use Rattle.map_defs.specs.Inserting.{VertexDarts, IsVertex, InCorner, EdgeDarts, AreEdgePaired, IsEdge, IsTooMany, IsGrown}
+use Rattle.map_defs.specs.Inserting.{VertexDarts, IsVertex, InCorner, EdgeDarts, AreEdgePaired, IsEdge}
+use Rattle.machine_defs.specs.Relinking.{IsTooMany, IsGrown, NoDart}
 use Rattle.map_defs.specs.Values.{Meaning}
-use Rattle.map_defs.specs.State.{Content}
-use Rattle.map_defs.specs.Relinking.{NoDart}
-use Rattle.map_defs.specs.Kept.{IsKept}
+use Rattle.machine_defs.specs.State.{Content}
+use Rattle.machine_defs.specs.Kept.{IsLawfulContent}
 use Rattle.link_laws.proofs.RowFacts.{rows_made, rows_lead_to_live, linked_live}
-use Rattle.link_rows.proofs.RowWrites.{live-within}
+use Rattle.edit_laws.proofs.RowWrites.{live-within}
 use Rattle.insert_laws.proofs.InsertSquare.{insertion_keeps}
 use Rattle.insert_laws.proofs.AlphaInsert.{alpha_vertex_can, alpha_edge_can}
 use Rattle.insert_laws.proofs.Numbers.{numbered_fresh}
@@ -53,7 +53,7 @@ edge-live alpha rows w d e x live live' (inr o) = orbit-live alpha rows w _ e x 
 edge-live beta rows w d e x live live' (y, p) = linked_live rows 0 x p.0
 
 -- an insertion that keeps the laws
-module _ (hook : Meaning) (c : Content) (kept : IsKept c) (K : ℕ → Type 0) (live : (x : ℕ) → K x → IsLive c.rows x) where
+module _ (hook : Meaning) (c : Content) (kept : IsLawfulContent c) (K : ℕ → Type 0) (live : (x : ℕ) → K x → IsLive c.rows x) where
   grown-fresh : (keys : List ℕ) (star : ℕ → ℕ) → IsNumbered K keys (made c.rows) star → IsFresh (links_of c.rows) K star
   grown-fresh keys star m = numbered_fresh K keys (made c.rows) star m (links_of c.rows)
       (λ x h. let within = live-within c.rows x (live x h) in omega arith) (rows_made c.rows)
@@ -65,7 +65,7 @@ module _ (hook : Meaning) (c : Content) (kept : IsKept c) (K : ℕ → Type 0) (
   ]
 
   pub kept-grown : (Becomes : (ℕ → ℕ) → Links → Type 0) → (IsTooMany c K → ⊥) → ((star : ℕ → ℕ) (N : Links) → IsFresh (links_of c.rows) K star → Becomes star N → Laws c.kind N)
-      → (births : ℕ) (next : Content) → IsGrown hook c K Becomes births next → IsKept next
+      → (births : ℕ) (next : Content) → IsGrown hook c K Becomes births next → IsLawfulContent next
   kept-grown Becomes room lawful births next g =
       kept-relinked hook c kept births NoDart (Becomes g.star) next
       (grown-few g.keys g.star births room g.numbered g.counted)

@@ -4,7 +4,7 @@ use Rattle.map_defs.specs.Kind.{Kind, inverse}
 use Rattle.map_defs.specs.Links.{Links}
 use Rattle.map_defs.specs.Insertion.{IsInserted, IsInsertable, IsCarrying, IsSplit, IsCut}
 use Rattle.link_laws.proofs.Basics.{by_cases, stable, same_or_not, IsDistant-inverse_right}
-use Rattle.link_laws.proofs.Turned.{turned_one}
+use Rattle.link_laws.proofs.InverseLinks.{turned_one}
 use Rattle.insert_laws.proofs.Fresh.{IsNew, InOrNone}
 use Rattle.insert_laws.proofs.Places.{IsBeside, same, next, below, far, link_cases}
 use Rattle.insert_laws.proofs.BetaVertex.{IsEdgeSet}

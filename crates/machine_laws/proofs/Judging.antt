@@ -1,11 +1,11 @@
 -- Lists of checks: the first that fails has the least number.
 use Rattle.std.proofs.Common.{◌≡◌, ℕ, ◌≤◌, List, [], ◌∷◌, sym, ap, ◌∙◌, subst, inl, inr, arith, lit≤}
 use Rattle.map_defs.specs.Refusal.{Refusal, number}
-use Rattle.map_defs.specs.State.{State}
-use Rattle.map_defs.specs.Script as says
-use Rattle.map_defs.specs.Script.{Line}
-use Rattle.map_defs.specs.Text.{Reply, Refused}
-use Rattle.map_defs.specs.Machine.{Check, checks, Judged, FailsFor}
+use Rattle.machine_defs.specs.State.{State}
+use Rattle.machine_defs.specs.Script as says
+use Rattle.machine_defs.specs.Script.{Line}
+use Rattle.machine_defs.specs.Text.{Reply, Refused}
+use Rattle.machine_defs.specs.Machine.{Check, checks, Judged, FailsFor}
 
 -- each check of the list has at least the number n
 abbrev AllAbove : ℕ → List Check → Type 0

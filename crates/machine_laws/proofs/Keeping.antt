@@ -11,11 +11,11 @@ use Rattle.map_defs.specs.Rows.{Rows, row_at, IsLive, links_of, AreWide, made, m
 use Rattle.map_defs.specs.Cells.{InCell}
 use Rattle.map_defs.specs.Values.{Value, Rule, Meaning, meaning_of}
 use Rattle.map_defs.specs.Carry.{AreEqualOnCells}
-use Rattle.map_defs.specs.State.{Content, State, Mark, value_at, rule_at, kept_past, steps_to}
-use Rattle.map_defs.specs.Relinking.{IsRelinked, AreCarriedBy}
-use Rattle.map_defs.specs.Valuing.{IsValued}
-use Rattle.map_defs.specs.Machine.{with_rule}
-use Rattle.map_defs.specs.Kept.{IsKept, AreKept}
+use Rattle.machine_defs.specs.State.{Content, State, Mark, value_at, rule_at, kept_past, steps_to}
+use Rattle.machine_defs.specs.Relinking.{IsRelinked, AreCarriedBy}
+use Rattle.machine_defs.specs.Valuing.{IsValued}
+use Rattle.machine_defs.specs.Machine.{with_rule}
+use Rattle.machine_defs.specs.Kept.{IsLawfulContent, IsLawfulState}
 use Rattle.link_laws.proofs.Told.{laws_of_told, told_of_laws}
 use Rattle.link_laws.proofs.RowFacts.{rows_lead_to_live}
 use Rattle.link_laws.proofs.CellFacts.{cell_back}
@@ -23,17 +23,17 @@ use Rattle.link_laws.proofs.Orbits.{orbit_trans}
 use Rattle.machine_laws.proofs.Marked.{marks-stepped}
 use Rattle.value_laws.proofs.Touching.{cell_live}
 use Rattle.value_laws.proofs.MapValues.{one_value}
-use Rattle.value_laws.proofs.ValueFacts.{value-above, value-cases}
+use Rattle.journal_laws.proofs.ContentFacts.{value-above, value-cases}
 
-pub laws-of : (c : Content) → IsKept c → Laws c.kind (links_of c.rows)
+pub laws-of : (c : Content) → IsLawfulContent c → Laws c.kind (links_of c.rows)
 laws-of c kept = laws_of_told c.kind (links_of c.rows) kept.lawful
 
-kept-past : (marks : List Mark) (past : List Content) (c : Content) → All IsKept past → IsKept c → All IsKept (kept_past marks past c)
+kept-past : (marks : List Mark) (past : List Content) (c : Content) → All IsLawfulContent past → IsLawfulContent c → All IsLawfulContent (kept_past marks past c)
 kept-past [] past c all kept = λ p z h. absurd (omega arith)
-kept-past (mark ∷ marks) past c all kept = All-push IsKept past c all kept
+kept-past (mark ∷ marks) past c all kept = All-push IsLawfulContent past c all kept
 
 -- a step to a content that is kept
-pub kept-step : (s : State) (next : Content) → AreKept s → IsKept next → AreKept (steps_to s next)
+pub kept-step : (s : State) (next : Content) → IsLawfulState s → IsLawfulContent next → IsLawfulState (steps_to s next)
 kept-step s next kept is = record {
   present = is;
   past = kept-past s.marks s.past s.present kept.past kept.present;
@@ -73,7 +73,7 @@ sound-of k n rows lawful wide nothing few = record {
 }
 
 -- a change of links that keeps the laws
-module _ (hook : Meaning) (c : Content) (kept : IsKept c) (births : ℕ) (Ended : ℕ → Type 0) (Becomes : Links → Type 0) (next : Content)
+module _ (hook : Meaning) (c : Content) (kept : IsLawfulContent c) (births : ℕ) (Ended : ℕ → Type 0) (Becomes : Links → Type 0) (next : Content)
     (few : made c.rows + births ≤ made_max) (lawful : Laws c.kind (links_of next.rows)) (r : IsRelinked hook c births Ended Becomes next) where
   laws : Laws c.kind (links_of c.rows)
   laws = laws-of c kept
@@ -108,7 +108,7 @@ module _ (hook : Meaning) (c : Content) (kept : IsKept c) (births : ℕ) (Ended 
   same-rules : length next.rules ≡ next.dim + 1
   same-rules = ap (λ (rules : List (Option Rule)). length rules) r.rules ∙ kept.ruled ∙ ap (λ (n : ℕ). n + 1) (sym r.dim)
 
-  pub kept-relinked : IsKept next
+  pub kept-relinked : IsLawfulContent next
   kept-relinked = record {
     flat = rw r.dim kept.flat;
     sound = subst (λ (k : Kind). IsSound k next.dim next.rows) (sym r.kind) (subst (λ (n : ℕ). IsSound c.kind n next.rows) (sym r.dim) sound);
@@ -121,7 +121,7 @@ module _ (hook : Meaning) (c : Content) (kept : IsKept c) (births : ℕ) (Ended 
   }
 
 -- a cell that is given a value, in a dimension with a rule, or whose value is taken
-module _ (c : Content) (kept : IsKept c) (i d : ℕ) (live : IsLive c.rows d) (value : Option Value) (ruled : rule_at c i ≡ None → value ≡ None) (next : Content) (v : IsValued c i d value next) where
+module _ (c : Content) (kept : IsLawfulContent c) (i d : ℕ) (live : IsLive c.rows d) (value : Option Value) (ruled : rule_at c i ≡ None → value ≡ None) (next : Content) (v : IsValued c i d value next) where
   -- the darts of one cell lie in the cell of d together
   together : (j x y : ℕ) → IsLive c.rows x → InCell c.kind (links_of c.rows) j x y → value_at next j x ≡ value_at next j y
   together j x y lives cell = value-cases ((j ≡ i) × InCell c.kind (links_of c.rows) i d x) _ _
@@ -136,7 +136,7 @@ module _ (c : Content) (kept : IsKept c) (i d : ℕ) (live : IsLive c.rows d) (v
       (λ h. rw h.0 (v.given x h.1 ∙ ruled (subst (λ (m : ℕ). rule_at c m ≡ None) h.0 was)))
       (λ other. v.kept j x (λ e h. other (e, h)) ∙ kept.none j x was)
 
-  pub kept-valued : IsKept next
+  pub kept-valued : IsLawfulContent next
   kept-valued = record {
     flat = rw v.dim kept.flat;
     sound = rw (v.kind, v.dim, v.rows) kept.sound;
@@ -149,8 +149,8 @@ module _ (c : Content) (kept : IsKept c) (i d : ℕ) (live : IsLive c.rows d) (v
   }
 
 -- a dimension that is given a rule
-module _ (c : Content) (kept : IsKept c) (i : ℕ) (rule : Rule) where
-  pub kept-ruled : i ≤ c.dim → IsKept (with_rule c i rule)
+module _ (c : Content) (kept : IsLawfulContent c) (i : ℕ) (rule : Rule) where
+  pub kept-ruled : i ≤ c.dim → IsLawfulContent (with_rule c i rule)
   kept-ruled within = record {
     flat = kept.flat;
     sound = kept.sound;

@@ -14,7 +14,8 @@ pub mod Answers
 pub mod Followed
 pub mod Traced
 pub mod Outcomes
-pub mod Steps
 pub mod Logs
 pub mod Runs
 pub mod Programs
+pub mod OneStep
+pub mod ListedTotals

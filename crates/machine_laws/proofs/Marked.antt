@@ -6,9 +6,9 @@ use Rattle.std.proofs.lemmas.List.{length-append, length-take, length-take-le, g
 use Rattle.std.proofs.lemmas.List.Elements.{All-push}
 use Rattle.std.proofs.lemmas.List.Quantifiers.{all_pairs_push}
 use Rattle.std.proofs.lemmas.Option.{slice_get_within, get_or_from_slice_get, slice_get-get_or}
-use Rattle.map_defs.specs.State.{Content, Mark, kept_past}
-use Rattle.map_defs.specs.Kept.{AreNamedApart, AreMarksKept}
-use Rattle.map_defs.specs.Marking.{IsMark, HasMark}
+use Rattle.machine_defs.specs.State.{Content, Mark, kept_past}
+use Rattle.machine_defs.specs.Kept.{AreNamedApart, AreMarksKept}
+use Rattle.machine_defs.specs.Marking.{IsMark, HasMark}
 
 slice-take : {X : Type 0} (n i : ℕ) (xs : List X) → i < n → slice_get (take n xs) i ≡ slice_get xs i
 slice-take zero i xs h = absurd (omega arith)

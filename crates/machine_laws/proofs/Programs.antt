@@ -4,19 +4,19 @@ use Rattle.std.proofs.lemmas.Fmt.{decimal_injective}
 use Rattle.std.proofs.lemmas.Grind.{flat_map-append}
 use Rattle.map_defs.specs.Kind.{Kind}
 use Rattle.map_defs.specs.Values.{Meaning}
-use Rattle.map_defs.specs.State.{State, empty_state}
-use Rattle.map_defs.specs.Kept.{AreKept}
-use Rattle.map_defs.specs.Script.{lines_of}
-use Rattle.map_defs.specs.Text.{Reply, reply_text, replies_text, any_refused}
-use Rattle.map_defs.specs.Machine.{Run}
-use Rattle.map_defs.specs.Outside.{Files, held, IsFront}
+use Rattle.machine_defs.specs.State.{State, empty_state}
+use Rattle.machine_defs.specs.Kept.{IsLawfulState}
+use Rattle.machine_defs.specs.Script.{lines_of}
+use Rattle.machine_defs.specs.Text.{Reply, reply_text, replies_text, any_refused}
+use Rattle.machine_defs.specs.Machine.{Run}
+use Rattle.machine_defs.specs.Outside.{Files, held, IsFront}
 use Rattle.map_defs.specs.Off.{Mesh, mesh_of}
-use Rattle.map_defs.specs.Loading.{IsLoaded, IsMeshContent, first_state, refusal_line}
-use Rattle.map_defs.specs.Program.{Command, IsOffered, RunScript, Tells, no_mesh, mesh_word, FileAnswer, ScriptAnswer, MeshAnswer, CommandAnswer, StartsFrom, Answers, untold, told, Begins, Starts, whole, lines, file_limit, run_status}
+use Rattle.machine_defs.specs.Loading.{IsLoaded, IsMeshContent, first_state, refusal_line}
+use Rattle.machine_defs.specs.Program.{Command, IsOffered, RunScript, TellsCommand, no_mesh, mesh_word, FileAnswer, ScriptAnswer, MeshAnswer, CommandAnswer, StartsFrom, ProgramAnswer, untold, told, Begins, Starts, whole, lines, file_limit, run_status}
 use Rattle.machine_laws.proofs.Runs.{run-one, run-front}
 use Rattle.machine_laws.proofs.Begun.{empty-kept, first-kept}
-use Rattle.mesh_laws.proofs.MeshOne.{mesh-content-one}
-use Rattle.mesh_laws.proofs.MeshContent.{maps-kept}
+use Rattle.loading_laws.proofs.MeshOne.{mesh-content-one}
+use Rattle.loading_laws.proofs.MeshContent.{maps-kept}
 
 -- a word stands for one choice of a mesh
 mesh-one : (mesh mesh' : Option (List ℕ)) → mesh ≢ Some no_mesh → mesh' ≢ Some no_mesh → mesh_word mesh ≡ mesh_word mesh' → mesh ≡ mesh'
@@ -26,7 +26,7 @@ mesh-one (Some name) None named named' e = absurd (named (ap (λ (x : List ℕ).
 mesh-one (Some name) (Some name') named named' e = ap (λ (x : List ℕ). Some x) e
 
 -- words tell one command
-told-one : (words : List (List ℕ)) (c c' : Command) → Tells words c → Tells words c' → c ≡ c'
+told-one : (words : List (List ℕ)) (c c' : Command) → TellsCommand words c → TellsCommand words c' → c ≡ c'
 told-one words (RunScript k n mesh script) (RunScript k' n' mesh' script') t t' =
     let kinds = t.0.0 ∙ sym t'.0.0 in
     let same = sym t.1 ∙ t'.1 in
@@ -35,7 +35,7 @@ told-one words (RunScript k n mesh script) (RunScript k' n' mesh' script') t t' 
     let scripts : script ≡ script' = cc in
     cc
 
-script-one : (hook : Meaning) (start : State) (script one other : List ℕ) (status status' : ℕ) → AreKept start → ScriptAnswer hook start script one status → ScriptAnswer hook start script other status' → (one ≡ other) × (status ≡ status')
+script-one : (hook : Meaning) (start : State) (script one other : List ℕ) (status status' : ℕ) → IsLawfulState start → ScriptAnswer hook start script one status → ScriptAnswer hook start script other status' → (one ≡ other) × (status ≡ status')
 script-one hook start script one other status status' kept a b =
     let same = run-one hook start (lines_of script) a.0 b.0 a.1 b.1 kept a.2 b.2 in
     (a.3 ∙ ap replies_text same.0 ∙ sym b.3, a.4 ∙ ap (λ (replies : List Reply). run_status (any_refused replies)) same.0 ∙ sym b.4)
@@ -60,8 +60,8 @@ loaded-one k n mesh start start' l l' =
     let meshes : l.mesh ≡ l'.mesh = (let same = sym l.read ∙ l'.read in cc) in
     l.begun ∙ ap first_state (mesh-content-one k n l'.mesh l.content l'.content (subst (λ (m : Mesh). IsMeshContent k n m l.content) meshes l.is) l'.is) ∙ sym l'.begun
 
-pub loaded-kept : (k : Kind) (n : ℕ) (mesh : List ℕ) (start : State) → 2 ≤ n → IsLoaded k n mesh start → AreKept start
-loaded-kept k n mesh start flat l = subst AreKept (sym l.begun) (first-kept l.content (maps-kept k n l.mesh l.content flat l.sound l.is))
+pub loaded-kept : (k : Kind) (n : ℕ) (mesh : List ℕ) (start : State) → 2 ≤ n → IsLoaded k n mesh start → IsLawfulState start
+loaded-kept k n mesh start flat l = subst IsLawfulState (sym l.begun) (first-kept l.content (maps-kept k n l.mesh l.content flat l.sound l.is))
 
 mesh-answer-one : (hook : Meaning) (k : Kind) (n : ℕ) (mesh script one other : List ℕ) (status status' : ℕ) → 2 ≤ n
     → MeshAnswer hook k n mesh script one status → MeshAnswer hook k n mesh script other status' → (one ≡ other) × (status ≡ status')
@@ -81,14 +81,14 @@ command-one hook files (RunScript k n (Some name) script) one other status statu
     (λ mesh x y. file-one (held files script) (MeshAnswer hook k n mesh) one other status status'
     (λ bytes v w. mesh-answer-one hook k n mesh bytes one other status status' offered.1 v w) x y) a b
 
-pub answer-one : (hook : Meaning) (words : List (List ℕ)) (files : Files) (one other : List ℕ) (status status' : ℕ) → Answers hook words files one status → Answers hook words files other status' → (one ≡ other) × (status ≡ status')
+pub answer-one : (hook : Meaning) (words : List (List ℕ)) (files : Files) (one other : List ℕ) (status status' : ℕ) → ProgramAnswer hook words files one status → ProgramAnswer hook words files other status' → (one ≡ other) × (status ≡ status')
 answer-one hook words files one other status status' (untold n t s) (untold n' t' s') = (t ∙ sym t', s ∙ sym s')
 answer-one hook words files one other status status' (untold n t s) (told c tells a) = absurd (n c tells)
 answer-one hook words files one other status status' (told c tells a) (untold n t s) = absurd (n c tells)
 answer-one hook words files one other status status' (told c tells a) (told c' tells' a') =
     command-one hook files c' one other status status' tells'.0 (subst (λ (d : Command). CommandAnswer hook files d one status) (told-one words c c' tells tells') a) a'
 
-front-of-all : (hook : Meaning) (start : State) (script front text : List ℕ) (status : ℕ) → AreKept start → Begins hook start (lines_of script) front → ScriptAnswer hook start script text status → IsFront front text
+front-of-all : (hook : Meaning) (start : State) (script front text : List ℕ) (status : ℕ) → IsLawfulState start → Begins hook start (lines_of script) front → ScriptAnswer hook start script text status → IsFront front text
 front-of-all hook start script front text status kept b a =
     let more = run-front hook start b.done b.left b.replies a.0 b.new a.1 kept b.run (subst (λ (ls : List (List ℕ)). Run hook start ls a.0 a.1) b.all a.2) in (
       b.begins.0 ++ replies_text more.0,
@@ -114,11 +114,11 @@ command-run hook files k n (Some name) script start bytes text status begun is s
     go (inl refused) = absurd (let none = not-refused k n begun.0 start begun.2 in let some = refused.0 in cc)
     go (inr x) = subst (λ (s : State). ScriptAnswer hook s bytes text status) (loaded-one k n begun.0 x.0 start x.1 begun.2) x.2
 
-starts-kept : (files : Files) (k : Kind) (n : ℕ) (mesh : Option (List ℕ)) (start : State) → 2 ≤ n → StartsFrom files k n mesh start → AreKept start
-starts-kept files k n None start flat begun = subst AreKept (sym begun) (empty-kept k n flat)
+starts-kept : (files : Files) (k : Kind) (n : ℕ) (mesh : Option (List ℕ)) (start : State) → 2 ≤ n → StartsFrom files k n mesh start → IsLawfulState start
+starts-kept files k n None start flat begun = subst IsLawfulState (sym begun) (empty-kept k n flat)
 starts-kept files k n (Some name) start flat begun = loaded-kept k n begun.0 start flat begun.2
 
-pub front-one : (hook : Meaning) (words : List (List ℕ)) (files : Files) (front text : List ℕ) (status : ℕ) → Starts hook words files front → Answers hook words files text status → IsFront front text
+pub front-one : (hook : Meaning) (words : List (List ℕ)) (files : Files) (front text : List ℕ) (status : ℕ) → Starts hook words files front → ProgramAnswer hook words files text status → IsFront front text
 front-one hook words files front text status (whole text' status' a f) b = subst (IsFront front) (answer-one hook words files text' text status' status a b).0 f
 front-one hook words files front text status (lines c tells f) (untold n t s) = absurd (n c tells)
 front-one hook words files front text status (lines (RunScript k n mesh script) tells f) (told c' tells' a) =

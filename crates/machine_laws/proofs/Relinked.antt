@@ -8,13 +8,13 @@ use Rattle.map_defs.specs.Pairs.{IsJoined}
 use Rattle.map_defs.specs.Sewing.{SewnPairs, IsSewn, IsFreed, IsUnsewn}
 use Rattle.map_defs.specs.Values.{Value, Rule, Meaning, meaning_of}
 use Rattle.map_defs.specs.Carry.{AreCarried}
-use Rattle.map_defs.specs.State.{Content, value_at, rule_at}
-use Rattle.map_defs.specs.Relinking.{IsRelinked, AreCarriedBy}
-use Rattle.map_defs.specs.Valuing.{IsValued}
+use Rattle.machine_defs.specs.State.{Content, value_at, rule_at}
+use Rattle.machine_defs.specs.Relinking.{IsRelinked, AreCarriedBy}
+use Rattle.machine_defs.specs.Valuing.{IsValued}
 use Rattle.link_laws.proofs.Basics.{by_cases}
 use Rattle.link_laws.proofs.SameRows.{same_rows}
 use Rattle.value_laws.proofs.Carrying.{carried_one}
-use Rattle.value_laws.proofs.ValueFacts.{value-cases, values-one, same-content}
+use Rattle.journal_laws.proofs.ContentFacts.{value-cases, values-one, same-content}
 
 -- two relations tell the same links
 abbrev pub TellOne : (Links → Type 0) → (Links → Type 0) → Type 0

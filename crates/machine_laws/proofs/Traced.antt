@@ -2,10 +2,10 @@
 use Rattle.std.proofs.Common.{◌≡◌, ℕ, zero, suc, ◌+◌, ◌-◌, ◌≤◌, List, [], ◌∷◌, ◌++◌, length, get_or, drop, slice_get, refl, sym, ap, ◌∙◌, subst, append_assoc, arith}
 use Rattle.std.proofs.lemmas.List.{drop-append-le, get_or-drop, get_or_push, length-append}
 use Rattle.std.proofs.lemmas.Option.{get_or_from_slice_get}
-use Rattle.map_defs.specs.State.{Content, State, Mark, kept_past, steps_to}
-use Rattle.map_defs.specs.Kept.{AreKept}
-use Rattle.map_defs.specs.Difference.{Difference, AreDifferences}
-use Rattle.map_defs.specs.Marking.{IsMark, back_to, since}
+use Rattle.machine_defs.specs.State.{Content, State, Mark, kept_past, steps_to}
+use Rattle.machine_defs.specs.Kept.{IsLawfulState}
+use Rattle.machine_defs.specs.Difference.{Difference, AreDifferences}
+use Rattle.machine_defs.specs.Marking.{IsMark, back_to, since}
 use Rattle.journal_laws.specs.Following.{Follows, AllFollow, all_put_forward, all_taken_back}
 use Rattle.journal_laws.proofs.Chains.{follow-more, follow-front, to-first, to-last}
 use Rattle.machine_laws.specs.Tracing.{AreTraced}
@@ -28,7 +28,7 @@ pub step-traced : (s : State) (next : Content) → AreTraced s → Follows s.pre
 step-traced s next traced f = past-traced s.marks s.past s.present next traced f
 
 -- undo and the steps since a mark
-module _ (s : State) (kept : AreKept s) (traced : AreTraced s) (name : List ℕ) (k : ℕ) (mark : Mark) (is : IsMark s.marks name k mark) where
+module _ (s : State) (kept : IsLawfulState s) (traced : AreTraced s) (name : List ℕ) (k : ℕ) (mark : Mark) (is : IsMark s.marks name k mark) where
   abbrev whole : List Content
   whole = s.past ++ s.present ∷ []
 

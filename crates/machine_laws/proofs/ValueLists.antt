@@ -1,7 +1,7 @@
 -- The valued cells of a content are one list.
 use Rattle.std.proofs.Common.{◌≡◌, ℕ, zero, suc, ◌<◌, ◌⊎◌, List, [], ◌∷◌, length, get_or, refl, sym, ap, ◌∙◌, subst, inl, inr, arith, Contains}
-use Rattle.map_defs.specs.State.{Content}
-use Rattle.map_defs.specs.Listing.{ListValue, ListsValues, IsBefore}
+use Rattle.machine_defs.specs.State.{Content}
+use Rattle.machine_defs.specs.Listing.{ListValue, ListsValues, IsBefore}
 
 abbrev Value' : Type 0
 Value' = ListValue

@@ -1,6 +1,6 @@
 -- The contents that a state keeps, in the order in which they came. Source: this project's.
 use Rattle.std.specs.Prelude.{[], ◌∷◌, ◌++◌}
-use Rattle.map_defs.specs.State.{State}
+use Rattle.machine_defs.specs.State.{State}
 use Rattle.journal_laws.specs.Following.{AllFollow}
 
 -- Each content that the state keeps, the present one last, can follow the one before it in one step.

@@ -1,22 +1,27 @@
 //! Laws of the plain map machine and of the program's text, over the definitions alone.
 #![tactic(auto)]
 
-ghost use Rattle.std.specs.Prelude.{◌≡◌, ℕ, ◌≤◌, List};
+ghost use Rattle.std.specs.Prelude.{◌≡◌, ℕ, ◌≤◌, List, IsSome};
 ghost use Rattle.map_defs.specs.Refusal.{Refusal, number};
 ghost use Rattle.map_defs.specs.Kind.{Kind};
 ghost use Rattle.map_defs.specs.Values.{Meaning};
-ghost use Rattle.map_defs.specs.State.{State, Mark, empty_state};
-ghost use Rattle.map_defs.specs.Loading.{IsLoaded};
-ghost use Rattle.map_defs.specs.Kept.{AreKept};
-ghost use Rattle.map_defs.specs.Script.{Line, Undo, Log};
-ghost use Rattle.map_defs.specs.Text.{Reply, Logged, Refused};
-ghost use Rattle.map_defs.specs.Machine.{Step, Run, FailsFor, checks};
-ghost use Rattle.map_defs.specs.Outside.{Files, IsFront};
-ghost use Rattle.map_defs.specs.Program.{Answers, Starts};
-ghost use Rattle.map_defs.specs.Difference.{Difference, AreDifferences};
-ghost use Rattle.map_defs.specs.Marking.{IsMark, since};
+ghost use Rattle.map_defs.specs.Rows.{IsLive, links_of};
+ghost use Rattle.map_defs.specs.Laws.{Laws};
+ghost use Rattle.map_defs.specs.Carry.{AreCarried, AreEqualOnCells};
+ghost use Rattle.map_defs.specs.Totals.{sum_share, NoSumLeaves};
+ghost use Rattle.machine_defs.specs.Listing.{ListValue, ListsValues, listed_total};
+ghost use Rattle.machine_defs.specs.State.{Content, State, Mark, value_at, empty_state};
+ghost use Rattle.machine_defs.specs.Loading.{IsLoaded};
+ghost use Rattle.machine_defs.specs.Kept.{IsLawfulState};
+ghost use Rattle.machine_defs.specs.Script.{Line, Undo, Log};
+ghost use Rattle.machine_defs.specs.Text.{Reply, Logged, Refused};
+ghost use Rattle.machine_defs.specs.Machine.{Step, Run, FailsFor, checks};
+ghost use Rattle.machine_defs.specs.Outside.{Files, IsFront};
+ghost use Rattle.machine_defs.specs.Program.{ProgramAnswer, Starts};
+ghost use Rattle.machine_defs.specs.Difference.{Difference, AreDifferences};
+ghost use Rattle.machine_defs.specs.Marking.{IsMark, since};
 ghost use Rattle.journal_laws.specs.Following.{all_put_forward, all_taken_back};
-ghost use Rattle.machine_laws.specs.Needs.{Needs, NeedsForReply};
+ghost use Rattle.machine_laws.specs.Needs.{LineNeeds, ReplyNeeds};
 ghost use Rattle.machine_laws.specs.Tracing.{AreTraced};
 
 /// The refusal that a line gets is one whose condition holds, with the least number of all whose condition holds; and the
@@ -44,26 +49,26 @@ pub fn accepted_without_refusal()
 /// link.
 pub fn one_step()
     ensures reply { (hook : Meaning) (s : State) (line : Line) (one other : Reply) (new new' : State)
-        → NeedsForReply line s → Step hook s line one new → Step hook s line other new' → one ≡ other }
+        → ReplyNeeds line s → Step hook s line one new → Step hook s line other new' → one ≡ other }
     ensures state { (hook : Meaning) (s : State) (line : Line) (one other : Reply) (new new' : State)
-        → Needs line s → Step hook s line one new → Step hook s line other new' → new ≡ new' }
+        → LineNeeds line s → Step hook s line one new → Step hook s line other new' → new ≡ new' }
 {}
 
 /// Every state of a run keeps what the first one keeps: each content is a lawful map, whose entries name live darts, with
 /// equal values on each cell and none in a dimension without a rule; and each mark has a name of its own, and its copy is
 /// the content at its place. The state without darts keeps it, and so does that of a mesh.
 pub fn runs_keep_the_laws()
-    ensures first { (k : Kind) (n : ℕ) → 2 ≤ n → AreKept (empty_state k n) }
-    ensures mesh { (k : Kind) (n : ℕ) (text : List ℕ) (start : State) → 2 ≤ n → IsLoaded k n text start → AreKept start }
-    ensures each { (hook : Meaning) (s : State) (lines : List (List ℕ)) (replies : List Reply) (new : State) → AreKept s
-        → Run hook s lines replies new → AreKept new }
+    ensures first { (k : Kind) (n : ℕ) → 2 ≤ n → IsLawfulState (empty_state k n) }
+    ensures mesh { (k : Kind) (n : ℕ) (text : List ℕ) (start : State) → 2 ≤ n → IsLoaded k n text start → IsLawfulState start }
+    ensures each { (hook : Meaning) (s : State) (lines : List (List ℕ)) (replies : List Reply) (new : State) → IsLawfulState s
+        → Run hook s lines replies new → IsLawfulState new }
 {}
 
 /// In every state of a run each content that is kept can follow the one before it in one step.
 pub fn runs_keep_the_trace()
     ensures first { (k : Kind) (n : ℕ) → AreTraced (empty_state k n) }
     ensures mesh { (k : Kind) (n : ℕ) (text : List ℕ) (start : State) → IsLoaded k n text start → AreTraced start }
-    ensures each { (hook : Meaning) (s : State) (lines : List (List ℕ)) (replies : List Reply) (new : State) → AreKept s
+    ensures each { (hook : Meaning) (s : State) (lines : List (List ℕ)) (replies : List Reply) (new : State) → IsLawfulState s
         → AreTraced s → Run hook s lines replies new → AreTraced new }
 {}
 
@@ -72,25 +77,41 @@ pub fn runs_keep_the_trace()
 ///
 /// For whoever keeps the steps in place of the contents: undo needs no copy.
 pub fn undo_leads_back()
-    ensures back { (s : State) (name : List ℕ) (k : ℕ) (mark : Mark) (steps : List Difference) → AreKept s → AreTraced s
+    ensures back { (s : State) (name : List ℕ) (k : ℕ) (mark : Mark) (steps : List Difference) → IsLawfulState s → AreTraced s
         → IsMark s.marks name k mark → AreDifferences (since s mark) steps → all_taken_back steps s.present ≡ mark.content }
-    ensures forward { (s : State) (name : List ℕ) (k : ℕ) (mark : Mark) (steps : List Difference) → AreKept s → AreTraced s
+    ensures forward { (s : State) (name : List ℕ) (k : ℕ) (mark : Mark) (steps : List Difference) → IsLawfulState s → AreTraced s
         → IsMark s.marks name k mark → AreDifferences (since s mark) steps → all_put_forward steps mark.content ≡ s.present }
     ensures undone { (hook : Meaning) (s : State) (name : List ℕ) (steps : List Difference) (reply : Reply) (same new : State)
-        → AreKept s → AreTraced s → Step hook s (Log name) (Logged steps) same → Step hook s (Undo name) reply new
+        → IsLawfulState s → AreTraced s → Step hook s (Log name) (Logged steps) same → Step hook s (Undo name) reply new
         → all_taken_back steps s.present ≡ new.present }
 {}
 
 /// The program has one text and one status for its words and files.
 pub fn one_answer()
     ensures text { (hook : Meaning) (words : List (List ℕ)) (files : Files) (one other : List ℕ) (status status' : ℕ) →
-        Answers hook words files one status → Answers hook words files other status' → one ≡ other }
+        ProgramAnswer hook words files one status → ProgramAnswer hook words files other status' → one ≡ other }
     ensures status { (hook : Meaning) (words : List (List ℕ)) (files : Files) (one other : List ℕ) (status status' : ℕ) →
-        Answers hook words files one status → Answers hook words files other status' → status ≡ status' }
+        ProgramAnswer hook words files one status → ProgramAnswer hook words files other status' → status ≡ status' }
 {}
 
 /// What a call that was cut short has written is a front of the program's one text.
 pub fn one_front()
     ensures { (hook : Meaning) (words : List (List ℕ)) (files : Files) (front text : List ℕ) (status : ℕ) →
-        Starts hook words files front → Answers hook words files text status → IsFront front text }
+        Starts hook words files front → ProgramAnswer hook words files text status → IsFront front text }
+{}
+
+/// Under the rule `sum share` the values that a listing shows in a dimension add up to the same before and after a change of
+/// links by which no dart dies, where only live darts have values and no sum of parts leaves 64 bits.
+pub fn listed_totals_stay()
+    ensures { (i : ℕ) (hook : Meaning) (old new : Content) (values after : List ListValue)
+        → old.kind ≡ new.kind → Laws old.kind (links_of old.rows) → Laws new.kind (links_of new.rows)
+        → ((x : ℕ) → IsLive old.rows x → IsLive new.rows x)
+        → ((x : ℕ) → IsSome (value_at old i x) → IsLive old.rows x)
+        → ((x : ℕ) → IsSome (value_at new i x) → IsLive new.rows x)
+        → AreEqualOnCells old.kind i (links_of old.rows) (IsLive old.rows) (value_at old i)
+        → AreCarried old.kind i (sum_share hook) (links_of old.rows) (IsLive old.rows) (value_at old i)
+        (links_of new.rows) (IsLive new.rows) (value_at new i)
+        → NoSumLeaves old.kind i (sum_share hook) (links_of old.rows) (IsLive old.rows) (value_at old i)
+        (links_of new.rows) (IsLive new.rows)
+        → ListsValues old values → ListsValues new after → listed_total i values ≡ listed_total i after }
 {}

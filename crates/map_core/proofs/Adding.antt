@@ -7,10 +7,10 @@ use Rattle.map_defs.specs.Kind.{Kind, alpha, beta, inverse}
 use Rattle.map_defs.specs.Rows.{Rows, IsLive, links_of, made, row_at}
 use Rattle.map_defs.specs.Edits.{Change, Edit, IsLed, after_edit, with_changes, with_births, buried}
 use Rattle.map_defs.specs.Touched.{IsTouched, IsReached, IsChanged, IsBesideChanged}
-use Rattle.link_rows.proofs.RowWrites.{live-within, births-old}
-use Rattle.link_rows.proofs.EditSteps.{linked-live, buried-none}
-use Rattle.link_rows.proofs.EditSound.{length-after}
-use Rattle.link_rows.proofs.EditLinks.{links-else}
+use Rattle.edit_laws.proofs.RowWrites.{live-within, births-old}
+use Rattle.edit_laws.proofs.EditSteps.{linked-live, buried-none}
+use Rattle.edit_laws.proofs.EditSound.{length-after}
+use Rattle.edit_laws.proofs.EditLinks.{links-else}
 use Rattle.map_core.specs.Changing.{AreAdded, IsAtChange}
 
 pub added-none : (rows : Rows) (Wanted : ℕ → Type 0) (xs : List ℕ) → ((x : ℕ) → Wanted x → IsLive rows x → ⊥) → AreAdded rows Wanted xs xs

@@ -3,19 +3,19 @@ use Rattle.std.proofs.Common.{◌≡◌, ℕ, ◌↔◌, length, reverse, List, 
 use Rattle.map_defs.specs.Kind.{Kind}
 use Rattle.map_defs.specs.Laws.{Laws}
 use Rattle.map_defs.specs.Rows.{Rows, links_of, IsLive, IsSound}
-use Rattle.map_defs.specs.State.{State, Content, steps_to}
+use Rattle.machine_defs.specs.State.{State, Content, steps_to}
 use Rattle.map_defs.specs.Values.{Rule, Meaning}
 use Rattle.map_defs.specs.Dual.{IsDual, IsDualable}
-use Rattle.map_defs.specs.Dualling.{IsDualOf}
-use Rattle.map_defs.specs.Script.{Dual}
-use Rattle.map_defs.specs.Machine.{Step}
-use Rattle.map_defs.specs.Text as text
-use Rattle.attr_pool.specs.Stores.{Store}
-use Rattle.attr_pool.specs.Labelings.{Labeling}
+use Rattle.machine_defs.specs.Dualling.{IsDualOf}
+use Rattle.machine_defs.specs.Script.{Dual}
+use Rattle.machine_defs.specs.Machine.{Step}
+use Rattle.machine_defs.specs.Text as text
+use Rattle.store_defs.specs.Stores.{Store}
+use Rattle.store_defs.specs.Labelings.{Labeling}
 use Rattle.label_laws.specs.Contents.{content_of}
 use Rattle.label_laws.specs.Maps.{IsStoredMap}
 use Rattle.label_laws.specs.Turning.{AreTurned}
-use Rattle.label_laws.proofs.Turned.{stored-turned, shown-turned}
+use Rattle.label_laws.proofs.DualLabels.{stored-turned, shown-turned}
 
 module _ (k : Kind) (n : ℕ) (rows after : Rows) (l m : Labeling) (p : Store) (rules : List (Option Rule)) (stored : IsStoredMap k n rows l p rules)
     (able : IsDualable k n (links_of rows) (IsLive rows)) (dual : IsDual k n (links_of rows) (links_of after)) (long : length after ≡ length rows)

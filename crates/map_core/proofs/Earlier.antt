@@ -5,19 +5,19 @@ use Rattle.map_defs.specs.Rows.{Rows, IsLive, links_of}
 use Rattle.map_defs.specs.Values.{Value}
 use Rattle.map_defs.specs.Edits.{Change, before_edit}
 use Rattle.map_defs.specs.Touched.{IsTouched, IsReached, IsChanged, IsBesideChanged}
-use Rattle.map_defs.specs.State.{Content, value_at}
-use Rattle.map_defs.specs.Difference.{Difference, ValueChange, IsDifference, unruled}
-use Rattle.map_defs.specs.Kept.{IsKept}
+use Rattle.machine_defs.specs.State.{Content, value_at}
+use Rattle.machine_defs.specs.Difference.{Difference, ValueChange, IsDifference, unruled}
+use Rattle.machine_defs.specs.Kept.{IsLawfulContent}
 use Rattle.link_laws.proofs.Basics.{same_or_not}
 use Rattle.link_laws.proofs.RowFacts.{live_or_free}
-use Rattle.value_laws.proofs.ValueFacts.{value-cases}
+use Rattle.journal_laws.proofs.ContentFacts.{value-cases}
 use Rattle.journal_laws.specs.Following.{Follows, all_taken_back}
 use Rattle.map_core.specs.Undoing.{AreStepsTo, no_step, rows_before, rules_before, old_among, value_before, IsValueChanged, IsRevalued, IsNearStep}
 
 -- the same, one step after another
 abbrev pub AreStepsOn : Content → List Difference → Type 0
-AreStepsOn now [] = IsKept now
-AreStepsOn now (s ∷ ss) = IsKept (all_taken_back (s ∷ ss) now) × Follows (all_taken_back (s ∷ ss) now) (all_taken_back ss now)
+AreStepsOn now [] = IsLawfulContent now
+AreStepsOn now (s ∷ ss) = IsLawfulContent (all_taken_back (s ∷ ss) now) × Follows (all_taken_back (s ∷ ss) now) (all_taken_back ss now)
     × IsDifference (all_taken_back (s ∷ ss) now) (all_taken_back ss now) s × AreStepsOn now ss
 
 steps-later : (now : Content) (s : Difference) (ss : List Difference) → AreStepsTo now (s ∷ ss) → AreStepsTo now ss

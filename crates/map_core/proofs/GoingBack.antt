@@ -5,21 +5,21 @@ use Rattle.std.proofs.lemmas.Option.{same_Some}
 use Rattle.map_defs.specs.Kind.{Kind}
 use Rattle.map_defs.specs.Rows.{Rows}
 use Rattle.map_defs.specs.Values.{Meaning, Rule}
-use Rattle.map_defs.specs.State.{Content}
+use Rattle.machine_defs.specs.State.{Content}
 use Rattle.map_defs.specs.Refusal.{NoMark}
-use Rattle.map_defs.specs.Script.{Undo}
-use Rattle.map_defs.specs.Machine.{Step}
-use Rattle.map_defs.specs.Text as text
+use Rattle.machine_defs.specs.Script.{Undo}
+use Rattle.machine_defs.specs.Machine.{Step}
+use Rattle.machine_defs.specs.Text as text
 use Rattle.journal_laws.specs.Following.{all_taken_back}
-use Rattle.undo_journal.specs.Trails as trails
-use Rattle.undo_journal.specs.Trails.{Placed, Trail, steps_since, back, IsOrdered}
-use Rattle.undo_journal.proofs.TrailFacts.{mark_within, name_is_mark}
+use Rattle.trail_laws.specs.Trails as trails
+use Rattle.trail_laws.specs.Trails.{Placed, Trail, steps_since, back, IsOrdered}
+use Rattle.trail_laws.proofs.TrailFacts.{mark_within, name_is_mark}
 use Rattle.trail_laws.specs.Told.{told, before_steps, IsTraced}
 use Rattle.trail_laws.proofs.Naming.{names-told}
 use Rattle.trail_laws.proofs.Between.{between-kept, between-follows, between-differ}
 use Rattle.trail_laws.proofs.Returning.{gone-back}
-use Rattle.attr_pool.specs.Stores.{Store}
-use Rattle.attr_pool.specs.Labelings.{Labeling}
+use Rattle.store_defs.specs.Stores.{Store}
+use Rattle.store_defs.specs.Labelings.{Labeling}
 use Rattle.label_laws.specs.Contents.{content_of}
 use Rattle.label_laws.specs.Maps.{IsStoredMap}
 use Rattle.map_core.specs.Noted.{IsJournaled}

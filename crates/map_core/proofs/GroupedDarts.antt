@@ -2,7 +2,7 @@
 use Rattle.std.proofs.Common.{◌≡◌, ℕ, ◌+◌, ◌<◌, ◌≤◌, ◌⊎◌, ◌↔◌, ◌==◌, if◌then◌else◌, rules, tests, List, [], ◌++◌, length, sym, ap, ◌∙◌, subst, inl, inr, arith, Contains}
 use Rattle.std.proofs.lemmas.Bool.{cases_eq}
 use Rattle.std.proofs.lemmas.List.Elements.{Contains-append_left, Contains-append_right, Contains-append_cases}
-use Rattle.transport.specs.Groups.{Group, group_at}
+use Rattle.store_defs.specs.Groups.{Group, group_at}
 use Rattle.map_core.specs.Noted.{IsRelabelledPlace}
 
 -- d is a dart of one of the first k groups, of this dimension

@@ -8,17 +8,17 @@ use Rattle.map_defs.specs.Links.{Links}
 use Rattle.map_defs.specs.Rows.{Rows, links_of, IsLive, IsSound, made, made_max}
 use Rattle.map_defs.specs.Counts.{HasCount}
 use Rattle.map_defs.specs.Edits.{Edit, after_edit}
-use Rattle.map_defs.specs.State.{State, Content}
+use Rattle.machine_defs.specs.State.{State, Content}
 use Rattle.map_defs.specs.Values.{Rule, Meaning}
-use Rattle.map_defs.specs.Relinking.{NoDart}
+use Rattle.machine_defs.specs.Relinking.{NoDart, IsTooMany, IsGrown}
 use Rattle.map_defs.specs.Insertion.{AreOnOneSide, FaceDarts, IsOnOneVolume, IsClosedPath, IsFacePaired, IsFace}
-use Rattle.map_defs.specs.Inserting.{VertexDarts, IsVertex, InCorner, AreEdgePaired, EdgeDarts, IsEdge, IsTooMany, IsGrown}
-use Rattle.map_defs.specs.Script.{Line, Vertex, Edge, Face}
-use Rattle.map_defs.specs.Machine.{Step, Judged, Inserts, room_check}
-use Rattle.map_defs.specs.Text as text
-use Rattle.map_defs.specs.Text.{Reply}
-use Rattle.attr_pool.specs.Stores.{Store}
-use Rattle.attr_pool.specs.Labelings.{Labeling}
+use Rattle.map_defs.specs.Inserting.{VertexDarts, IsVertex, InCorner, AreEdgePaired, EdgeDarts, IsEdge}
+use Rattle.machine_defs.specs.Script.{Line, Vertex, Edge, Face}
+use Rattle.machine_defs.specs.Machine.{Step, Judged, InsertsDarts, room_check}
+use Rattle.machine_defs.specs.Text as text
+use Rattle.machine_defs.specs.Text.{Reply}
+use Rattle.store_defs.specs.Stores.{Store}
+use Rattle.store_defs.specs.Labelings.{Labeling}
 use Rattle.label_laws.specs.Contents.{content_of, IsCarriedOn}
 use Rattle.label_laws.proofs.Remaking.{relinked}
 use Rattle.machine_laws.proofs.Answers.{count-one}
@@ -49,7 +49,7 @@ module _ (k : Kind) (n : ℕ) (rows : Rows) (l : Labeling) (p : Store) (rules : 
         relinked = relinked k n rows edit sound begun plan.fits NoDart (λ x. (λ none. absurd none, λ at. absurd (omega (arith, at.1, ap length plan.deaths)))) hook l p rules next on (Becomes Here plan.star) plan.becomes;
       }
 
-      inserted : (line : Line) → ((reply : Reply) (new : State) → Judged s (room_check s.present (K s.present) ∷ []) (Inserts hook s (K s.present) (Becomes s.present)) reply new → Step hook s line reply new)
+      inserted : (line : Line) → ((reply : Reply) (new : State) → Judged s (room_check s.present (K s.present) ∷ []) (InsertsDarts hook s (K s.present) (Becomes s.present)) reply new → Step hook s line reply new)
           → (result : Result Done Refused) (new : State) → Grows hook s edit result new → Does hook s line result new
       inserted line passes (Ok done) new g =
           let few : made rows + edit.births ≤ made_max = subst (λ (c : Content). made c.rows + edit.births ≤ made_max) (sym view) g.0 in

@@ -5,16 +5,16 @@ use Rattle.map_defs.specs.Laws.{Laws}
 use Rattle.map_defs.specs.Rows.{Rows, IsLive, links_of, made, made_max}
 use Rattle.map_defs.specs.Values.{Rule}
 use Rattle.map_defs.specs.Edits.{Edit, Fits, after_edit}
-use Rattle.map_defs.specs.State.{Content, value_at, steps_to, with_born}
-use Rattle.map_defs.specs.Difference.{Difference, ValueChange, IsDifference, IsValueBefore, IsRuleBefore}
+use Rattle.machine_defs.specs.State.{Content, value_at, steps_to, with_born}
+use Rattle.machine_defs.specs.Difference.{Difference, ValueChange, IsDifference, IsValueBefore, IsRuleBefore}
 use Rattle.journal_laws.specs.Following.{Follows}
 use Rattle.journal_laws.specs.Ordering.{IsRowsDifference}
 use Rattle.journal_laws.proofs.Led.{led-follows}
 use Rattle.machine_laws.proofs.Followed.{stays-follows}
-use Rattle.attr_pool.specs.Stores.{Store}
-use Rattle.attr_pool.specs.Labelings.{Labeling, KeepsIds, KeepsPlaces, HasPlaces as HasIdPlaces}
-use Rattle.transport.specs.Groups.{Group}
-use Rattle.undo_journal.specs.Trails.{Trail, empty_trail, IsOrdered}
+use Rattle.store_defs.specs.Stores.{Store}
+use Rattle.store_defs.specs.Labelings.{Labeling, KeepsIds, KeepsPlaces, HasPlaces as HasIdPlaces}
+use Rattle.store_defs.specs.Groups.{Group}
+use Rattle.trail_laws.specs.Trails.{Trail, empty_trail, IsOrdered}
 use Rattle.trail_laws.specs.Told.{told, IsTraced}
 use Rattle.trail_laws.proofs.Noting.{traced-begun, told-unmarked, traced-unmarked}
 use Rattle.label_laws.specs.Contents.{content_of, all_rules}
@@ -22,8 +22,8 @@ use Rattle.label_laws.specs.Maps.{IsStoredMap}
 use Rattle.label_laws.specs.Changing.{AreRelabelled, IsGroupedBelow}
 use Rattle.label_laws.specs.Touching.{AreAllTouched}
 use Rattle.label_laws.proofs.Showing.{value-shown, places-shown, kept-shown}
-use Rattle.label_laws.proofs.Same.{worth-alike, content-alike, stored-alike}
-use Rattle.label_laws.proofs.Steps.{stored-grown}
+use Rattle.label_laws.proofs.Same.{stored_value-alike, content-alike, stored-alike}
+use Rattle.label_laws.proofs.LineSteps.{stored-grown}
 use Rattle.label_laws.proofs.Making.{led, bear-stored, bear-content, relink-stored, relink-outside}
 use Rattle.map_core.specs.Noted.{IsJournaled, advanced, step_of, IsSorted, IsRelabelledPlace, AreOldValues, AreNewValues}
 use Rattle.map_core.proofs.Stepped.{told-advanced, traced-advanced, parts-differ, no-values-differ, no-rules-differ, none-ordered}
@@ -128,7 +128,7 @@ module _ (k : Kind) (n : ℕ) (rows : Rows) (e sorted : Edit) (l : Labeling) (p 
     stored-born = bear-stored k n rows e l p rules j.stored fits few laws m ids places grown born is
 
     same-values : (i d : ℕ) → value_at (content_of k n New m p rules) i d ≡ value_at (content_of k n rows l p rules) i d
-    same-values i d = value-shown k n New m p rules stored-born i d ∙ worth-alike l m p p ids refl i d ∙ sym (value-shown k n rows l p rules j.stored i d)
+    same-values i d = value-shown k n New m p rules stored-born i d ∙ stored_value-alike l m p p ids refl i d ∙ sym (value-shown k n rows l p rules j.stored i d)
 
     pub bear-differs : IsSorted e sorted → IsDifference (content_of k n rows l p rules) (content_of k n New m p rules) (step_of (made rows) sorted [] [])
     bear-differs order =
@@ -159,7 +159,7 @@ module _ (k : Kind) (n : ℕ) (rows : Rows) (e sorted : Edit) (l : Labeling) (p 
 
     outside-stays : (i d : ℕ) → (IsRelabelledPlace n e.deaths groups i d → ⊥) → value_at (content_of k n rows l p rules) i d ≡ value_at (content_of k n New m' q' rules) i d
     outside-stays i d out =
-        value-shown k n rows l p rules j.stored i d ∙ sym (worth-alike l m p q ids slots i d)
+        value-shown k n rows l p rules j.stored i d ∙ sym (stored_value-alike l m p q ids slots i d)
         ∙ sym (relink-outside k n rows e l p rules j.stored fits few laws m ids places grown q slots groups touched m' q' r i d out)
         ∙ sym (value-shown k n New m' q' rules stored-relinked i d)
 
@@ -172,7 +172,7 @@ module _ (k : Kind) (n : ℕ) (rows : Rows) (e sorted : Edit) (l : Labeling) (p 
       relink-differs some =
           parts-differ (content_of k n rows l p rules) (content_of k n New m' q' rules) sorted values [] (edit-differs (order some))
           (olds-differ (IsRelabelledPlace n e.deaths groups) m m' q q' olds values (content_of k n rows l p rules) (content_of k n New m' q' rules)
-          (λ i d. value-shown k n rows l p rules j.stored i d ∙ sym (worth-alike l m p q ids slots i d))
+          (λ i d. value-shown k n rows l p rules j.stored i d ∙ sym (stored_value-alike l m p q ids slots i d))
           (value-shown k n New m' q' rules stored-relinked) outside-stays (old some) new)
           (new.ordered (old some).ordered)
           (no-rules-differ (content_of k n rows l p rules) (content_of k n New m' q' rules) refl) (none-ordered IsRuleBefore)

@@ -8,35 +8,35 @@ use Rattle.map_defs.specs.Rows.{Rows, IsLive, IsSound, row_at, links_of, made, m
 use Rattle.map_defs.specs.Cells.{InCell}
 use Rattle.map_defs.specs.Values.{Value, Rule}
 use Rattle.map_defs.specs.Edits.{Edit, Fits, after_edit}
-use Rattle.map_defs.specs.State.{Content, value_at, rule_at as rule_in, steps_to, without_dart}
-use Rattle.map_defs.specs.Valuing.{IsValued}
-use Rattle.map_defs.specs.Machine.{with_rule}
+use Rattle.machine_defs.specs.State.{Content, value_at, rule_at as rule_in, steps_to, without_dart}
+use Rattle.machine_defs.specs.Valuing.{IsValued}
+use Rattle.machine_defs.specs.Machine.{with_rule}
 use Rattle.map_defs.specs.Dual.{IsDual, IsDualable}
-use Rattle.map_defs.specs.Dualling.{IsDualOf}
-use Rattle.map_defs.specs.Difference.{Difference, ValueChange, RuleChange, IsDifference, IsValueBefore, IsRuleBefore}
+use Rattle.machine_defs.specs.Dualling.{IsDualOf}
+use Rattle.machine_defs.specs.Difference.{Difference, ValueChange, RuleChange, IsDifference, IsValueBefore, IsRuleBefore}
 use Rattle.journal_laws.specs.Following.{Follows}
-use Rattle.link_rows.proofs.EditPlain.{death_edit, death-fits}
-use Rattle.link_rows.proofs.RowWrites.{live-within}
-use Rattle.link_rows.proofs.EditSound.{length-after, after-sound}
-use Rattle.link_rows.proofs.EditLinks.{lives-on}
+use Rattle.edit_laws.proofs.EditPlain.{death_edit, death-fits}
+use Rattle.edit_laws.proofs.RowWrites.{live-within}
+use Rattle.edit_laws.proofs.EditSound.{length-after, after-sound}
+use Rattle.edit_laws.proofs.EditLinks.{lives-on}
 use Rattle.journal_laws.proofs.EditLives.{lived-or-born}
-use Rattle.link_rows.proofs.KeptLaws.{death-keeps}
-use Rattle.attr_pool.specs.Stores.{Store}
-use Rattle.attr_pool.specs.Labelings.{Labeling, KeepsIds, HasPlaces as HasIdPlaces}
-use Rattle.transport.specs.Groups.{rule_at}
-use Rattle.undo_journal.specs.Trails.{Trail, IsOrdered}
+use Rattle.edit_laws.proofs.KeptLaws.{death-keeps}
+use Rattle.store_defs.specs.Stores.{Store}
+use Rattle.store_defs.specs.Labelings.{Labeling, KeepsIds, HasPlaces as HasIdPlaces}
+use Rattle.store_defs.specs.Groups.{rule_at}
+use Rattle.trail_laws.specs.Trails.{Trail, IsOrdered}
 use Rattle.trail_laws.specs.Told.{told}
-use Rattle.label_laws.specs.Stored.{worth}
+use Rattle.label_laws.specs.Stored.{stored_value}
 use Rattle.label_laws.specs.Contents.{content_of, all_rules}
 use Rattle.label_laws.specs.Maps.{IsStoredMap}
 use Rattle.label_laws.specs.Changing.{AreTaken}
 use Rattle.label_laws.specs.Turning.{AreTurned}
 use Rattle.label_laws.proofs.Showing.{value-shown, places-shown, rule-shown, rules-long, value-low}
-use Rattle.label_laws.proofs.Same.{worth-alike}
-use Rattle.label_laws.proofs.Steps.{made_rules, ruled-stored, ruled-content}
+use Rattle.label_laws.proofs.Same.{stored_value-alike}
+use Rattle.label_laws.proofs.LineSteps.{made_rules, ruled-stored, ruled-content}
 use Rattle.label_laws.proofs.Making.{end-stored, end-content, end-outside}
-use Rattle.label_laws.proofs.Turned.{stored-turned, shown-turned}
-use Rattle.map_core.specs.Noted.{IsJournaled, advanced, step_of, IsSorted, IsRelabelledPlace, AreOldValues, AreNewValues, AreDiffering, IsOneRule, AreRuleChanges, IsPlaceBelow, turned_worth}
+use Rattle.label_laws.proofs.DualLabels.{stored-turned, shown-turned}
+use Rattle.map_core.specs.Noted.{IsJournaled, advanced, step_of, IsSorted, IsRelabelledPlace, AreOldValues, AreNewValues, AreDiffering, IsOneRule, AreRuleChanges, IsPlaceBelow, turned_value}
 use Rattle.map_core.proofs.Stepped.{parts-differ, no-values-differ, no-rules-differ, none-ordered, no-rows-differ}
 use Rattle.map_core.proofs.SortedEdit.{sorted-difference}
 use Rattle.map_core.proofs.ListedValues.{olds-differ, values-differ}
@@ -125,7 +125,7 @@ module _ (k : Kind) (n : ℕ) (rows : Rows) (l m : Labeling) (p : Store) (rules 
   rule-differs : 0 < t.standing → IsDifference Was Is RuleStep
   rule-differs some =
       parts-differ Was Is empty_edit [] changes (no-rows-differ rows)
-      (no-values-differ Was Is (λ h x. value-shown k n rows m p Next ruled h x ∙ worth-alike l m p p ids refl h x ∙ sym (value-shown k n rows l p rules j.stored h x))) (none-ordered IsValueBefore)
+      (no-values-differ Was Is (λ h x. value-shown k n rows m p Next ruled h x ∙ stored_value-alike l m p p ids refl h x ∙ sym (value-shown k n rows l p rules j.stored h x))) (none-ordered IsValueBefore)
       (rules-differ (one some)) (one some).ordered
 
   pub rule-journaled : IsJournaled k n rows m p Next (advanced t RuleStep)
@@ -207,7 +207,7 @@ module _ (k : Kind) (n : ℕ) (rows : Rows) (edit : Edit) (l m : Labeling) (p : 
     (able : IsDualable k n (links_of rows) (IsLive rows)) (dual : IsDual k n (links_of rows) (links_of (after_edit n edit rows)))
     (long : length (after_edit n edit rows) ≡ length rows) (live : (d : ℕ) → IsLive (after_edit n edit rows) d ↔ IsLive rows d) (sound : IsSound k n (after_edit n edit rows))
     (turns : AreTurned n l m) (sorted : Edit) (order : 0 < t.standing → IsSorted edit sorted)
-    (values : List ValueChange) (differing : AreDiffering (IsPlaceBelow (n + 1) (made rows)) (worth p l) (turned_worth n l p) values)
+    (values : List ValueChange) (differing : AreDiffering (IsPlaceBelow (n + 1) (made rows)) (stored_value p l) (turned_value n l p) values)
     (changes : List RuleChange) (rules_differing : AreRuleChanges (length rules) rules (reverse rules) changes) where
   abbrev Turned : Rows
   Turned = after_edit n edit rows
@@ -244,7 +244,7 @@ module _ (k : Kind) (n : ℕ) (rows : Rows) (edit : Edit) (l m : Labeling) (p : 
 
   turned-values : (c : ValueChange) → Contains values c ↔ ((c.old ≡ value_at Map c.dim c.dart) × (c.new ≡ value_at Its c.dim c.dart) × (c.old ≢ c.new))
   turned-values =
-      values-differ (IsPlaceBelow (n + 1) (made rows)) (worth p l) (turned_worth n l p) values Map Its
+      values-differ (IsPlaceBelow (n + 1) (made rows)) (stored_value p l) (turned_value n l p) values Map Its
       (λ i d place. value-shown k n rows l p rules j.stored i d)
       (λ i d place. is-dual.values i d (let low = place.0 in omega arith) ∙ value-shown k n rows l p rules j.stored (n - i) d)
       low-or-none differing

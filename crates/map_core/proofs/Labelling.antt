@@ -1,7 +1,7 @@
 -- Where place for ids is made.
 use Rattle.std.proofs.Common.{ℕ, ◌≡◌, arith}
-use Rattle.attr_pool.specs.Labelings.{Labeling, KeepsPlaces}
-use Rattle.transport.specs.Groups.{Group}
+use Rattle.store_defs.specs.Labelings.{Labeling, KeepsPlaces}
+use Rattle.store_defs.specs.Groups.{Group}
 use Rattle.label_laws.specs.Touching.{CanLabel}
 
 -- it stays where places and darts stay

@@ -7,13 +7,13 @@ use Rattle.std.proofs.lemmas.List.Elements.{Contains-append_left, Contains-appen
 use Rattle.std.proofs.lemmas.List.Quantifiers.{all_pairs_push}
 use Rattle.std.proofs.lemmas.List.Kept.{AllPairs-from_increasing}
 use Rattle.map_defs.specs.Values.{Value, Rule}
-use Rattle.map_defs.specs.State.{Content, value_at}
-use Rattle.map_defs.specs.Difference.{ValueChange, RuleChange, IsValueBefore, IsRuleBefore}
-use Rattle.attr_pool.specs.Stores.{Store}
-use Rattle.attr_pool.specs.Labelings.{Labeling}
-use Rattle.transport.specs.Groups.{rule_at}
-use Rattle.label_laws.specs.Stored.{worth}
-use Rattle.map_core.specs.Noted.{AreOldValues, AreNewValues, AreDiffering, AreRuleChanges, IsAdded, IsRuleAdded, IsPlaceBelow, old_value}
+use Rattle.machine_defs.specs.State.{Content, value_at}
+use Rattle.machine_defs.specs.Difference.{ValueChange, RuleChange, IsValueBefore, IsRuleBefore}
+use Rattle.store_defs.specs.Stores.{Store}
+use Rattle.store_defs.specs.Labelings.{Labeling}
+use Rattle.store_defs.specs.Groups.{rule_at}
+use Rattle.label_laws.specs.Stored.{stored_value}
+use Rattle.map_core.specs.Noted.{AreOldValues, AreNewValues, AreDiffering, AreRuleChanges, IsValueAdded, IsRuleAdded, IsPlaceBelow, old_value}
 
 value_change : ℕ → ℕ → Option Value → Option Value → ValueChange
 value_change dim dart old new = record { dim = dim; dart = dart; old = old; new = new }
@@ -27,20 +27,20 @@ same-value-change b c dim dart old new =
 
 -- the values before and after at the same places are those that differ
 pub new-differing : (Place : ℕ → ℕ → Type 0) (l m : Labeling) (p q : Store) (olds values : List ValueChange) → AreOldValues Place l p olds → AreNewValues m q olds values
-    → AreDiffering Place (worth p l) (worth q m) values
+    → AreDiffering Place (stored_value p l) (stored_value q m) values
 new-differing Place l m p q olds values old new = record { members = λ c. (to c, back c); ordered = new.ordered old.ordered }
   where
-    to : (c : ValueChange) → Contains values c → Place c.dim c.dart × (c.old ≡ worth p l c.dim c.dart) × (c.new ≡ worth q m c.dim c.dart) × (c.old ≢ c.new)
+    to : (c : ValueChange) → Contains values c → Place c.dim c.dart × (c.old ≡ stored_value p l c.dim c.dart) × (c.new ≡ stored_value q m c.dim c.dart) × (c.old ≢ c.new)
     to c held =
         let (o, there, dim, dart, same, is, differ) = (new.members c).0 held in
         let at = old.placed o there in (
           subst (λ (i : ℕ). Place i c.dart) (sym dim) (subst (Place o.dim) (sym dart) at.0),
-          same ∙ at.1 ∙ ap (λ (i : ℕ). worth p l i o.dart) (sym dim) ∙ ap (worth p l c.dim) (sym dart),
+          same ∙ at.1 ∙ ap (λ (i : ℕ). stored_value p l i o.dart) (sym dim) ∙ ap (stored_value p l c.dim) (sym dart),
           is,
           differ,
         )
 
-    back : (c : ValueChange) → Place c.dim c.dart × (c.old ≡ worth p l c.dim c.dart) × (c.new ≡ worth q m c.dim c.dart) × (c.old ≢ c.new) → Contains values c
+    back : (c : ValueChange) → Place c.dim c.dart × (c.old ≡ stored_value p l c.dim c.dart) × (c.new ≡ stored_value q m c.dim c.dart) × (c.old ≢ c.new) → Contains values c
     back c (place, was, is, differ) =
         let (o, there, dim, dart) = old.all c.dim c.dart place in
         let at = old.placed o there in
@@ -49,7 +49,7 @@ new-differing Place l m p q olds values old new = record { members = λ c. (to c
           there,
           sym dim,
           sym dart,
-          was ∙ ap (λ (i : ℕ). worth p l i c.dart) (sym dim) ∙ ap (worth p l o.dim) (sym dart) ∙ sym at.1,
+          was ∙ ap (λ (i : ℕ). stored_value p l i c.dart) (sym dim) ∙ ap (stored_value p l o.dim) (sym dart) ∙ sym at.1,
           is,
           differ,
         )
@@ -99,11 +99,11 @@ place-or-not Place l p olds are i d = elim (named-or-not olds i d) [
 
 -- the values that differ, from the old ones at all places that change
 pub olds-differ : (Place : ℕ → ℕ → Type 0) (l m : Labeling) (p q : Store) (olds values : List ValueChange) (a b : Content)
-    → ((i d : ℕ) → value_at a i d ≡ worth p l i d) → ((i d : ℕ) → value_at b i d ≡ worth q m i d)
+    → ((i d : ℕ) → value_at a i d ≡ stored_value p l i d) → ((i d : ℕ) → value_at b i d ≡ stored_value q m i d)
     → ((i d : ℕ) → (Place i d → ⊥) → value_at a i d ≡ value_at b i d) → AreOldValues Place l p olds → AreNewValues m q olds values
     → (c : ValueChange) → Contains values c ↔ ((c.old ≡ value_at a c.dim c.dart) × (c.new ≡ value_at b c.dim c.dart) × (c.old ≢ c.new))
 olds-differ Place l m p q olds values a b before after outside old new =
-    values-differ Place (worth p l) (worth q m) values a b (λ i d _. before i d) (λ i d _. after i d) else (new-differing Place l m p q olds values old new)
+    values-differ Place (stored_value p l) (stored_value q m) values a b (λ i d _. before i d) (λ i d _. after i d) else (new-differing Place l m p q olds values old new)
   where
     else : (i d : ℕ) → Place i d ⊎ (value_at a i d ≡ value_at b i d)
     else i d = elim (place-or-not Place l p olds old i d) [ inl place ↦ inl place | inr out ↦ inr (outside i d out) ]
@@ -143,7 +143,7 @@ differing-as Place Other old new values same are = record {
 -- one dart more, which comes after the others
 pub differing-more : (Place : ℕ → ℕ → Type 0) (old new : ℕ → ℕ → Option Value) (i d : ℕ) (values more : List ValueChange)
     → ((j x : ℕ) → Place j x → (j < i) ⊎ ((j ≡ i) × (x < d)))
-    → AreDiffering Place old new values → IsAdded (record { dim = i; dart = d; old = old i d; new = new i d }) values more
+    → AreDiffering Place old new values → IsValueAdded (record { dim = i; dart = d; old = old i d; new = new i d }) values more
     → AreDiffering (λ j x. Place j x ⊎ ((j ≡ i) × (x ≡ d))) old new more
 differing-more Place old new i d values more before are (inl (same, kept)) =
     subst (AreDiffering (λ j x. Place j x ⊎ ((j ≡ i) × (x ≡ d))) old new) (sym kept)
@@ -195,16 +195,16 @@ module _ (Place : ℕ → ℕ → Type 0) (l : Labeling) (p : Store) (i : ℕ) (
   abbrev more : List ValueChange
   more = map (old_value l p i) darts
 
-  more-is : (c : ValueChange) → Contains more c → Wider c.dim c.dart × (c.old ≡ worth p l c.dim c.dart)
+  more-is : (c : ValueChange) → Contains more c → Wider c.dim c.dart × (c.old ≡ stored_value p l c.dim c.dart)
   more-is c (k, lt, is) =
       let short : length more ≡ length darts = length-map darts (old_value l p i) in
       let within : k < length darts = omega arith in
       let at : get_or more k c ≡ old_value l p i (get_or darts k 0) = get_or-map (old_value l p i) darts k 0 c within in
       let here : old_value l p i (get_or darts k 0) ≡ c = sym at ∙ is in
-      subst (λ (x : ValueChange). Wider x.dim x.dart × (x.old ≡ worth p l x.dim x.dart)) here
+      subst (λ (x : ValueChange). Wider x.dim x.dart × (x.old ≡ stored_value p l x.dim x.dart)) here
       (inr (refl, Contains-get_or darts k 0 within), refl)
 
-  placed : (c : ValueChange) → Contains (values ++ more) c → Wider c.dim c.dart × (c.old ≡ worth p l c.dim c.dart)
+  placed : (c : ValueChange) → Contains (values ++ more) c → Wider c.dim c.dart × (c.old ≡ stored_value p l c.dim c.dart)
   placed c held = elim (Contains-append_cases values more c held) [
     | inl early ↦ (let at = are.placed c early in (inl at.0, at.1))
     | inr late ↦ more-is c late
@@ -281,39 +281,39 @@ renewed-more w olds k values change within is are = record {
       | inr other ↦ get_or-set_other values k h (renewed w change) z other ∙ are.done h z (omega arith) low
     ]
 
-pub renewed-new : (l : Labeling) (p : Store) (olds : List ValueChange) (k : ℕ) (values kept : List ValueChange) → length values ≤ k → AreRenewed (worth p l) olds k values
+pub renewed-new : (l : Labeling) (p : Store) (olds : List ValueChange) (k : ℕ) (values kept : List ValueChange) → length values ≤ k → AreRenewed (stored_value p l) olds k values
     → ((c : ValueChange) → Contains kept c ↔ (Contains values c × (c.old ≢ c.new)))
     → (AllPairs IsValueBefore values → AllPairs IsValueBefore kept)
     → AreNewValues l p olds kept
 renewed-new l p olds k values kept all are kept_are ordered = record { members = λ c. (to c, back c); ordered = λ old. ordered (pairs old) }
   where
-    at : (h : ℕ) (z : ValueChange) → h < length olds → get_or values h z ≡ renewed (worth p l) (get_or olds h z)
+    at : (h : ℕ) (z : ValueChange) → h < length olds → get_or values h z ≡ renewed (stored_value p l) (get_or olds h z)
     at h z low = are.done h z (omega (arith, are.long)) low
 
-    to : (c : ValueChange) → Contains kept c → (o : ValueChange) × Contains olds o × (c.dim ≡ o.dim) × (c.dart ≡ o.dart) × (c.old ≡ o.old) × (c.new ≡ worth p l c.dim c.dart) × (c.old ≢ c.new)
+    to : (c : ValueChange) → Contains kept c → (o : ValueChange) × Contains olds o × (c.dim ≡ o.dim) × (c.dart ≡ o.dart) × (c.old ≡ o.old) × (c.new ≡ stored_value p l c.dim c.dart) × (c.old ≢ c.new)
     to c held =
         let there = (kept_are c).0 held in
         let h : ℕ = there.0.0 in
         let low : h < length olds = omega (arith, there.0.1, are.long) in
-        let is : renewed (worth p l) (get_or olds h c) ≡ c = sym (at h c low) ∙ there.0.2 in (
+        let is : renewed (stored_value p l) (get_or olds h c) ≡ c = sym (at h c low) ∙ there.0.2 in (
           get_or olds h c,
           Contains-get_or olds h c low,
           sym (ap (λ (x : ValueChange). x.dim) is),
           sym (ap (λ (x : ValueChange). x.dart) is),
           sym (ap (λ (x : ValueChange). x.old) is),
-          subst (λ (x : ValueChange). x.new ≡ worth p l x.dim x.dart) is refl,
+          subst (λ (x : ValueChange). x.new ≡ stored_value p l x.dim x.dart) is refl,
           there.1,
         )
 
-    back : (c : ValueChange) → (o : ValueChange) × Contains olds o × (c.dim ≡ o.dim) × (c.dart ≡ o.dart) × (c.old ≡ o.old) × (c.new ≡ worth p l c.dim c.dart) × (c.old ≢ c.new) → Contains kept c
+    back : (c : ValueChange) → (o : ValueChange) × Contains olds o × (c.dim ≡ o.dim) × (c.dart ≡ o.dart) × (c.old ≡ o.old) × (c.new ≡ stored_value p l c.dim c.dart) × (c.old ≢ c.new) → Contains kept c
     back c (o, (h, low, is), dim, dart, old, new, differ) =
         (kept_are c).1 (
           (
             h,
             omega (arith, low, are.long),
-            at h c low ∙ ap (renewed (worth p l)) (get_or_default olds h c o low ∙ is)
-                ∙ same-value-change (renewed (worth p l) o) c (sym dim) (sym dart) (sym old)
-                (ap (λ (i : ℕ). worth p l i o.dart) (sym dim) ∙ ap (worth p l c.dim) (sym dart) ∙ sym new),
+            at h c low ∙ ap (renewed (stored_value p l)) (get_or_default olds h c o low ∙ is)
+                ∙ same-value-change (renewed (stored_value p l) o) c (sym dim) (sym dart) (sym old)
+                (ap (λ (i : ℕ). stored_value p l i o.dart) (sym dim) ∙ ap (stored_value p l c.dim) (sym dart) ∙ sym new),
           ),
           differ,
         )
@@ -322,7 +322,7 @@ renewed-new l p olds k values kept all are kept_are ordered = record { members =
     pairs old a b z lt within =
         let low : b < length olds = omega (arith, are.long) in
         subst (λ (x : ValueChange). IsValueBefore x (get_or values b z)) (sym (at a z (omega arith)))
-        (subst (IsValueBefore (renewed (worth p l) (get_or olds a z))) (sym (at b z low)) (old a b z lt low))
+        (subst (IsValueBefore (renewed (stored_value p l) (get_or olds a z))) (sym (at b z low)) (old a b z lt low))
 
 -- the value at one place, put there by parts
 pub renewed-put : (w : ℕ → ℕ → Option Value) (olds : List ValueChange) (k : ℕ) (values : List ValueChange) (x y z z' : ValueChange) (v : Option Value) → k < length values

@@ -5,7 +5,7 @@ use Rattle.std.proofs.lemmas.Bool.{false≢true}
 use Rattle.std.proofs.lemmas.List.{take_more, length-take-le, ext_get_or}
 use Rattle.std.proofs.lemmas.List.FromFn.{length-map-range_with_len, get_or-map-range_with_len}
 use Rattle.map_defs.specs.Rows.{Rows, row_at, links_of, entry_of, IsLive, AreWide}
-use Rattle.map_defs.specs.Listing.{ListRow, live_rows_from}
+use Rattle.machine_defs.specs.Listing.{ListRow, live_rows_from}
 
 live_rows_from-append : (d : ℕ) (rows more : Rows) → live_rows_from d (rows ++ more) ≡ live_rows_from d rows ++ live_rows_from (d + length rows) more
 live_rows_from-append d [] more = ap (λ (n : ℕ). live_rows_from n more) (omega arith)

@@ -7,19 +7,19 @@ use Rattle.map_defs.specs.Laws.{Laws}
 use Rattle.map_defs.specs.Rows.{Rows, IsLive, IsSound, links_of, made}
 use Rattle.map_defs.specs.Cells.{NamesCell}
 use Rattle.map_defs.specs.Values.{Place, Rule}
-use Rattle.map_defs.specs.State.{Content, empty_content}
-use Rattle.map_defs.specs.Loading.{first_copy}
+use Rattle.machine_defs.specs.State.{Content, empty_content}
+use Rattle.machine_defs.specs.Loading.{first_copy}
 use Rattle.cell_walk.specs.CellLists.{AreCellsOf}
-use Rattle.attr_pool.specs.Stores.{Store}
-use Rattle.attr_pool.specs.Labelings.{Labeling, KeepsIds, HasPlaces}
-use Rattle.transport.specs.Groups.{Group}
+use Rattle.store_defs.specs.Stores.{Store}
+use Rattle.store_defs.specs.Labelings.{Labeling, KeepsIds, HasPlaces}
+use Rattle.store_defs.specs.Groups.{Group}
 use Rattle.label_laws.specs.Changing.{AreGroupsGiven}
 use Rattle.label_laws.specs.Contents.{all_rules, content_of}
 use Rattle.label_laws.specs.Maps.{IsStoredMap}
 use Rattle.label_laws.specs.Placing.{ArePlacedCells}
 use Rattle.label_laws.specs.Touching.{CanLabel}
 use Rattle.label_laws.proofs.Showing.{places-shown, kept-shown}
-use Rattle.label_laws.proofs.Steps.{made_rules}
+use Rattle.label_laws.proofs.LineSteps.{made_rules}
 use Rattle.label_laws.proofs.Loading.{placed-labelled, loaded-stored, loaded-rules, loaded-values, loaded-others}
 use Rattle.map_core.specs.Made.{IsMadeOf}
 use Rattle.map_core.specs.Placed.{placed_group, placed_groups}

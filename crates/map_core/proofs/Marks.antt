@@ -5,15 +5,15 @@ use Rattle.map_kind.specs.declared.refusal.Refusal.TheVariants as told_as
 use Rattle.map_kind.specs.declared.refusal.Refused.{Refused}
 use Rattle.map_kind.specs.declared.refusal.Refused.TheVariants as why
 use Rattle.map_defs.specs.Values.{Meaning}
-use Rattle.map_defs.specs.State.{Content}
-use Rattle.map_defs.specs.Marking.{since}
-use Rattle.map_defs.specs.Difference.{Difference, AreDifferences}
+use Rattle.machine_defs.specs.State.{Content}
+use Rattle.machine_defs.specs.Marking.{since}
+use Rattle.machine_defs.specs.Difference.{Difference, AreDifferences}
 use Rattle.map_defs.specs.Refusal.{NoMark}
-use Rattle.map_defs.specs.Script.{Mark, Log}
-use Rattle.map_defs.specs.Machine.{Step}
-use Rattle.map_defs.specs.Text as text
-use Rattle.undo_journal.specs.Trails as trails
-use Rattle.undo_journal.specs.Trails.{Trail, steps_since, IsOrdered, marked}
+use Rattle.machine_defs.specs.Script.{Mark, Log}
+use Rattle.machine_defs.specs.Machine.{Step}
+use Rattle.machine_defs.specs.Text as text
+use Rattle.trail_laws.specs.Trails as trails
+use Rattle.trail_laws.specs.Trails.{Trail, steps_since, IsOrdered, marked}
 use Rattle.trail_laws.specs.Told.{told, IsTraced}
 use Rattle.trail_laws.proofs.Naming.{names-told, mark-told, mark-stands}
 use Rattle.trail_laws.proofs.Marking.{told-marked}

@@ -7,7 +7,7 @@ use Rattle.map_defs.specs.Links.{Links}
 use Rattle.map_defs.specs.Cells.{InCell}
 use Rattle.map_defs.specs.Values.{Place}
 use Rattle.cell_walk.specs.CellLists.{AreCellsOf}
-use Rattle.transport.specs.Groups.{Group, group_at, no_group}
+use Rattle.store_defs.specs.Groups.{Group, group_at, no_group}
 use Rattle.label_laws.specs.Placing.{IsPlacedCell, ArePlacedCells}
 use Rattle.map_core.specs.Placed.{no_place, placed_group, placed_groups}
 

@@ -12,7 +12,7 @@ use Rattle.map_defs.specs.Births.{IsNumbered}
 use Rattle.map_defs.specs.Edits.{Edit, Fits, after_edit}
 use Rattle.map_defs.specs.Insertion.{AreOnOneSide, FaceDarts, IsOnOneVolume, IsClosedPath, IsFacePaired, IsFace}
 use Rattle.map_defs.specs.Inserting.{VertexDarts, IsVertex, InCorner, EdgeDarts, AreEdgePaired, IsEdge}
-use Rattle.alpha_edit.specs.Inserting.{Inserts}
+use Rattle.alpha_edit.specs.Inserting.{PlansInsertion}
 
 -- The edit fits the rows, makes a new dart for each dart of K, numbered on from those that were made in the order of the
 -- darts of K, and ends none. The links after it are what Becomes asks of the new darts, and obey the laws.
@@ -55,7 +55,7 @@ PlansFace k n rows path (Err (why.Line refusal)) =
 PlansFace k n rows path (Err why.NoMemory) = Unit {0}
 
 -- as a plan of a generalized map tells it
-pub planned : (n : ℕ) (rows : Rows) (K : ℕ → Type 0) (Becomes : (ℕ → ℕ) → Links → Type 0) (edit : Edit) → Inserts n rows K Becomes edit → IsPlanned alpha n rows K Becomes edit
+pub planned : (n : ℕ) (rows : Rows) (K : ℕ → Type 0) (Becomes : (ℕ → ℕ) → Links → Type 0) (edit : Edit) → PlansInsertion n rows K Becomes edit → IsPlanned alpha n rows K Becomes edit
 planned n rows K Becomes edit i = record {
   fits = i.fits;
   deaths = i.deaths;

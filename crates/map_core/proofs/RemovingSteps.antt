@@ -8,16 +8,16 @@ use Rattle.map_defs.specs.Links.{Links}
 use Rattle.map_defs.specs.Rows.{Rows, links_of, IsLive, IsSound}
 use Rattle.map_defs.specs.Cells.{InCell}
 use Rattle.map_defs.specs.Edits.{Edit, Fits, after_edit}
-use Rattle.map_defs.specs.State.{State, Content, steps_to}
+use Rattle.machine_defs.specs.State.{State, Content, steps_to}
 use Rattle.map_defs.specs.Values.{Rule, Meaning}
-use Rattle.map_defs.specs.Relinking.{IsRelinked}
+use Rattle.machine_defs.specs.Relinking.{IsRelinked}
 use Rattle.map_defs.specs.Removal.{IsRemovable, IsRemoved}
 use Rattle.map_defs.specs.Contraction.{IsContractible, IsContracted}
-use Rattle.map_defs.specs.Script.{Remove, Contract}
-use Rattle.map_defs.specs.Machine.{Step}
-use Rattle.map_defs.specs.Text as text
-use Rattle.attr_pool.specs.Stores.{Store}
-use Rattle.attr_pool.specs.Labelings.{Labeling}
+use Rattle.machine_defs.specs.Script.{Remove, Contract}
+use Rattle.machine_defs.specs.Machine.{Step}
+use Rattle.machine_defs.specs.Text as text
+use Rattle.store_defs.specs.Stores.{Store}
+use Rattle.store_defs.specs.Labelings.{Labeling}
 use Rattle.label_laws.specs.Contents.{content_of, IsCarriedOn}
 use Rattle.label_laws.proofs.Remaking.{relinked}
 use Rattle.map_core.specs.Calls.{Does}

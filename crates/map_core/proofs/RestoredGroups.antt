@@ -10,7 +10,7 @@ use Rattle.map_defs.specs.Cells.{InCell}
 use Rattle.map_defs.specs.Values.{Value, Rule}
 use Rattle.link_laws.proofs.RowFacts.{rows_lead_to_live}
 use Rattle.value_laws.proofs.Touching.{cell_live}
-use Rattle.transport.specs.Groups.{Group, group_at, no_group, least_of, rule_at, IsBefore}
+use Rattle.store_defs.specs.Groups.{Group, group_at, no_group, least_of, rule_at, IsBefore}
 use Rattle.transport.specs.Pieces.{AreBareCells}
 use Rattle.label_laws.specs.Changing.{IsGroupedBelow}
 use Rattle.label_laws.specs.Restoring.{IsRestored, AreRestored}

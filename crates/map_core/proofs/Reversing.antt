@@ -4,10 +4,10 @@ use lib.ListN.{length-drop}
 use Rattle.map_defs.specs.Kind.{Kind}
 use Rattle.map_defs.specs.Rows.{Rows, made, live_count}
 use Rattle.map_defs.specs.Edits.{Edit, IsLed}
-use Rattle.map_defs.specs.Difference.{Difference}
+use Rattle.machine_defs.specs.Difference.{Difference}
 use Rattle.dart_arena.specs.Stock.{Stock}
 use Rattle.dart_arena.proofs.RowLemmas.{same-stock}
-use Rattle.link_rows.proofs.EditSound.{length-after}
+use Rattle.edit_laws.proofs.EditSound.{length-after}
 use Rattle.map_core.specs.Undoing.{AreEditsTo, step_at, rows_before}
 use Rattle.map_core.proofs.RowCounts.{count-after}
 

@@ -3,8 +3,8 @@ use Rattle.std.proofs.Common.{◌≡◌, ℕ, zero, suc, ◌+◌, ◌-◌, ◌�
 use Rattle.std.proofs.lemmas.Bool.{false≢true}
 use lib.ListN.{length-drop}
 use Rattle.map_defs.specs.Rows.{Rows, row_at, made, live_count}
-use Rattle.map_defs.specs.State.{Content}
-use Rattle.map_defs.specs.Difference.{Difference}
+use Rattle.machine_defs.specs.State.{Content}
+use Rattle.machine_defs.specs.Difference.{Difference}
 use Rattle.dart_arena.proofs.RowLemmas.{count-le}
 use Rattle.journal_laws.specs.Following.{all_taken_back}
 use Rattle.map_core.specs.Undoing.{AreStepsTo, HasRoomFor, no_step}

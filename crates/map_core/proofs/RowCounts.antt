@@ -7,8 +7,8 @@ use Rattle.map_defs.specs.Kind.{Kind}
 use Rattle.map_defs.specs.Rows.{Rows, row_at, IsLive, live_count}
 use Rattle.map_defs.specs.Edits.{Change, Edit, IsLed, free_row, with_births, with_entry, linked, buried, with_changes}
 use Rattle.dart_arena.proofs.RowLemmas.{count-buried, count-replaced}
-use Rattle.link_rows.proofs.RowWrites.{live-within, births-old}
-use Rattle.link_rows.proofs.EditSteps.{linked-live}
+use Rattle.edit_laws.proofs.RowWrites.{live-within, births-old}
+use Rattle.edit_laws.proofs.EditSteps.{linked-live}
 
 all-live : (m : ℕ) (row : List ℕ) → length (filter is_some (replicate m (Some row))) ≡ m
 all-live zero row = refl

@@ -2,7 +2,7 @@
 use Rattle.std.proofs.Common.{ℕ, ◌≡◌, ◌⊎◌, ◌+◌, ◌∙◌, ◌==◌, List, [], ◌∷◌, length, replicate, cond, Bool, false, Option, None, inl, inr, refl, ap, arith, rules, tests}
 use Rattle.std.proofs.lemmas.List.{length-replicate, length-set}
 use Rattle.map_defs.specs.Values.{Rule}
-use Rattle.map_defs.specs.Difference.{RuleChange, unruled}
+use Rattle.machine_defs.specs.Difference.{RuleChange, unruled}
 use Rattle.label_laws.specs.Contents.{all_rules}
 
 pub unruled-long : (cs : List RuleChange) (rules : List (Option Rule)) → length (unruled cs rules) ≡ length rules

@@ -6,17 +6,17 @@ use Rattle.map_kind.specs.declared.refusal.Refused.TheVariants as why
 use Rattle.map_defs.specs.Kind.{Kind, beta, inverse, IsDistant}
 use Rattle.map_defs.specs.Rows.{Rows, links_of, IsLive, IsSound}
 use Rattle.map_defs.specs.Edits.{Edit, Fits, after_edit}
-use Rattle.map_defs.specs.State.{State, Content, steps_to}
+use Rattle.machine_defs.specs.State.{State, Content, steps_to}
 use Rattle.map_defs.specs.Values.{Rule, Meaning}
 use Rattle.map_defs.specs.Pairs.{IsGood}
 use Rattle.map_defs.specs.Links.{Links}
-use Rattle.map_defs.specs.Relinking.{IsRelinked, NoDart}
+use Rattle.machine_defs.specs.Relinking.{IsRelinked, NoDart}
 use Rattle.map_defs.specs.Sewing.{SewnPairs, IsSewable, IsSewn, IsUnsewn}
-use Rattle.map_defs.specs.Script.{Sew, Unsew}
-use Rattle.map_defs.specs.Machine.{Step, AreFree, ArePaired, links_in}
-use Rattle.map_defs.specs.Text as text
-use Rattle.attr_pool.specs.Stores.{Store}
-use Rattle.attr_pool.specs.Labelings.{Labeling}
+use Rattle.machine_defs.specs.Script.{Sew, Unsew}
+use Rattle.machine_defs.specs.Machine.{Step, AreFree, ArePaired, links_in}
+use Rattle.machine_defs.specs.Text as text
+use Rattle.store_defs.specs.Stores.{Store}
+use Rattle.store_defs.specs.Labelings.{Labeling}
 use Rattle.label_laws.specs.Contents.{content_of, IsCarriedOn}
 use Rattle.map_core.specs.Calls.{Does}
 use Rattle.map_core.specs.declared.map.Done.{Done}

@@ -6,9 +6,9 @@ use Rattle.std.proofs.lemmas.List.Elements.{All-contains}
 use Rattle.map_defs.specs.Kind.{Kind}
 use Rattle.map_defs.specs.Rows.{Rows, row_at, links_of, IsLive, IsSound}
 use Rattle.map_defs.specs.Edits.{Change, Edit, after_edit, Fits}
-use Rattle.map_defs.specs.Difference.{IsLinkBefore}
-use Rattle.link_rows.proofs.EditLinks.{links-at, links-else, ended, lives-on}
-use Rattle.link_rows.proofs.EditSound.{length-after}
+use Rattle.machine_defs.specs.Difference.{IsLinkBefore}
+use Rattle.edit_laws.proofs.EditLinks.{links-at, links-else, ended, lives-on}
+use Rattle.edit_laws.proofs.EditSound.{length-after}
 use Rattle.journal_laws.specs.Ordering.{IsRowsDifference}
 use Rattle.journal_laws.proofs.EditOrder.{Names, named-or-not}
 use Rattle.map_core.specs.Noted.{IsSorted}

@@ -3,12 +3,12 @@ use Rattle.std.proofs.Common.{◌≡◌, ◌≢◌, ℕ, zero, suc, ◌<◌, ◌
 use Rattle.std.proofs.lemmas.Bool.{cases_eq}
 use Rattle.map_defs.specs.Rows.{Rows, made}
 use Rattle.map_defs.specs.Edits.{Edit}
-use Rattle.map_defs.specs.State.{Content, value_at, rule_at, steps_to}
-use Rattle.map_defs.specs.Difference.{Difference, ValueChange, RuleChange, IsDifference, IsValueBefore, IsRuleBefore}
-use Rattle.map_defs.specs.Kept.{IsKept}
+use Rattle.machine_defs.specs.State.{Content, value_at, rule_at, steps_to}
+use Rattle.machine_defs.specs.Difference.{Difference, ValueChange, RuleChange, IsDifference, IsValueBefore, IsRuleBefore}
+use Rattle.machine_defs.specs.Kept.{IsLawfulContent}
 use Rattle.journal_laws.specs.Following.{Follows}
 use Rattle.journal_laws.specs.Ordering.{IsRowsDifference}
-use Rattle.undo_journal.specs.Trails.{Trail, noted, IsOrdered}
+use Rattle.trail_laws.specs.Trails.{Trail, noted, IsOrdered}
 use Rattle.trail_laws.specs.Told.{told, IsTraced}
 use Rattle.trail_laws.proofs.Noting.{told-unmarked, traced-unmarked, told-noted, traced-noted}
 use Rattle.map_core.specs.Noted.{advanced, step_of}
@@ -23,7 +23,7 @@ not-zero (suc n) h = search (rules, tests)
 some-marks : (t : Trail) (s : Difference) → (t.standing ≡ 0 → ⊥) → advanced t s ≡ noted t s
 some-marks t s some = ap (λ (b : Bool). cond b t (noted t s)) (not-zero t.standing some)
 
-module _ (now next : Content) (t : Trail) (step : Difference) (h : IsTraced now t) (o : IsOrdered t) (kept : IsKept next) (f : Follows now next)
+module _ (now next : Content) (t : Trail) (step : Difference) (h : IsTraced now t) (o : IsOrdered t) (kept : IsLawfulContent next) (f : Follows now next)
     (is : 0 < t.standing → IsDifference now next step) where
   pub told-advanced : told next (advanced t step) ≡ steps_to (told now t) next
   told-advanced = elim (cases_eq t.standing 0) [

@@ -9,21 +9,21 @@ use Rattle.map_defs.specs.Cells.{InCell}
 use Rattle.map_defs.specs.Touched.{IsTouched, IsOldCell}
 use Rattle.map_defs.specs.Values.{Value, Rule}
 use Rattle.map_defs.specs.Edits.{IsLed}
-use Rattle.map_defs.specs.State.{Content, value_at, rule_at as rule_in}
-use Rattle.map_defs.specs.Kept.{IsKept}
-use Rattle.map_defs.specs.Difference.{Difference, RuleChange, IsDifference}
+use Rattle.machine_defs.specs.State.{Content, value_at, rule_at as rule_in}
+use Rattle.machine_defs.specs.Kept.{IsLawfulContent}
+use Rattle.machine_defs.specs.Difference.{Difference, RuleChange, IsDifference}
 use Rattle.link_laws.proofs.Told.{laws_of_told}
 use Rattle.link_laws.proofs.RowFacts.{live_or_free, rows_lead_to_live}
-use Rattle.link_rows.proofs.RowWrites.{live-within}
+use Rattle.edit_laws.proofs.RowWrites.{live-within}
 use Rattle.value_laws.proofs.OfRows.{told_live}
 use Rattle.value_laws.proofs.Touching.{touched_touch}
-use Rattle.value_laws.proofs.ValueFacts.{value-above, values-one, same-content}
+use Rattle.journal_laws.proofs.ContentFacts.{value-above, values-one, same-content}
 use Rattle.journal_laws.specs.Following.{all_taken_back}
 use Rattle.journal_laws.proofs.Leading.{difference-led}
-use Rattle.attr_pool.specs.Stores.{Store}
-use Rattle.attr_pool.specs.Labelings.{Labeling, KeepsIds, KeepsPlaces, HasPlaces as HasIdPlaces}
-use Rattle.transport.specs.Groups.{Group, group_at, rule_at}
-use Rattle.label_laws.specs.Stored.{worth, AreStored}
+use Rattle.store_defs.specs.Stores.{Store}
+use Rattle.store_defs.specs.Labelings.{Labeling, KeepsIds, KeepsPlaces, HasPlaces as HasIdPlaces}
+use Rattle.store_defs.specs.Groups.{Group, group_at, rule_at}
+use Rattle.label_laws.specs.Stored.{stored_value, AreStored}
 use Rattle.label_laws.specs.Changing.{AreTaken, AreRelabelled, IsGroupedBelow}
 use Rattle.label_laws.specs.Contents.{content_of, all_rules}
 use Rattle.label_laws.specs.Maps.{IsStoredMap}
@@ -31,9 +31,9 @@ use Rattle.label_laws.specs.Touching.{CanLabel}
 use Rattle.label_laws.specs.Restoring.{AreRestored}
 use Rattle.label_laws.proofs.Giving.{groups-places}
 use Rattle.label_laws.proofs.Taking.{taken-as, taken-then}
-use Rattle.label_laws.proofs.Same.{worth-alike, stored-alike}
+use Rattle.label_laws.proofs.Same.{stored_value-alike, stored-alike}
 use Rattle.label_laws.proofs.Showing.{value-shown, places-shown, rule-shown, ruled-low}
-use Rattle.label_laws.proofs.Restored.{IsEarlier, stored-before, worth-before, bare-before}
+use Rattle.label_laws.proofs.Restored.{IsEarlier, stored-before, stored_value-before, bare-before}
 use Rattle.map_core.specs.Undoing.{AreStepsTo, AreEditsTo, HasRoomFor, no_step, step_at, rows_before, rules_before, value_before, IsRevalued, IsNearStep, IsStepped}
 use Rattle.map_core.proofs.Earlier.{AreStepsOn, steps-on, kind-before, dim-before, rows-are, rules-are, near-steps, value-told, value-kept}
 use Rattle.map_core.proofs.RowCounts.{count-after}
@@ -57,7 +57,7 @@ module _ (k : Kind) (n : ℕ) (rows : Rows) (l : Labeling) (p : Store) (rules : 
   on : AreStepsOn Now steps
   on = steps-on Now steps to
 
-  kept : IsKept Then
+  kept : IsLawfulContent Then
   kept = to.kept 0 (omega arith)
 
   pub back-rows : Then.rows ≡ Before
@@ -156,7 +156,7 @@ module _ (k : Kind) (n : ℕ) (rows : Rows) (l : Labeling) (p : Store) (rules : 
 
   -- the value before the steps
   abbrev Was : ℕ → ℕ → Option Value
-  Was i d = value_before steps i d (worth p l i d)
+  Was i d = value_before steps i d (stored_value p l i d)
 
   value-is : (i d : ℕ) → Was i d ≡ value_at Then i d
   value-is i d = ap (λ (v : Option Value). value_before steps i d v) (sym (value-shown k n rows l p rules s i d)) ∙ value-told Now steps on i d
@@ -199,7 +199,7 @@ module _ (k : Kind) (n : ℕ) (rows : Rows) (l : Labeling) (p : Store) (rules : 
 
     earlier : IsEarlier k rows Before l1 p1 (IsRevalued steps) (IsStepped k Before steps) (λ i. IsSome (rule_at rules0 i)) Was
     earlier = record {
-      stays = λ i d none. value-kept steps i d (worth p l i d) none ∙ sym (worth-alike l l1 p p1 ids slots i d);
+      stays = λ i d none. value-kept steps i d (stored_value p l i d) none ∙ sym (stored_value-alike l l1 p p1 ids slots i d);
       lives = some-lives;
       ruled = some-ruled;
       equal = cell-equal;
@@ -242,9 +242,9 @@ module _ (k : Kind) (n : ℕ) (rows : Rows) (l : Labeling) (p : Store) (rules : 
             ))
             (taken-then (IsRevalued steps) (λ i d. ((i < n + 1) × Contains [] d) ⊎ IsGroupedBelow (length groups) groups i d) l1 l2 relabelled.0 p1 p2 relabelled.1 taken relabelled.2)
 
-        values3 : (i d : ℕ) → worth p3 l3 i d ≡ Was i d
+        values3 : (i d : ℕ) → stored_value p3 l3 i d ≡ Was i d
         values3 =
-            worth-before k rows Before s.laws before-laws l1 p1 stored1 (IsRevalued steps) (IsStepped k Before steps) (λ i. IsSome (rule_at rules0 i)) Was earlier groups restored
+            stored_value-before k rows Before s.laws before-laws l1 p1 stored1 (IsRevalued steps) (IsStepped k Before steps) (λ i. IsSome (rule_at rules0 i)) Was earlier groups restored
             relabelled.0 relabelled.1 all-taken l3 p3 relabelled.3
 
         places3 : (l3.made ≡ relabelled.0.made) × KeepsPlaces relabelled.0 l3

@@ -6,10 +6,10 @@ use Rattle.map_kind.specs.declared.refusal.Refused.TheVariants as why
 use Rattle.map_kind.specs.Refusals.{meaning}
 use Rattle.map_core.specs.declared.map.Done.{Done}
 use Rattle.map_defs.specs.Values.{Meaning}
-use Rattle.map_defs.specs.State.{State}
-use Rattle.map_defs.specs.Script.{Line}
-use Rattle.map_defs.specs.Machine.{Step}
-use Rattle.map_defs.specs.Text as text
+use Rattle.machine_defs.specs.State.{State}
+use Rattle.machine_defs.specs.Script.{Line}
+use Rattle.machine_defs.specs.Machine.{Step}
+use Rattle.machine_defs.specs.Text as text
 
 -- The call of a changing line answers and leaves what the machine does beside this hook; where memory was wanting, the
 -- state is as it was.
@@ -19,12 +19,12 @@ Does hook s line (Err (why.Line r)) new = Step hook s line (text.Refused (meanin
 Does hook s line (Err why.NoMemory) new = new ≡ s
 
 -- The call of a question answers what the machine does, the answer being told as that reply.
-abbrev pub Answers : {A : Type 0} → Meaning → State → Line → (A → text.Reply) → Result A Refused → Type 0
-Answers hook s line reply (Ok answer) = Step hook s line (reply answer) s
-Answers hook s line reply (Err (why.Line r)) = Step hook s line (text.Refused (meaning r)) s
-Answers hook s line reply (Err why.NoMemory) = Unit {0}
+abbrev pub AnswersQuestion : {A : Type 0} → Meaning → State → Line → (A → text.Reply) → Result A Refused → Type 0
+AnswersQuestion hook s line reply (Ok answer) = Step hook s line (reply answer) s
+AnswersQuestion hook s line reply (Err (why.Line r)) = Step hook s line (text.Refused (meaning r)) s
+AnswersQuestion hook s line reply (Err why.NoMemory) = Unit {0}
 
 -- the same of a question that takes no memory
-abbrev pub Tells : {A : Type 0} → Meaning → State → Line → (A → text.Reply) → Result A Refusal → Type 0
-Tells hook s line reply (Ok answer) = Step hook s line (reply answer) s
-Tells hook s line reply (Err r) = Step hook s line (text.Refused (meaning r)) s
+abbrev pub AnswersAtOnce : {A : Type 0} → Meaning → State → Line → (A → text.Reply) → Result A Refusal → Type 0
+AnswersAtOnce hook s line reply (Ok answer) = Step hook s line (reply answer) s
+AnswersAtOnce hook s line reply (Err r) = Step hook s line (text.Refused (meaning r)) s

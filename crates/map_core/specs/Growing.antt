@@ -8,7 +8,7 @@ use Rattle.map_core.specs.declared.map.Done.{Done}
 use Rattle.map_defs.specs.Rows.{Rows, made, made_max, IsLive}
 use Rattle.map_defs.specs.Edits.{Edit, after_edit}
 use Rattle.map_defs.specs.Values.{Meaning}
-use Rattle.map_defs.specs.State.{State, Content, steps_to}
+use Rattle.machine_defs.specs.State.{State, Content, steps_to}
 use Rattle.label_laws.specs.Contents.{IsCarriedOn}
 
 -- An edit that inserts was made, and the values were carried; or too many darts would have been made, or memory was wanting.

@@ -1,4 +1,4 @@
-pub mod Seen
+pub mod Views
 pub mod Changing
 pub mod Calls
 pub mod Made

@@ -4,9 +4,9 @@ use Rattle.map_defs.specs.Kind.{Kind}
 use Rattle.map_defs.specs.Rows.{Rows, links_of}
 use Rattle.map_defs.specs.Cells.{InCell}
 use Rattle.map_defs.specs.Values.{Place}
-use Rattle.map_defs.specs.State.{Content, value_at, HasPlaces}
-use Rattle.map_defs.specs.Kept.{IsKept}
-use Rattle.map_defs.specs.Loading.{first_copy}
+use Rattle.machine_defs.specs.State.{Content, value_at, HasPlaces}
+use Rattle.machine_defs.specs.Kept.{IsLawfulContent}
+use Rattle.machine_defs.specs.Loading.{first_copy}
 
 -- The rows are these; dimension 0 has the rule `first copy`, and each of these cells has its value. There are no
 -- other values and rules.
@@ -18,4 +18,4 @@ pub record IsMadeOf (k : Kind) (n : ℕ) (rows : Rows) (places : List Place) (c 
   pub places_are : HasPlaces c
   pub values : All (λ place. (d : ℕ) → InCell k (links_of c.rows) 0 place.dart d → value_at c 0 d ≡ Some place.value) places
   pub others : (i d : ℕ) → i ≢ 0 → value_at c i d ≡ None
-  pub kept : IsKept c
+  pub kept : IsLawfulContent c

@@ -5,12 +5,12 @@ use Rattle.map_defs.specs.Kind.{Kind}
 use Rattle.map_defs.specs.Rows.{Rows}
 use Rattle.map_defs.specs.Values.{Value, Rule}
 use Rattle.map_defs.specs.Edits.{Change, Edit}
-use Rattle.map_defs.specs.Difference.{Difference, ValueChange, RuleChange, IsLinkBefore, IsValueBefore, IsRuleBefore}
-use Rattle.attr_pool.specs.Stores.{Store}
-use Rattle.attr_pool.specs.Labelings.{Labeling}
-use Rattle.transport.specs.Groups.{Group, rule_at}
-use Rattle.undo_journal.specs.Trails.{Trail, noted}
-use Rattle.label_laws.specs.Stored.{worth}
+use Rattle.machine_defs.specs.Difference.{Difference, ValueChange, RuleChange, IsLinkBefore, IsValueBefore, IsRuleBefore}
+use Rattle.store_defs.specs.Stores.{Store}
+use Rattle.store_defs.specs.Labelings.{Labeling}
+use Rattle.store_defs.specs.Groups.{Group, rule_at}
+use Rattle.trail_laws.specs.Trails.{Trail, noted}
+use Rattle.label_laws.specs.Stored.{stored_value}
 use Rattle.label_laws.specs.Changing.{IsGroupedBelow}
 use Rattle.label_laws.specs.Contents.{content_of}
 use Rattle.label_laws.specs.Maps.{IsStoredMap}
@@ -47,14 +47,14 @@ IsRelabelledPlace n ended groups i d = ((i < n + 1) × Contains ended d) ⊎ IsG
 
 -- The values that the darts of these places have, in the order of a log, each once.
 pub record AreOldValues (Place : ℕ → ℕ → Type 0) (labels : Labeling) (pool : Store) (values : List ValueChange) : Type 0 where
-  pub placed : (c : ValueChange) → Contains values c → Place c.dim c.dart × (c.old ≡ worth pool labels c.dim c.dart)
+  pub placed : (c : ValueChange) → Contains values c → Place c.dim c.dart × (c.old ≡ stored_value pool labels c.dim c.dart)
   pub all : (i d : ℕ) → Place i d → (c : ValueChange) × Contains values c × (c.dim ≡ i) × (c.dart ≡ d)
   pub ordered : AllPairs IsValueBefore values
 
 -- Those of these places whose values are others now, with the old ones and the new, in the same order.
 pub record AreNewValues (labels : Labeling) (pool : Store) (olds values : List ValueChange) : Type 0 where
   pub members : (c : ValueChange) → Contains values c
-      ↔ ((o : ValueChange) × Contains olds o × (c.dim ≡ o.dim) × (c.dart ≡ o.dart) × (c.old ≡ o.old) × (c.new ≡ worth pool labels c.dim c.dart) × (c.old ≢ c.new))
+      ↔ ((o : ValueChange) × Contains olds o × (c.dim ≡ o.dim) × (c.dart ≡ o.dart) × (c.old ≡ o.old) × (c.new ≡ stored_value pool labels c.dim c.dart) × (c.old ≢ c.new))
   pub ordered : AllPairs IsValueBefore olds → AllPairs IsValueBefore values
 
 -- The rules of the first dimensions, below m, that differ between two rows of rules.
@@ -69,7 +69,7 @@ pub record IsOneRule (rules : List (Option Rule)) (dim : ℕ) (rule : Rule) (cha
 
 -- the value that a dart has in a dimension
 abbrev pub old_value : Labeling → Store → ℕ → ℕ → ValueChange
-old_value labels pool i d = record { dim = i; dart = d; old = worth pool labels i d; new = worth pool labels i d }
+old_value labels pool i d = record { dim = i; dart = d; old = stored_value pool labels i d; new = stored_value pool labels i d }
 
 -- Those of these places whose values differ, with the one value and the other, in the order of a log.
 pub record AreDiffering (Place : ℕ → ℕ → Type 0) (old new : ℕ → ℕ → Option Value) (values : List ValueChange) : Type 0 where
@@ -77,12 +77,12 @@ pub record AreDiffering (Place : ℕ → ℕ → Type 0) (old new : ℕ → ℕ 
   pub ordered : AllPairs IsValueBefore values
 
 -- the value of a dart in the dual, whose cell had another dimension
-abbrev pub turned_worth : ℕ → Labeling → Store → ℕ → ℕ → Option Value
-turned_worth n labels pool i d = worth pool labels (n - i) d
+abbrev pub turned_value : ℕ → Labeling → Store → ℕ → ℕ → Option Value
+turned_value n labels pool i d = stored_value pool labels (n - i) d
 
 -- a change comes behind, if it changes something
-abbrev pub IsAdded : ValueChange → List ValueChange → List ValueChange → Type 0
-IsAdded c old new = ((c.old ≡ c.new) × (new ≡ old)) ⊎ ((c.old ≢ c.new) × (new ≡ old ++ c ∷ []))
+abbrev pub IsValueAdded : ValueChange → List ValueChange → List ValueChange → Type 0
+IsValueAdded c old new = ((c.old ≡ c.new) × (new ≡ old)) ⊎ ((c.old ≢ c.new) × (new ≡ old ++ c ∷ []))
 
 abbrev pub IsRuleAdded : RuleChange → List RuleChange → List RuleChange → Type 0
 IsRuleAdded c old new = ((c.old ≡ c.new) × (new ≡ old)) ⊎ ((c.old ≢ c.new) × (new ≡ old ++ c ∷ []))

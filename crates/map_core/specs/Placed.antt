@@ -3,7 +3,7 @@ use Rattle.std.specs.Prelude.{ℕ, List, [], length, map, Some, None, slice_inde
 use Rattle.std.specs.List.{range_with_len}
 use Rattle.map_defs.specs.Values.{Place}
 use Rattle.map_defs.specs.Carry.{known}
-use Rattle.transport.specs.Groups.{Group}
+use Rattle.store_defs.specs.Groups.{Group}
 
 -- a place of no dart
 abbrev pub no_place : Place

@@ -4,17 +4,17 @@ use Rattle.map_defs.specs.Kind.{Kind, beta}
 use Rattle.map_defs.specs.Rows.{Rows, live_count}
 use Rattle.map_defs.specs.Values.{Value, Rule}
 use Rattle.map_defs.specs.Edits.{Change, Edit, IsLed, before_edit}
-use Rattle.map_defs.specs.State.{Content}
-use Rattle.map_defs.specs.Difference.{Difference, ValueChange, IsDifference, unruled}
-use Rattle.map_defs.specs.Kept.{IsKept}
-use Rattle.transport.specs.Groups.{Group, group_at, least_of}
+use Rattle.machine_defs.specs.State.{Content}
+use Rattle.machine_defs.specs.Difference.{Difference, ValueChange, IsDifference, unruled}
+use Rattle.machine_defs.specs.Kept.{IsLawfulContent}
+use Rattle.store_defs.specs.Groups.{Group, group_at, least_of}
 use Rattle.journal_laws.specs.Following.{Follows, all_taken_back}
 use Rattle.map_core.specs.Changing.{IsBeside}
 
 -- The steps lead to the content now: with those from number j on taken back the content is a lawful one, and step j leads
 -- from it to the content one step later. The default e stands for no step, since j is within the list.
 pub record AreStepsTo (now : Content) (steps : List Difference) : Type 0 where
-  pub kept : (j : ℕ) → j ≤ length steps → IsKept (all_taken_back (drop j steps) now)
+  pub kept : (j : ℕ) → j ≤ length steps → IsLawfulContent (all_taken_back (drop j steps) now)
   pub follow : (j : ℕ) → j < length steps → Follows (all_taken_back (drop j steps) now) (all_taken_back (drop (j + 1) steps) now)
   pub differ : (j : ℕ) (e : Difference) → j < length steps
       → IsDifference (all_taken_back (drop j steps) now) (all_taken_back (drop (j + 1) steps) now) (slice_index_or steps j e)

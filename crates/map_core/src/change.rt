@@ -1,7 +1,7 @@
 //! The changing lines.
 ghost use Rattle.std.specs.Prelude.{◌≡◌, ℕ, ◌↔◌, IsTrue};
 ghost use Rattle.map_defs.specs.Rows.{IsLive, links_of};
-ghost use Rattle.map_defs.specs.Script.{Polygon, Dart as MakeDart, Del};
+ghost use Rattle.machine_defs.specs.Script.{Polygon, Dart as MakeDart, Del};
 ghost use Rattle.map_core.specs.Calls.{Does};
 
 use crate::map::{Done, Map};

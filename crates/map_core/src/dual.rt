@@ -1,15 +1,15 @@
 //! The dual of a generalized map.
 ghost use Rattle.std.specs.Prelude.{◌≡◌, ℕ, ◌+◌, ◌-◌, ◌≤◌, ◌<◌, length, reverse, IfOk, OnOk};
-ghost use Rattle.map_defs.specs.Script.{Dual};
+ghost use Rattle.machine_defs.specs.Script.{Dual};
 ghost use Rattle.label_laws.specs.Turning.{AreTurned};
-ghost use Rattle.transport.specs.Groups.{rule_at};
-ghost use Rattle.label_laws.specs.Stored.{worth};
+ghost use Rattle.store_defs.specs.Groups.{rule_at};
+ghost use Rattle.label_laws.specs.Stored.{stored_value};
 ghost use Rattle.map_core.specs.Calls.{Does};
-ghost use Rattle.map_core.specs.Noted.{AreDiffering, AreRuleChanges, IsAdded, IsRuleAdded, IsPlaceBelow, turned_worth};
+ghost use Rattle.map_core.specs.Noted.{AreDiffering, AreRuleChanges, IsValueAdded, IsRuleAdded, IsPlaceBelow, turned_value};
 
 use crate::map::{Done, Map};
 use crate::note::{is_noting, keep, noted_edit, rule_of};
-use crate::relabel::worth;
+use crate::relabel::stored_value;
 use attr_pool::{Labels, Pool};
 use attr_rules::Hook;
 use dual_map::{dual_plan, take_dual};
@@ -69,7 +69,7 @@ fn turned_values<const DIM: usize>(
 ) -> Result<Vec<ValueChange>, AllocError>
     requires high { DIM ≤ 8 }
     requires made { made ≤ MADE_MAX }
-    ensures { IfOk result (λ values. AreDiffering (IsPlaceBelow (DIM + 1) made) (worth pool.now labels.now) (turned_worth DIM labels.now pool.now) values.items) }
+    ensures { IfOk result (λ values. AreDiffering (IsPlaceBelow (DIM + 1) made) (stored_value pool.now labels.now) (turned_value DIM labels.now pool.now) values.items) }
 {
     let mut values = Vec::new(alloc);
     for dim in 0..DIM + 1 {
@@ -89,8 +89,8 @@ fn add_turned_values<const DIM: usize>(
     requires high { DIM ≤ 8 }
     requires dim { dim ≤ DIM }
     requires made { made ≤ MADE_MAX }
-    requires values { AreDiffering (IsPlaceBelow dim made) (worth pool.now labels.now) (turned_worth DIM labels.now pool.now) values.old.items }
-    ensures { OnOk result (AreDiffering (IsPlaceBelow (dim + 1) made) (worth pool.now labels.now) (turned_worth DIM labels.now pool.now) values.new.items) }
+    requires values { AreDiffering (IsPlaceBelow dim made) (stored_value pool.now labels.now) (turned_value DIM labels.now pool.now) values.old.items }
+    ensures { OnOk result (AreDiffering (IsPlaceBelow (dim + 1) made) (stored_value pool.now labels.now) (turned_value DIM labels.now pool.now) values.new.items) }
 {
     for number in 0..made {
         add_turned_value(labels, pool, dim, Dart::new(number + 1).unwrap(), values)?;
@@ -107,10 +107,10 @@ fn add_turned_value<const DIM: usize>(
     values: &mut Vec<ValueChange>,
 ) -> Result<(), AllocError>
     requires { dim ≤ DIM }
-    ensures { OnOk result (IsAdded (record { dim = dim; dart = dart; old = worth pool.now labels.now dim dart; new = turned_worth DIM labels.now pool.now dim dart }) values.old.items values.new.items) }
+    ensures { OnOk result (IsValueAdded (record { dim = dim; dart = dart; old = stored_value pool.now labels.now dim dart; new = turned_value DIM labels.now pool.now dim dart }) values.old.items values.new.items) }
 {
-    let old = worth(labels, pool, dim, dart);
-    let new = worth(labels, pool, DIM - dim, dart);
+    let old = stored_value(labels, pool, dim, dart);
+    let new = stored_value(labels, pool, DIM - dim, dart);
     if old == new {
         return Ok(());
     }

@@ -3,7 +3,7 @@ ghost use Rattle.std.specs.Prelude.{◌≡◌, ◌≤◌, length};
 ghost use Rattle.map_defs.specs.Rows.{links_of};
 ghost use Rattle.map_defs.specs.Laws.{Laws};
 ghost use Rattle.map_defs.specs.Edits.{Fits, after_edit};
-ghost use Rattle.map_defs.specs.Script.{Vertex, Edge, Face};
+ghost use Rattle.machine_defs.specs.Script.{Vertex, Edge, Face};
 ghost use Rattle.map_core.specs.Calls.{Does};
 ghost use Rattle.map_core.specs.Growing.{Grows, AreLiveDarts};
 

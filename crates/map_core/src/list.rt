@@ -2,17 +2,17 @@
 ghost use Rattle.std.specs.Prelude.{◌≡◌, ℕ, ◌+◌, ◌≤◌, ◌<◌, IfOk, OnOk, ◌++◌, ◌∷◌, [], map, None};
 ghost use Rattle.std.specs.List.{range_with_len};
 ghost use Rattle.map_defs.specs.Rows.{row_at, links_of};
-ghost use Rattle.map_defs.specs.Listing.{live_rows_from};
-ghost use Rattle.map_defs.specs.Script.{Show};
-ghost use Rattle.map_defs.specs.Machine.{Step};
-ghost use Rattle.map_defs.specs.Text.{Shown};
-ghost use Rattle.attr_pool.specs.Labelings.{id_of};
-ghost use Rattle.transport.specs.Groups.{rule_at};
-ghost use Rattle.label_laws.specs.Stored.{worth};
+ghost use Rattle.machine_defs.specs.Listing.{live_rows_from};
+ghost use Rattle.machine_defs.specs.Script.{Show};
+ghost use Rattle.machine_defs.specs.Machine.{Step};
+ghost use Rattle.machine_defs.specs.Text.{Shown};
+ghost use Rattle.store_defs.specs.Labelings.{id_of};
+ghost use Rattle.store_defs.specs.Groups.{rule_at};
+ghost use Rattle.label_laws.specs.Stored.{stored_value};
 ghost use Rattle.label_laws.specs.Lists.{AreListed, IsNamed, listed};
 
 use crate::map::Map;
-use crate::relabel::worth;
+use crate::relabel::stored_value;
 use crate::value::has_rule;
 use attr_pool::{Labels, Pool};
 use attr_rules::Hook;
@@ -171,9 +171,9 @@ fn list_value<const DIM: usize>(
     values: &mut Vec<ListValue>,
 ) -> Result<(), AllocError>
     requires { dim ≤ 8 }
-    ensures { OnOk result (values.new.items ≡ values.old.items ++ listed dim dart (worth pool.now labels.now dim dart)) }
+    ensures { OnOk result (values.new.items ≡ values.old.items ++ listed dim dart (stored_value pool.now labels.now dim dart)) }
 {
-    let Some(value) = worth(labels, pool, dim, dart) else {
+    let Some(value) = stored_value(labels, pool, dim, dart) else {
         return Ok(());
     };
     let dim = dim as u32;

@@ -5,10 +5,10 @@ ghost use Rattle.map_defs.specs.Rows.{IsLive, links_of, made};
 ghost use Rattle.map_defs.specs.Cells.{NamesCell};
 ghost use Rattle.map_defs.specs.Edits.{Fits, after_edit};
 ghost use Rattle.map_defs.specs.Laws.{Laws};
-ghost use Rattle.map_defs.specs.State.{Content, empty_state};
-ghost use Rattle.map_defs.specs.Loading.{first_state};
+ghost use Rattle.machine_defs.specs.State.{Content, empty_state};
+ghost use Rattle.machine_defs.specs.Loading.{first_state};
 ghost use Rattle.cell_walk.specs.CellLists.{AreCellsOf, lists_of};
-ghost use Rattle.attr_pool.specs.Labelings.{HasPlaces, KeepsIds};
+ghost use Rattle.store_defs.specs.Labelings.{HasPlaces, KeepsIds};
 ghost use Rattle.map_core.specs.Made.{IsMadeOf};
 
 use crate::make::make_room;

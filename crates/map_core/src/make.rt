@@ -3,9 +3,9 @@ ghost use Rattle.std.specs.Prelude.{◌≡◌, ℕ, ◌+◌, ◌≤◌, ◌++◌
 ghost use Rattle.map_defs.specs.Rows.{Rows, IsLive, links_of, made};
 ghost use Rattle.map_defs.specs.Laws.{Laws};
 ghost use Rattle.map_defs.specs.Edits.{Fits, after_edit, IsLed};
-ghost use Rattle.map_defs.specs.State.{Content, with_born, without_dart, steps_to};
-ghost use Rattle.attr_pool.specs.Labelings.{id_of};
-ghost use Rattle.transport.specs.Groups.{group_at, HasCarriedValue};
+ghost use Rattle.machine_defs.specs.State.{Content, with_born, without_dart, steps_to};
+ghost use Rattle.store_defs.specs.Labelings.{id_of};
+ghost use Rattle.store_defs.specs.Groups.{group_at, HasCarriedValue};
 ghost use Rattle.label_laws.specs.Maps.{IsStoredMap};
 ghost use Rattle.label_laws.specs.Contents.{IsCarriedOn};
 ghost use Rattle.label_laws.specs.Touching.{AreAllTouched};

@@ -2,8 +2,8 @@
 ghost use Rattle.std.specs.Prelude.{◌≡◌, ℕ, ◌+◌, ◌≤◌, ◌↔◌, IsSome, IfSome, IsTrue};
 ghost use Rattle.map_defs.specs.Rows.{IsLive, IsSound, links_of, made};
 ghost use Rattle.map_defs.specs.Laws.{IsLawful};
-ghost use Rattle.map_defs.specs.State.{empty_state};
-ghost use Rattle.map_defs.specs.Kept.{IsKept};
+ghost use Rattle.machine_defs.specs.State.{empty_state};
+ghost use Rattle.machine_defs.specs.Kept.{IsLawfulContent};
 
 use attr_pool::{Labels, Pool};
 use attr_rules::Hook;
@@ -45,12 +45,12 @@ pub struct Map<'h, K: Kind, H: Hook, const DIM: usize> {
 }
 
 impl<'h, K: Kind, H: Hook, const DIM: usize> Model for Map<'h, K, H, DIM> {
-    ghost use Rattle.map_core.specs.Seen.{Seen};
+    ghost use Rattle.map_core.specs.Views.{MapView};
     ghost use Rattle.label_laws.specs.Contents.{content_of};
     ghost use Rattle.trail_laws.specs.Told.{told};
     ghost use Rattle.map_core.specs.Noted.{IsJournaled};
 
-    ghost Value = { Seen H };
+    ghost Value = { MapView H };
 
     ghost view = { λ map. record { state = told (content_of K.kind DIM map.links.rows map.labels map.pool map.rules) map.journal.trail; hook = map.hook.now } };
 
@@ -85,7 +85,7 @@ impl<'h, K: Kind, H: Hook, const DIM: usize> Map<'h, K, H, DIM> {
         ensures dim { self.now.state.present.dim ≡ DIM }
         ensures sound { IsSound K.kind DIM self.now.state.present.rows }
         ensures lawful { IsLawful K.kind (links_of self.now.state.present.rows) }
-        ensures kept { IsKept self.now.state.present }
+        ensures kept { IsLawfulContent self.now.state.present }
     {
         &self.links
     }

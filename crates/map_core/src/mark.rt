@@ -1,8 +1,8 @@
 //! Marks, and the steps since one.
 ghost use Rattle.std.specs.Prelude.{◌≡◌};
-ghost use Rattle.map_defs.specs.Script.{Mark, Log};
-ghost use Rattle.map_defs.specs.Text.{Logged};
-ghost use Rattle.map_core.specs.Calls.{Does, Tells};
+ghost use Rattle.machine_defs.specs.Script.{Mark, Log};
+ghost use Rattle.machine_defs.specs.Text.{Logged};
+ghost use Rattle.map_core.specs.Calls.{Does, AnswersAtOnce};
 
 use crate::map::{Done, Map};
 use attr_rules::Hook;
@@ -29,7 +29,7 @@ impl<'h, K: Kind, H: Hook, const DIM: usize> Map<'h, K, H, DIM> {
     ///
     /// Refused as `NoMark` exactly where no mark has the name.
     pub fn log(&self, name: &str) -> Result<&[Step], Refusal>
-        ensures { Tells (H.meaning self.now.hook) self.now.state (Log name.now) (λ steps. Logged steps.now) result }
+        ensures { AnswersAtOnce (H.meaning self.now.hook) self.now.state (Log name.now) (λ steps. Logged steps.now) result }
     {
         // Marks and steps are in order.
         let _ = self.journal.mark_count();

@@ -4,13 +4,13 @@ ghost use Rattle.std.specs.List.Sorted.{IsStrictlyIncreasing};
 ghost use Rattle.map_defs.specs.Rows.{links_of, IsLive};
 ghost use Rattle.map_defs.specs.Cells.{InCell};
 ghost use Rattle.map_defs.specs.Edits.{Change as LinkChange};
-ghost use Rattle.map_defs.specs.Difference.{IsLinkBefore, RuleChange as ChangedRule};
-ghost use Rattle.transport.specs.Groups.{group_at, rule_at};
-ghost use Rattle.undo_journal.specs.Trails.{IsOrdered};
-ghost use Rattle.label_laws.specs.Stored.{worth};
+ghost use Rattle.machine_defs.specs.Difference.{IsLinkBefore, RuleChange as ChangedRule};
+ghost use Rattle.store_defs.specs.Groups.{group_at, rule_at};
+ghost use Rattle.trail_laws.specs.Trails.{IsOrdered};
+ghost use Rattle.label_laws.specs.Stored.{stored_value};
 ghost use Rattle.map_core.specs.Noted.{first_number, step_of, advanced, IsSorted, IsRelabelledPlace, AreOldValues, AreNewValues, IsOneRule, old_value};
 
-use crate::relabel::worth;
+use crate::relabel::stored_value;
 use attr_pool::{Labels, Pool};
 use attr_rules::TableRule;
 use cell_walk::cell;
@@ -220,7 +220,7 @@ fn add_values<const DIM: usize>(
     ensures { OnOk result (values.new.items ≡ values.old.items ++ map (old_value labels.now pool.now dim) darts.now) }
 {
     for dart in darts {
-        let old = worth(labels, pool, dim, *dart);
+        let old = stored_value(labels, pool, dim, *dart);
         let new = old;
         values.push(ValueChange {
             dim,
@@ -243,7 +243,7 @@ pub(crate) fn new_values<const DIM: usize>(
     let mut values = olds;
     for place in 0..values.len() {
         let change = values[place];
-        values[place].new = worth(labels, pool, change.dim, change.dart);
+        values[place].new = stored_value(labels, pool, change.dim, change.dart);
     }
     values.retain(|change| change.old != change.new);
     values

@@ -1,9 +1,9 @@
 //! The questions, which change nothing.
 ghost use Rattle.std.specs.Prelude.{IfOk};
-ghost use Rattle.map_defs.specs.Script.{Cell, Same, Free, Count};
-ghost use Rattle.map_defs.specs.Machine.{Step};
-ghost use Rattle.map_defs.specs.Text.{Darts, Truth, Counts};
-ghost use Rattle.map_core.specs.Calls.{Answers, Tells};
+ghost use Rattle.machine_defs.specs.Script.{Cell, Same, Free, Count};
+ghost use Rattle.machine_defs.specs.Machine.{Step};
+ghost use Rattle.machine_defs.specs.Text.{Darts, Truth, Counts};
+ghost use Rattle.map_core.specs.Calls.{AnswersQuestion, AnswersAtOnce};
 
 use crate::map::Map;
 use attr_rules::Hook;
@@ -16,7 +16,7 @@ impl<'h, K: Kind, H: Hook, const DIM: usize> Map<'h, K, H, DIM> {
     /// Refused as `BadDim` exactly where the dimension is above the map's, and then as `NoDart` exactly where no live
     /// dart has the number.
     pub fn cell(&self, alloc: Global, dim: u64, dart: u64) -> Result<Vec<Dart>, Refused>
-        ensures { Answers (H.meaning self.now.hook) self.now.state (Cell dim dart) (λ darts. Darts darts.items) result }
+        ensures { AnswersQuestion (H.meaning self.now.hook) self.now.state (Cell dim dart) (λ darts. Darts darts.items) result }
     {
         let Some(dim) = self.dimension(dim) else {
             return Err(Refused::Line(Refusal::BadDim));
@@ -33,7 +33,7 @@ impl<'h, K: Kind, H: Hook, const DIM: usize> Map<'h, K, H, DIM> {
     /// Refused as `BadDim` exactly where the dimension is above the map's, and then as `NoDart` exactly where no live
     /// dart has one of the numbers.
     pub fn same(&self, alloc: Global, dim: u64, dart: u64, other: u64) -> Result<bool, Refused>
-        ensures { Answers (H.meaning self.now.hook) self.now.state (Same dim dart other) Truth result }
+        ensures { AnswersQuestion (H.meaning self.now.hook) self.now.state (Same dim dart other) Truth result }
     {
         let Some(dim) = self.dimension(dim) else {
             return Err(Refused::Line(Refusal::BadDim));
@@ -52,7 +52,7 @@ impl<'h, K: Kind, H: Hook, const DIM: usize> Map<'h, K, H, DIM> {
     /// Refused as `BadDim` exactly where the link is above the map's dimension, and then as `NoDart` exactly where no
     /// live dart has the number.
     pub fn free(&self, link: u64, dart: u64) -> Result<bool, Refusal>
-        ensures { Tells (H.meaning self.now.hook) self.now.state (Free link dart) Truth result }
+        ensures { AnswersAtOnce (H.meaning self.now.hook) self.now.state (Free link dart) Truth result }
     {
         let Some(link) = self.dimension(link) else {
             return Err(Refusal::BadDim);

@@ -1,8 +1,8 @@
 //! How the cells of a map get their ids, and lose them.
 ghost use Rattle.std.specs.Prelude.{◌≡◌, ℕ, ◌+◌, ◌≤◌, ◌<◌, ◌⊎◌, length, Some, Contains};
-ghost use Rattle.attr_pool.specs.Labelings.{HasPlaces, id_of, KeepsPlaces};
-ghost use Rattle.transport.specs.Groups.{group_at};
-ghost use Rattle.label_laws.specs.Stored.{worth};
+ghost use Rattle.store_defs.specs.Labelings.{HasPlaces, id_of, KeepsPlaces};
+ghost use Rattle.store_defs.specs.Groups.{group_at};
+ghost use Rattle.label_laws.specs.Stored.{stored_value};
 ghost use Rattle.label_laws.specs.Changing.{AreTaken, AreGiven, HaveId, AreRelabelled, IsGroupedBelow, IsGroupGiven, AreGroupsGiven};
 ghost use Rattle.label_laws.specs.Touching.{CanLabel};
 ghost use Rattle.cell_walk.specs.CellLists.{lists_of};
@@ -168,13 +168,13 @@ fn put_id<const DIM: usize>(labels: &mut Labels<DIM>, dim: usize, darts: &[Dart]
 }
 
 /// The value of the cell of a dart, by its id.
-pub(crate) fn worth<const DIM: usize>(
+pub(crate) fn stored_value<const DIM: usize>(
     labels: &Labels<DIM>,
     pool: &Pool,
     dim: usize,
     dart: Dart,
 ) -> Option<Value>
-    ensures { result ≡ worth pool.now labels.now dim dart }
+    ensures { result ≡ stored_value pool.now labels.now dim dart }
 {
     pool.value(labels.id(dim, dart)?)
 }

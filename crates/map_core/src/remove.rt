@@ -1,8 +1,8 @@
 //! Removing and contracting the cells of a generalized map.
 ghost use Rattle.std.specs.Prelude.{◌≡◌};
-ghost use Rattle.map_defs.specs.Script.{Remove, Contract, Removable, Contractible};
-ghost use Rattle.map_defs.specs.Text.{Truth};
-ghost use Rattle.map_core.specs.Calls.{Does, Answers};
+ghost use Rattle.machine_defs.specs.Script.{Remove, Contract, Removable, Contractible};
+ghost use Rattle.machine_defs.specs.Text.{Truth};
+ghost use Rattle.map_core.specs.Calls.{Does, AnswersQuestion};
 
 use crate::map::{Done, Map};
 use alpha_edit::{contract_plan, contractible, removable, remove_plan};
@@ -68,7 +68,7 @@ impl<'h, H: Hook, const DIM: usize> Map<'h, Alpha, H, DIM> {
     /// Refused as `BadDim` exactly where the dimension is above the map's, and then as `NoDart` exactly where no live dart
     /// has the number.
     pub fn removable(&self, alloc: Global, dim: u64, dart: u64) -> Result<bool, Refused>
-        ensures { Answers (H.meaning self.now.hook) self.now.state (Removable dim dart) Truth result }
+        ensures { AnswersQuestion (H.meaning self.now.hook) self.now.state (Removable dim dart) Truth result }
     {
         let Some(dim) = self.dimension(dim) else {
             return Err(Refused::Line(Refusal::BadDim));
@@ -85,7 +85,7 @@ impl<'h, H: Hook, const DIM: usize> Map<'h, Alpha, H, DIM> {
     /// Refused as `BadDim` exactly where the dimension is above the map's, and then as `NoDart` exactly where no live dart
     /// has the number.
     pub fn contractible(&self, alloc: Global, dim: u64, dart: u64) -> Result<bool, Refused>
-        ensures { Answers (H.meaning self.now.hook) self.now.state (Contractible dim dart) Truth result }
+        ensures { AnswersQuestion (H.meaning self.now.hook) self.now.state (Contractible dim dart) Truth result }
     {
         let Some(dim) = self.dimension(dim) else {
             return Err(Refused::Line(Refusal::BadDim));

@@ -6,10 +6,10 @@ ghost use Rattle.map_defs.specs.Rows.{Rows, IsLive, IsSound, links_of, made, liv
 ghost use Rattle.map_defs.specs.Laws.{Laws};
 ghost use Rattle.map_defs.specs.Values.{Value as PlainValue};
 ghost use Rattle.map_defs.specs.Edits.{Change as LinkChange};
-ghost use Rattle.map_defs.specs.Difference.{Difference, RuleChange as ChangedRule, unruled};
-ghost use Rattle.attr_pool.specs.Labelings.{HasPlaces, KeepsIds};
-ghost use Rattle.transport.specs.Groups.{rule_at};
-ghost use Rattle.label_laws.specs.Stored.{worth};
+ghost use Rattle.machine_defs.specs.Difference.{Difference, RuleChange as ChangedRule, unruled};
+ghost use Rattle.store_defs.specs.Labelings.{HasPlaces, KeepsIds};
+ghost use Rattle.store_defs.specs.Groups.{rule_at};
+ghost use Rattle.label_laws.specs.Stored.{stored_value};
 ghost use Rattle.label_laws.specs.Changing.{AreTaken};
 ghost use Rattle.label_laws.specs.Contents.{content_of, all_rules};
 ghost use Rattle.label_laws.specs.Maps.{IsStoredMap};
@@ -19,7 +19,7 @@ ghost use Rattle.map_core.specs.Changing.{AreAdded};
 ghost use Rattle.map_core.specs.Undoing.{AreStepsTo, AreEditsTo, HasRoomFor, rows_before, rules_before, value_before, old_among, IsValueChanged, IsRevalued, IsNearChange, IsNearEdit, IsNearStep, IsStepped, AreGivenValues, turned_change};
 
 use crate::make::make_room;
-use crate::relabel::{relabel, take_id, worth};
+use crate::relabel::{relabel, take_id, stored_value};
 use crate::touched::{add_at_change, add_live};
 use crate::value::{has_places, has_rule, make_places};
 use attr_pool::{Labels, Pool};
@@ -171,7 +171,7 @@ fn cells_before<K: Kind, const DIM: usize>(
     requires long { (rules.now ≡ []) ⊎ (length rules.now ≡ DIM + 1) }
     ensures cells { IfOk result (λ groups. AreRestored K.kind (links_of links.now.rows) (IsLive links.now.rows)
         (λ i. IsSome (rule_at rules.now i)) (IsStepped K.kind links.now.rows steps.now)
-        (λ i d. value_before steps.now i d (worth pool.old labels.old i d)) groups.items) }
+        (λ i d. value_before steps.now i d (stored_value pool.old labels.old i d)) groups.items) }
     ensures places { OnOk result ((i : ℕ) → IsSome (rule_at rules.now i) → HasPlaces labels.new i) }
     ensures places_stay { (i : ℕ) → HasPlaces labels.old i → HasPlaces labels.new i }
     ensures ids { KeepsIds labels.old labels.new }
@@ -242,7 +242,7 @@ fn all_cells<K: Kind, const DIM: usize>(
     requires live { (x : ℕ) → Contains touched.now x → IsLive links.now.rows x }
     ensures { IfOk result (λ groups. AreRestored K.kind (links_of links.now.rows) (IsLive links.now.rows)
         (λ i. IsSome (rule_at rules.now i)) (λ i d. Contains touched.now d ⊎ IsRevalued steps.now i d)
-        (λ i d. value_before steps.now i d (worth pool.now labels.now i d)) groups.items) }
+        (λ i d. value_before steps.now i d (stored_value pool.now labels.now i d)) groups.items) }
 {
     let mut groups = Vec::new(alloc);
     for dim in 0..links.dimension() + 1 {
@@ -269,7 +269,7 @@ fn ruled_cells<K: Kind, const DIM: usize>(
     requires live { (x : ℕ) → Contains touched.now x → IsLive links.now.rows x }
     ensures { IfOk result (λ cells. AreRestored K.kind (links_of links.now.rows) (IsLive links.now.rows)
         (λ i. (i ≡ dim) × IsSome (rule_at rules.now i)) (λ i d. Contains touched.now d ⊎ IsRevalued steps.now i d)
-        (λ i d. value_before steps.now i d (worth pool.now labels.now i d)) cells.items) }
+        (λ i d. value_before steps.now i d (stored_value pool.now labels.now i d)) cells.items) }
 {
     if !has_rule(rules, dim) {
         return Ok(Vec::new(alloc));
@@ -290,7 +290,7 @@ fn give_old_values<const DIM: usize>(
     dim: usize,
     cells: &mut Vec<Group>,
 )
-    ensures { AreGivenValues (λ d. unwrap_or (tree.get nat_cmp values.now d) (worth pool.now labels.now dim d))
+    ensures { AreGivenValues (λ d. unwrap_or (tree.get nat_cmp values.now d) (stored_value pool.now labels.now dim d))
         (length cells.old.items) cells.old.items cells.new.items }
 {
     for index in 0..cells.len() {
@@ -309,12 +309,12 @@ fn old_value<const DIM: usize>(
     darts: &[Dart],
 ) -> Option<Value>
     ensures { 0 < length darts.now → result
-        ≡ unwrap_or (tree.get nat_cmp values.now (slice_index darts.now 0)) (worth pool.now labels.now dim (slice_index darts.now 0)) }
+        ≡ unwrap_or (tree.get nat_cmp values.now (slice_index darts.now 0)) (stored_value pool.now labels.now dim (slice_index darts.now 0)) }
 {
     let dart = *darts.first()?;
     match values.get(&dart) {
         Some(value) => *value,
-        None => worth(labels, pool, dim, dart),
+        None => stored_value(labels, pool, dim, dart),
     }
 }
 

@@ -1,9 +1,9 @@
 //! Sewing and unsewing.
 ghost use Rattle.std.specs.Prelude.{◌≡◌, ℕ, ◌≤◌, ◌<◌, ◌⊎◌, ◌↔◌, IsNone, IfSome};
 ghost use Rattle.map_defs.specs.Kind.{beta};
-ghost use Rattle.map_defs.specs.Script.{Sew, Unsew, Sewable};
-ghost use Rattle.map_defs.specs.Text.{Truth};
-ghost use Rattle.map_core.specs.Calls.{Does, Answers};
+ghost use Rattle.machine_defs.specs.Script.{Sew, Unsew, Sewable};
+ghost use Rattle.machine_defs.specs.Text.{Truth};
+ghost use Rattle.map_core.specs.Calls.{Does, AnswersQuestion};
 
 use crate::map::{Done, Map};
 use attr_rules::Hook;
@@ -69,7 +69,7 @@ impl<'h, K: Kind, H: Hook, const DIM: usize> Map<'h, K, H, DIM> {
     /// Refused as `BadDim` exactly where the link is above the map's dimension, or is link 0 of a combinatorial map, which
     /// follows link 1, and then as `NoDart` exactly where no live dart has one of the numbers.
     pub fn sewable(&self, alloc: Global, link: u64, dart: u64, other: u64) -> Result<bool, Refused>
-        ensures { Answers (H.meaning self.now.hook) self.now.state (Sewable link dart other) Truth result }
+        ensures { AnswersQuestion (H.meaning self.now.hook) self.now.state (Sewable link dart other) Truth result }
     {
         let Some(link) = sewing_link(&self.links, link) else {
             return Err(Refused::Line(Refusal::BadDim));

@@ -1,6 +1,6 @@
 //! Going back to a mark.
 ghost use Rattle.std.specs.Prelude.{◌≡◌};
-ghost use Rattle.map_defs.specs.Script.{Undo};
+ghost use Rattle.machine_defs.specs.Script.{Undo};
 ghost use Rattle.map_core.specs.Calls.{Does};
 
 use crate::map::{Done, Map};

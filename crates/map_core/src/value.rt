@@ -1,20 +1,20 @@
 //! The lines that set rules and values.
 ghost use Rattle.std.specs.Prelude.{◌≡◌, ◌==◌, ◌≤◌, ◌<◌, ◌↔◌, cond, length, replicate, slice_set, Some, None, IsSome, IsTrue, OnOk, OnErr};
 ghost use Rattle.map_defs.specs.Rows.{IsLive};
-ghost use Rattle.map_defs.specs.State.{Content, steps_to, rule_at};
-ghost use Rattle.map_defs.specs.Valuing.{IsValued};
-ghost use Rattle.map_defs.specs.Machine.{with_rule};
-ghost use Rattle.map_defs.specs.Script.{Rule as SetRule, Set, Clear, Value as AskValue};
-ghost use Rattle.map_defs.specs.Text.{Worth};
-ghost use Rattle.transport.specs.Groups.{rule_at as rule_of};
+ghost use Rattle.machine_defs.specs.State.{Content, steps_to, rule_at};
+ghost use Rattle.machine_defs.specs.Valuing.{IsValued};
+ghost use Rattle.machine_defs.specs.Machine.{with_rule};
+ghost use Rattle.machine_defs.specs.Script.{Rule as SetRule, Set, Clear, Value as AskValue};
+ghost use Rattle.machine_defs.specs.Text.{CellValue};
+ghost use Rattle.store_defs.specs.Groups.{rule_at as rule_of};
 ghost use Rattle.label_laws.specs.Contents.{content_of};
 ghost use Rattle.label_laws.specs.Maps.{IsStoredMap};
-ghost use Rattle.map_core.specs.Calls.{Does, Tells};
+ghost use Rattle.map_core.specs.Calls.{Does, AnswersAtOnce};
 
 use crate::make::make_room;
 use crate::map::{Done, Map};
 use crate::note::{cell_values, keep, new_values, no_edit, reserve_step, rule_changes};
-use crate::relabel::{give_id, take_ids, worth};
+use crate::relabel::{give_id, take_ids, stored_value};
 use attr_pool::{Labels, Pool};
 use attr_rules::{Hook, TableRule, merge_named, split_named};
 use cell_walk::cell;
@@ -101,7 +101,7 @@ impl<'h, K: Kind, H: Hook, const DIM: usize> Map<'h, K, H, DIM> {
     /// Refused as `BadDim` exactly where the dimension is above the map's, and then as `NoDart` exactly where no live
     /// dart has the number.
     pub fn value(&self, dim: u64, dart: u64) -> Result<Option<Value>, Refusal>
-        ensures { Tells (H.meaning self.now.hook) self.now.state (AskValue dim dart) Worth result }
+        ensures { AnswersAtOnce (H.meaning self.now.hook) self.now.state (AskValue dim dart) CellValue result }
     {
         let Some(dim) = self.dimension(dim) else {
             return Err(Refusal::BadDim);
@@ -109,7 +109,7 @@ impl<'h, K: Kind, H: Hook, const DIM: usize> Map<'h, K, H, DIM> {
         let Some(dart) = self.live_dart(dart) else {
             return Err(Refusal::NoDart);
         };
-        Ok(worth(&self.labels, &self.pool, dim, dart))
+        Ok(stored_value(&self.labels, &self.pool, dim, dart))
     }
 
     /// Gives a dimension a rule. All memory is taken before anything changes.

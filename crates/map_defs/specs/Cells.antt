@@ -2,7 +2,7 @@
 use Rattle.std.specs.Prelude.{ℕ, ◌≡◌, ◌≢◌, ◌≤◌}
 use Rattle.map_defs.specs.Kind.{Kind}
 use Rattle.map_defs.specs.Links.{Links}
-use Rattle.map_defs.specs.Words.{Word, through, IsCellWord}
+use Rattle.map_defs.specs.LinkWords.{LinkWord, through, IsCellWord}
 
 -- the least set that holds d and is closed under the steps
 pub data InOrbit (Step : ℕ → ℕ → Type 0) (d : ℕ) : ℕ → Type 0 where
@@ -10,8 +10,8 @@ pub data InOrbit (Step : ℕ → ℕ → Type 0) (d : ℕ) : ℕ → Type 0 wher
   onward : {x y : ℕ} → InOrbit Step d x → Step x y → InOrbit Step d y
 
 -- some word of these leads from x to the dart y
-abbrev pub Leads : Links → (Word → Type 0) → ℕ → ℕ → Type 0
-Leads L Words x y = (w : Word) × Words w × (through L w x ≡ y) × (y ≢ 0)
+abbrev pub Leads : Links → (LinkWord → Type 0) → ℕ → ℕ → Type 0
+Leads L Words x y = (w : LinkWord) × Words w × (through L w x ≡ y) × (y ≢ 0)
 
 -- the darts of the i-cell of d
 abbrev pub InCell : Kind → Links → ℕ → ℕ → ℕ → Type 0

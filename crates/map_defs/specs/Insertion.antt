@@ -3,7 +3,7 @@
 use Rattle.std.specs.Prelude.{ℕ, suc, ◌≡◌, ◌≢◌, ◌+◌, ◌<◌, ◌≤◌, ◌⊎◌, List, length, slice_index, Contains, AllPairs}
 use Rattle.map_defs.specs.Kind.{Kind, alpha, beta, inverse, place, IsDistant}
 use Rattle.map_defs.specs.Links.{Links, IsTurned}
-use Rattle.map_defs.specs.Words.{Word, two_links}
+use Rattle.map_defs.specs.LinkWords.{LinkWord, two_links}
 use Rattle.map_defs.specs.Cells.{InOrbit, Leads, InCell}
 use Rattle.map_defs.specs.Pairs.{InPairs, IsGood, JustOne}
 
@@ -102,7 +102,7 @@ abbrev pub AreAlphaEdgePaired : Links → ℕ → ℕ → Type 0
 AreAlphaEdgePaired L d e = IsGood alpha L (IsPairing 1) (AlphaEdgePairs L d e)
 
 -- one step from a corner of a combinatorial map to its copy on another side of the face
-abbrev pub IsCornerWord : Word → Type 0
+abbrev pub IsCornerWord : LinkWord → Type 0
 IsCornerWord w = (j : ℕ) × (3 ≤ j) × (w ≡ two_links 0 j)
 
 -- The corner of d in a combinatorial map, with its copies on the other sides of the face. An edge asks that e does not
@@ -168,7 +168,7 @@ abbrev pub IsOnOneVolume : Links → List ℕ → Type 0
 IsOnOneVolume L path = (b : ℕ) → Contains path b → InOrbit (IsLinkedBy L (λ j. j ≤ 2)) (slice_index path 0) b
 
 -- around a vertex of a volume from one side of a face to the next: "2, then 1", and back
-abbrev pub IsVertexWord : Word → Type 0
+abbrev pub IsVertexWord : LinkWord → Type 0
 IsVertexWord w = (w ≡ two_links 2 1) ⊎ (w ≡ two_links 0 2)
 
 -- the side of b ends, in the volume, at the vertex where that of c begins

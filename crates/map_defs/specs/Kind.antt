@@ -23,3 +23,8 @@ place beta (suc i) = suc i
 -- two links are distant if they stand at least two places apart
 unfoldable pub IsDistant : Kind → ℕ → ℕ → Type 0
 IsDistant k i j = (place k i + 2 ≤ place k j) ⊎ (place k j + 2 ≤ place k i)
+
+-- a kind's letter: g for generalized maps, c for combinatorial maps
+abbrev pub letter : Kind → ℕ
+letter alpha = 103
+letter beta = 99

@@ -112,11 +112,11 @@ pub record MakesMesh (k : Kind) (n : ℕ) (mesh : Mesh) (edit : Edit) (places : 
   pub located : ArePlaces k (sides_of mesh.faces) mesh.points (IsLive (after_edit n edit (None ∷ []))) (links_of (after_edit n edit (None ∷ []))) places
 
 -- why a mesh has no map: too many darts, or what is wrong with the face of this number, from 0
-pub data Fault : Type 0 where
-  Full : ℕ → Fault
-  Repeated : ℕ → Fault
-  ThreeSides : ℕ → Fault
-  Turned : ℕ → Fault
+pub data MapFault : Type 0 where
+  Full : ℕ → MapFault
+  Repeated : ℕ → MapFault
+  ThreeSides : ℕ → MapFault
+  Turned : ℕ → MapFault
 
 -- the first of two that there is
 abbrev pub or_else : {A : Type 0} → Option A → Option A → Option A
@@ -135,28 +135,28 @@ repeats before (v ∷ corners) = if list_any (λ u. u == v) before then true els
 
 -- What is wrong with side s of a face, by the earlier sides with the same two points: there is one already that is sewn, or
 -- the only one leads the same way in an oriented map.
-abbrev pub side_fault : Kind → ℕ → Side → List Side → Option Fault
+abbrev pub side_fault : Kind → ℕ → Side → List Side → Option MapFault
 side_fault k face s [] = None
 side_fault k face s (t ∷ []) = if is_oriented k && (t.from == s.from) then Some (Turned face) else None
 side_fault k face s (t ∷ u ∷ more) = Some (ThreeSides face)
 
 -- what is wrong first with these sides of a face, behind earlier ones
-abbrev pub sides_fault : Kind → ℕ → List Side → List Side → Option Fault
+abbrev pub sides_fault : Kind → ℕ → List Side → List Side → Option MapFault
 sides_fault k face earlier [] = None
 sides_fault k face earlier (s ∷ sides) = or_else (side_fault k face s (filter (has_ends s) earlier)) (sides_fault k face (earlier ++ s ∷ []) sides)
 
-abbrev pub face_fault : Kind → ℕ → List Side → List ℕ → Option Fault
+abbrev pub face_fault : Kind → ℕ → List Side → List ℕ → Option MapFault
 face_fault k face earlier corners =
     if repeats [] corners then Some (Repeated face) else sides_fault k face earlier (face_sides (length earlier) corners)
 
 -- what is wrong first with these faces, behind earlier sides
-abbrev pub faces_fault : Kind → ℕ → List Side → List (List ℕ) → Option Fault
+abbrev pub faces_fault : Kind → ℕ → List Side → List (List ℕ) → Option MapFault
 faces_fault k face earlier [] = None
 faces_fault k face earlier (corners ∷ faces) =
     or_else (face_fault k face earlier corners) (faces_fault k (face + 1) (earlier ++ face_sides (length earlier) corners) faces)
 
 -- why a mesh has no map, if it has none
-abbrev pub mesh_fault : Kind → Mesh → Option Fault
+abbrev pub mesh_fault : Kind → Mesh → Option MapFault
 mesh_fault k mesh =
     if nat_lt made_max (per_side k * length (sides_of mesh.faces)) then Some (Full (per_side k * length (sides_of mesh.faces)))
     else faces_fault k 0 [] mesh.faces

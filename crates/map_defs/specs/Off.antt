@@ -4,7 +4,7 @@ use Rattle.std.specs.List.{list_all, before_first, after_first, onto_first}
 use Rattle.std.specs.Char.{is_ascii_digit}
 use Rattle.std.specs.Str.{bytes_eq}
 use Rattle.map_defs.specs.Values.{Value}
-use Rattle.map_defs.specs.Script.{words_of, is_word, is_text, value_of}
+use Rattle.map_defs.specs.TextWords.{words_of, is_word, is_text, value_of}
 
 -- Points, and faces. A face names its points by their places, from 0, in the order in which it goes round.
 pub record Mesh : Type 0 where
@@ -24,11 +24,11 @@ pub data What : Type 0 where
   NotText : What
 
 -- lines count from 1, blank ones and comments among them
-pub record Fault : Type 0 where
+pub record TextFault : Type 0 where
   pub line : ℕ
   pub what : What
 
-abbrev pub bad : {A : Type 0} → ℕ → What → Result A Fault
+abbrev pub bad : {A : Type 0} → ℕ → What → Result A TextFault
 bad line what = Err (record { line = line; what = what })
 
 -- what goes on from a value, unless a fault came first
@@ -68,26 +68,26 @@ abbrev pub left_of : ℕ → List (List ℕ) → Left
 left_of before lines = record { rows = rows_from (before + 1) lines; last = before + length lines }
 
 -- the row, if its words are text
-abbrev pub checked : Row → Result Row Fault
+abbrev pub checked : Row → Result Row TextFault
 checked row = if list_all is_text (row.first ∷ row.others) then Ok row else bad row.line NotText
 
 -- The next row, and what is left then. Where the text ends, something is missing on the line behind the last.
-abbrev pub next_of : What → ℕ → List Row → Result (Row × Left) Fault
+abbrev pub next_of : What → ℕ → List Row → Result (Row × Left) TextFault
 next_of missing last [] = bad (last + 1) missing
 next_of missing last (row ∷ rows) = do
   text ← checked row
   Ok (text, record { rows = rows; last = last })
 
-abbrev pub next : What → Left → Result (Row × Left) Fault
+abbrev pub next : What → Left → Result (Row × Left) TextFault
 next missing left = next_of missing left.last left.rows
 
 -- a fault of a line has the line's number
-abbrev pub on_line : {A : Type 0} → ℕ → Result A What → Result A Fault
+abbrev pub on_line : {A : Type 0} → ℕ → Result A What → Result A TextFault
 on_line line (Ok x) = Ok x
 on_line line (Err what) = bad line what
 
 -- what this reader makes of the next row
-unfoldable pub line_read : {A : Type 0} → (List ℕ → List (List ℕ) → Result A What) → Left → Result (A × Left) Fault
+unfoldable pub line_read : {A : Type 0} → (List ℕ → List (List ℕ) → Result A What) → Left → Result (A × Left) TextFault
 line_read read left = do
   row ← next Short left
   x ← on_line row.0.line (read row.0.first row.0.others)
@@ -124,13 +124,13 @@ abbrev pub counts : List ℕ → List (List ℕ) → Result Counts What
 counts first others = counts_of (three first others)
 
 -- the counts stand behind `OFF` on its line, or alone on the next line that has words
-abbrev pub counts_behind : ℕ → List (List ℕ) → Left → Result (Counts × Left) Fault
+abbrev pub counts_behind : ℕ → List (List ℕ) → Left → Result (Counts × Left) TextFault
 counts_behind line [] left = line_read counts left
 counts_behind line (first ∷ others) left = do
   counted ← on_line line (counts first others)
   Ok (counted, left)
 
-unfoldable pub header : Left → Result (Counts × Left) Fault
+unfoldable pub header : Left → Result (Counts × Left) TextFault
 header left = do
   row ← next NoHeader left
   if bytes_eq row.0.first (codes "OFF") then counts_behind row.0.line row.0.others row.1 else bad row.0.line NoHeader
@@ -185,7 +185,7 @@ abbrev pub face : ℕ → List ℕ → List (List ℕ) → Result (List ℕ) Wha
 face points first others = if is_side_count first then corners points (value_of first) others else Err BadFace
 
 -- n things one after the other
-abbrev pub many : {A : Type 0} → (Left → Result (A × Left) Fault) → ℕ → Left → Result (List A × Left) Fault
+abbrev pub many : {A : Type 0} → (Left → Result (A × Left) TextFault) → ℕ → Left → Result (List A × Left) TextFault
 many one zero left = Ok ([], left)
 many one (suc n) left = do
   x ← one left
@@ -193,13 +193,13 @@ many one (suc n) left = do
   Ok (x.0 ∷ xs.0, xs.1)
 
 -- no row follows the last face
-abbrev pub ended : Mesh → List Row → Result Mesh Fault
+abbrev pub ended : Mesh → List Row → Result Mesh TextFault
 ended mesh [] = Ok mesh
 ended mesh (row ∷ rows) = do
   text ← checked row
   bad text.line Extra
 
-unfoldable pub mesh_left : Left → Result Mesh Fault
+unfoldable pub mesh_left : Left → Result Mesh TextFault
 mesh_left left = do
   counted ← header left
   points ← many (line_read point) counted.0.points counted.1
@@ -207,7 +207,7 @@ mesh_left left = do
   ended (record { points = points.0; faces = faces.0 }) faces.1.rows
 
 -- the mesh that a text tells, or else the first fault in the order of the text
-abbrev pub mesh_of : List ℕ → Result Mesh Fault
+abbrev pub mesh_of : List ℕ → Result Mesh TextFault
 mesh_of text = mesh_left (left_of 0 (lines_of text))
 
 -- Each face has 3 to 65,536 corners, which are numbers of points, and 32 bits hold the number of a face.

@@ -1,12 +1,11 @@
 -- Totals: what the values of a dimension add up to over its cells. Source: this project's.
-use Rattle.std.specs.Prelude.{ℕ, ◌≤◌, ◌+ℤ◌, ◌↔◌, pos, List, [], ◌∷◌, length, take, Option, None, IsSome, Contains, FitsSigned, cond, nat_eq}
+use Rattle.std.specs.Prelude.{ℕ, ◌≤◌, ◌+ℤ◌, ◌↔◌, pos, List, [], ◌∷◌, length, take, Option, None, IsSome, Contains, FitsSigned}
 use Rattle.std.specs.Int.{w64}
 use Rattle.std.specs.List.Sorted.{IsStrictlyIncreasing}
 use Rattle.map_defs.specs.Kind.{Kind}
 use Rattle.map_defs.specs.Links.{Links}
 use Rattle.map_defs.specs.Cells.{InCell, NamesCell}
 use Rattle.map_defs.specs.Values.{Value, Sum, Share, Meaning, meaning_of, on_each}
-use Rattle.map_defs.specs.Listing.{ListValue}
 use Rattle.map_defs.specs.Carry.{IsCarried, IsValuedWith, known, merged_all}
 
 -- the rule `sum share`, beside a hook: values add up where cells merge, and are dealt out where a cell is split
@@ -39,8 +38,3 @@ StayWithin parts = (n : ℕ) → n ≤ length parts → IsWithin (known (merged_
 abbrev pub NoSumLeaves : Kind → ℕ → Meaning → Links → (ℕ → Type 0) → (ℕ → Option Value) → Links → (ℕ → Type 0) → Type 0
 NoSumLeaves k i rule L Live values N LiveAfter = (d : ℕ) → LiveAfter d → (result : Option Value)
     → (cell : IsCarried rule (λ x. known (values x)) (λ x. Live x × LiveAfter x) (IsValuedWith k i L values) (InCell k N i) d result) → StayWithin cell.parts
-
--- the values of dimension i that a listing shows, added up
-abbrev pub listed_total : ℕ → List ListValue → Value
-listed_total i [] = record { a = pos 0; b = pos 0; c = pos 0 }
-listed_total i (v ∷ values) = cond (nat_eq v.dim i) (plain_sum v.value (listed_total i values)) (listed_total i values)

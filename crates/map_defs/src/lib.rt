@@ -1,5 +1,3 @@
-//! The definitions that the contracts of the other crates cite: what a reader has to believe.
-//!
-//! There is no code here. `specs/` says what a map, its laws, its cells, each operation, the plain map machine and
-//! the program's text are.
+//! The definitions of what maps are: kinds, links, cells, operations, values, meshes and their text. There is no code here:
+//! `specs/` is to be read.
 #![tactic(auto)]

@@ -1,7 +1,7 @@
 -- What a sink over a writer took: what the writer holds, and then what the sink keeps back.
 use Rattle.std.proofs.Common.{◌≡◌, ℕ, List, [], ◌++◌, length, take, drop, Option, None, Some, Result, Ok, Err, OnOk, IfErr, refl, sym, ap, ◌∙◌, append_assoc, append-nil, take-append-drop, take_all, arith}
 use Rattle.std.specs.Io.KnownBytes.{Appends, Keeps, append_known}
-use Rattle.map_defs.specs.Outside.{Appended}
+use Rattle.machine_defs.specs.Outside.{Appended}
 use Rattle.map_io.specs.Put.{IsPut}
 use Rattle.map_io.specs.declared.sink.PutFault.{PutFault}
 use Rattle.map_io.specs.declared.sink.PutFault.TheVariants.{Failed, NoMemory}

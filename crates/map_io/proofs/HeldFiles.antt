@@ -1,6 +1,6 @@
 -- What a list of files holds, file by file.
 use Rattle.std.proofs.Common.{◌≡◌, ℕ, suc, ◌+◌, ◌<◌, List, ◌∷◌, length, get_or, drop, cond, true, false, Some, ap, sym, ◌∙◌, add-one, bytes_eq, string_bytes, drop-cons}
-use Rattle.map_defs.specs.Outside.{held}
+use Rattle.machine_defs.specs.Outside.{held}
 use Rattle.map_io.specs.Held.{files_of}
 use Rattle.map_io.specs.declared.sure.Held.{Held}
 

@@ -2,7 +2,7 @@
 use Rattle.std.proofs.Common.{◌≡◌, ℕ, ◌<◌, List, ◌++◌, length, Option, None, Some, sym, ap, subst, ◌∙◌, append-nil, length-append, arith}
 use Rattle.std.specs.Io.KnownBytes.{Consumes, IsAtEnd}
 use Rattle.std.proofs.KnownBytes.{Consumes-trans}
-use Rattle.map_defs.specs.Outside.{WhereTold}
+use Rattle.machine_defs.specs.Outside.{WhereTold}
 
 -- one more part was read
 pub Consumes-part : (first mid last : Option (List ℕ)) (before after part : List ℕ) → Consumes first mid before → after ≡ before ++ part →

@@ -1,7 +1,7 @@
 -- What a fetched file is. This project's own.
 use Rattle.std.specs.Prelude.{ℕ, ◌≡◌, ◌<◌, ◌≤◌, List, length, Option, Some, Result, Ok, Err, Vec}
 use Rattle.std.specs.declared.alloc.Global.{Global}
-use Rattle.map_defs.specs.Outside.{Files, held, WhereTold}
+use Rattle.machine_defs.specs.Outside.{Files, held, WhereTold}
 use Rattle.map_io.specs.declared.shelf.FetchFault.{FetchFault}
 use Rattle.map_io.specs.declared.shelf.FetchFault.TheVariants.{Failed, TooLong, NoMemory}
 

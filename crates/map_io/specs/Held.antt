@@ -1,6 +1,6 @@
 -- Files in memory, as files. This project's own.
 use Rattle.std.specs.Prelude.{ℕ, List, map, string_bytes}
-use Rattle.map_defs.specs.Outside.{Files}
+use Rattle.machine_defs.specs.Outside.{Files}
 use Rattle.map_io.specs.declared.sure.Held.{Held}
 
 -- the name and the bytes of a file in memory

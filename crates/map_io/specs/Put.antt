@@ -1,6 +1,6 @@
 -- What was appended by a put. This project's own.
 use Rattle.std.specs.Prelude.{ℕ, ◌≡◌, List, [], Result, Ok, Err}
-use Rattle.map_defs.specs.Outside.{IsFront}
+use Rattle.machine_defs.specs.Outside.{IsFront}
 use Rattle.map_io.specs.declared.sink.PutFault.{PutFault}
 use Rattle.map_io.specs.declared.sink.PutFault.TheVariants.{Failed, NoMemory}
 

@@ -1,6 +1,6 @@
 //! Where files are fetched from.
 ghost use Rattle.std.specs.Prelude.{◌≡◌, ℕ, ◌-◌, ◌^◌, ◌<◌, ◌↔◌, List, Option, IsErrOf};
-ghost use Rattle.map_defs.specs.Outside.{Files};
+ghost use Rattle.machine_defs.specs.Outside.{Files};
 ghost use Rattle.map_io.specs.Fetched.{IsFetched};
 ghost use Rattle.map_io.specs.Cause.{HasCause};
 

@@ -1,6 +1,6 @@
 //! Where text is put.
 ghost use Rattle.std.specs.Prelude.{◌≡◌, ◌≢◌, ℕ, List, [], Option, IsErrOf};
-ghost use Rattle.map_defs.specs.Outside.{Appended};
+ghost use Rattle.machine_defs.specs.Outside.{Appended};
 ghost use Rattle.map_io.specs.Put.{IsPut};
 ghost use Rattle.map_io.specs.Cause.{HasCause};
 

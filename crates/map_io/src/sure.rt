@@ -1,6 +1,6 @@
 //! A shelf and a sink in memory, without faults.
 ghost use Rattle.std.specs.Prelude.{◌≡◌, ℕ, ◌↔◌, ◌-◌, ◌^◌, ◌<◌, List, [], Option, Some, IsSome, option_map};
-ghost use Rattle.map_defs.specs.Outside.{Files, held};
+ghost use Rattle.machine_defs.specs.Outside.{Files, held};
 ghost use Rattle.map_io.specs.Held.{files_of};
 
 use crate::{FetchFault, PutFault, Shelf, Sink};

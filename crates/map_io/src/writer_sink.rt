@@ -1,7 +1,7 @@
 //! A sink over a writer, and so over the standard output.
 ghost use Rattle.std.specs.Prelude.{◌≡◌, ◌≢◌, ℕ, ◌++◌, ◌+◌, ◌-◌, ◌^◌, ◌<◌, ◌≤◌, List, [], length, take, drop, None, IfSome, IfNone, OnOk, IfErr, IsErrOf};
 ghost use Rattle.std.specs.Io.KnownBytes.{Appends, Keeps};
-ghost use Rattle.map_defs.specs.Outside.{Appended};
+ghost use Rattle.machine_defs.specs.Outside.{Appended};
 ghost use Rattle.map_io.specs.Put.{IsPut};
 ghost use Rattle.map_io.specs.Cause.{HasCause};
 ghost use Rattle.map_io.specs.WriterSink.{writer_of, written_of, faults_of, Fails};

@@ -1,11 +1,10 @@
 ghost use Rattle.std.specs.Prelude.{◌≡◌, ℕ, ◌≤◌, ◌<◌, ◌↔◌, IsTrue, Contains, IfOk};
-ghost use Rattle.map_defs.specs.Kind.{Kind as MapKind, alpha, inverse, IsDistant};
+ghost use Rattle.map_defs.specs.Kind.{Kind as MapKind, alpha, inverse, IsDistant, letter};
 ghost use Rattle.map_defs.specs.Polygon.{per_side};
-ghost use Rattle.map_defs.specs.Text.{letter};
-ghost use Rattle.map_defs.specs.Words.{Word as MapWord, IsCellWord, IsWithin, inverse_word};
+ghost use Rattle.map_defs.specs.LinkWords.{LinkWord as MapWord, IsCellWord, IsWithin, inverse_word};
 ghost use Rattle.map_kind.specs.KindLaws.{inverse-inverse, IsDistant-symmetric, IsCellWord-inverse};
 
-use crate::word::{Word, single_links};
+use crate::word::{LinkWord, single_links};
 use std::alloc::{AllocError, Global};
 
 /// A kind of map: generalized, or combinatorial. What a kind means is its ghost member `kind`, so that all that is
@@ -31,7 +30,7 @@ pub trait Kind {
 
     /// The words of the cells of dimension `cell` in a map of dimension `dim`: the words along which such a cell runs,
     /// and their inverses, as far as their links are among the map's.
-    fn words(alloc: Global, dim: usize, cell: usize) -> Result<Vec<Word>, AllocError>
+    fn words(alloc: Global, dim: usize, cell: usize) -> Result<Vec<LinkWord>, AllocError>
         requires dim { dim ≤ 8 }
         requires cell { cell ≤ dim }
         ensures { IfOk result (λ words. (w : MapWord) → Contains words.items w ↔ (IsCellWord kind cell w × IsWithin dim w)) };
@@ -73,7 +72,7 @@ impl Kind for Alpha {
         one.abs_diff(other) >= 2
     }
 
-    fn words(alloc: Global, dim: usize, cell: usize) -> Result<Vec<Word>, AllocError> {
+    fn words(alloc: Global, dim: usize, cell: usize) -> Result<Vec<LinkWord>, AllocError> {
         single_links(alloc, 0, dim, cell)
     }
 }

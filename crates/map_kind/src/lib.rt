@@ -11,4 +11,4 @@ pub use dart::Dart;
 pub use kind::{Alpha, Kind};
 pub use refusal::{Refusal, Refused};
 pub use value::{Place, Value};
-pub use word::Word;
+pub use word::LinkWord;

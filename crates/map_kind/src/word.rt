@@ -1,20 +1,20 @@
 ghost use Rattle.std.specs.Prelude.{◌≡◌, ◌≢◌, ℕ, ◌+◌, ◌≤◌, ◌<◌, ◌^◌, ◌↔◌, Contains, IfOk};
-ghost use Rattle.map_defs.specs.Words.{Word as MapWord, one_link, two_links};
+ghost use Rattle.map_defs.specs.LinkWords.{LinkWord as MapWord, one_link, two_links};
 
 use std::alloc::{AllocError, Global};
 use std::marker::Model;
 
 /// A word: one link, or two links that are followed one after the other.
 #[derive(Clone, Copy, Debug, PartialEq, Eq)]
-pub struct Word {
+pub struct LinkWord {
     /// The link that is followed first.
     pub first: usize,
     /// The link that is followed then, if there is one.
     pub second: Option<usize>,
 }
 
-impl Model for Word {
-    ghost use Rattle.map_defs.specs.Words.{Word as MapWord};
+impl Model for LinkWord {
+    ghost use Rattle.map_defs.specs.LinkWords.{LinkWord as MapWord};
 
     ghost Value = { MapWord };
 
@@ -23,12 +23,12 @@ impl Model for Word {
     ghost inverse = { λ word. record { first = word.first; second = word.second } };
 }
 
-impl Word {
+impl LinkWord {
     /// The word of one link.
     pub fn one(link: usize) -> Self
         ensures { result ≡ one_link link }
     {
-        Word {
+        LinkWord {
             first: link,
             second: None,
         }
@@ -38,7 +38,7 @@ impl Word {
     pub fn two(first: usize, second: usize) -> Self
         ensures { result ≡ two_links first second }
     {
-        Word {
+        LinkWord {
             first,
             second: Some(second),
         }
@@ -51,7 +51,7 @@ pub(crate) fn single_links(
     low: usize,
     dim: usize,
     cell: usize,
-) -> Result<Vec<Word>, AllocError>
+) -> Result<Vec<LinkWord>, AllocError>
     requires { dim ≤ 8 }
     ensures { IfOk result (λ words. (w : MapWord)
         → Contains words.items w ↔ ((j : ℕ) × (low ≤ j) × (j ≤ dim) × (j ≢ cell) × (w ≡ one_link j))) }
@@ -61,7 +61,7 @@ pub(crate) fn single_links(
         if link == cell {
             continue;
         }
-        words.push(Word::one(link))?;
+        words.push(LinkWord::one(link))?;
     }
     Ok(words)
 }

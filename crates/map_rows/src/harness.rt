@@ -1,7 +1,7 @@
 //! Runs the program over files and a sink in memory.
 ghost use Rattle.std.specs.Prelude.{◌≡◌, ℕ, List, map, string_bytes, IfOk, IsSome};
-ghost use Rattle.map_defs.specs.Outside.{held};
-ghost use Rattle.map_defs.specs.Program.{Needs};
+ghost use Rattle.machine_defs.specs.Outside.{held};
+ghost use Rattle.machine_defs.specs.Program.{NeedsFile};
 ghost use Rattle.map_io.specs.Held.{files_of};
 
 use attr_rules::FirstCopy;
@@ -25,7 +25,7 @@ pub struct Answer {
 
 /// Runs the program on words, over files that hold all that the words need.
 pub fn run_over(alloc: Global, words: &[String], files: Vec<Held>) -> Result<Answer, AllocError>
-    requires { (name : List ℕ) → Needs (map string_bytes words.now) name
+    requires { (name : List ℕ) → NeedsFile (map string_bytes words.now) name
         → IsSome (held (files_of files.items) name) }
 {
     let mut shelf = SureShelf::new(files);

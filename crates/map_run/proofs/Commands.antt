@@ -2,7 +2,7 @@
 use Rattle.std.proofs.Common.{◌≡◌, ◌≢◌, ◌≤◌, ℕ, List, [], ◌∷◌, length, get_or, Option, Some, refl, sym, ap, ◌∙◌, arith, codes}
 use Rattle.std.specs.Fmt.{decimal}
 use Rattle.map_defs.specs.Kind.{alpha}
-use Rattle.map_defs.specs.Program.{Command, RunScript, Tells, IsNoCommand, mesh_word, no_mesh}
+use Rattle.machine_defs.specs.Program.{Command, RunScript, TellsCommand, IsNoCommand, mesh_word, no_mesh}
 
 -- a list of five elements
 pub five : {X : Type 0} (xs : List X) (a b c d e : X) → length xs ≡ 5 → a ≡ get_or xs 0 a → b ≡ get_or xs 1 b → c ≡ get_or xs 2 c
@@ -16,7 +16,7 @@ five (x ∷ y ∷ z ∷ v ∷ w ∷ []) a b c d e len p q r s t = cc
 five (x ∷ y ∷ z ∷ v ∷ w ∷ u ∷ xs) a b c d e len p q r s t = absurd (omega arith)
 
 -- the words of a command are five, of which two are always the same
-pub told : (words : List (List ℕ)) (command : Command) → Tells words command
+pub told : (words : List (List ℕ)) (command : Command) → TellsCommand words command
     → (n : ℕ) × (2 ≤ n) × (n ≤ 4) × (mesh : List ℕ) × (script : List ℕ) × (words ≡ codes "run" ∷ codes "g" ∷ decimal n ∷ mesh ∷ script ∷ [])
 told words (RunScript kind dim mesh script) t = let k = t.0.0 in (dim, t.0.1, t.0.2, mesh_word mesh, script, t.1 ∙ rw k refl)
 
@@ -26,7 +26,7 @@ no_command words other command t = let found = told words command t in other fou
 
 -- these words are those of the command
 pub as_told : (words : List (List ℕ)) (run kind dim mesh script : List ℕ) (n : ℕ) (name : Option (List ℕ)) → words ≡ run ∷ kind ∷ dim ∷ mesh ∷ script ∷ []
-    → (run ≡ codes "run") × (kind ≡ codes "g") → (mesh_word name ≡ mesh) × (name ≢ Some no_mesh) → dim ≡ decimal n → 2 ≤ n → n ≤ 4 → Tells words (RunScript alpha n name script)
+    → (run ≡ codes "run") × (kind ≡ codes "g") → (mesh_word name ≡ mesh) × (name ≢ Some no_mesh) → dim ≡ decimal n → 2 ≤ n → n ≤ 4 → TellsCommand words (RunScript alpha n name script)
 as_told words run kind dim mesh script n name are same named dims low high =
     ((refl, low, high, named.1), are ∙ rw (same.0, same.1, dims, named.0) refl)
 

@@ -6,20 +6,20 @@ use Rattle.map_io.specs.declared.sink.PutFault.{PutFault}
 use Rattle.map_io.specs.declared.sink.PutFault.TheVariants.{Failed, NoMemory}
 use Rattle.map_defs.specs.Kind.{Kind}
 use Rattle.map_defs.specs.Values.{Meaning}
-use Rattle.map_defs.specs.Outside.{Files, held, Appended}
-use Rattle.map_defs.specs.State.{State, empty_state}
+use Rattle.machine_defs.specs.Outside.{Files, held, Appended}
+use Rattle.machine_defs.specs.State.{State, empty_state}
 use Rattle.map_defs.specs.Off.{mesh_of}
-use Rattle.map_defs.specs.Loading.{refusal_line}
-use Rattle.map_defs.specs.Program.{RunScript, Tells, Answers, told, ScriptAnswer, FileAnswer, MeshAnswer, CommandAnswer, IsFile, StartsFrom, Starts, whole, lines, Outcome, answered, unread, unwritten, no_memory, cannot_read}
+use Rattle.machine_defs.specs.Loading.{refusal_line}
+use Rattle.machine_defs.specs.Program.{RunScript, TellsCommand, ProgramAnswer, told, ScriptAnswer, FileAnswer, MeshAnswer, CommandAnswer, IsFile, StartsFrom, Starts, whole, lines, Outcome, answered, unread, unwritten, no_memory, cannot_read}
 use Rattle.map_run.specs.Going.{IsObeyed}
 use Rattle.map_run.specs.Texts.{IsMeshOf, IsFirst, TextsEnd, refused, starved, obeyed, EndsTexts}
-use Rattle.map_run.specs.Ending.{IsLast, WritesLast, Ends, EndsWhole, status_of}
+use Rattle.map_run.specs.Ending.{IsLast, WritesLast, EndsCall, EndsWhole, status_of}
 use Rattle.map_run.proofs.StartFacts.{starts-nothing}
 use Rattle.map_run.proofs.WritingFacts.{Appended-nothing, Appended-then, IsFront-all, IsFront-nothing}
 
 module _ (hook : Meaning) (words : List (List ℕ)) (files : Files) (shelf_rose sink_rose : Type 0) where
   -- one line that is a whole answer
-  last-outcome : (line : List ℕ) (status result : ℕ) (piece : List ℕ) → Answers hook words files line status → status ≤ 4
+  last-outcome : (line : List ℕ) (status result : ℕ) (piece : List ℕ) → ProgramAnswer hook words files line status → status ≤ 4
       → IsLast sink_rose line status result piece → Outcome hook words files shelf_rose sink_rose result piece
   last-outcome line status result piece answers small (inl (same, text)) =
       answered (rw same small) (rw (same, text) answers)
@@ -34,7 +34,7 @@ module _ (hook : Meaning) (words : List (List ℕ)) (files : Files) (shelf_rose 
   unread-outcome result piece shelf (inr (inr (seven, none))) = no_memory seven (inl none) (inr (shelf, rw none (IsFront-nothing cannot_read)))
 
   -- a command whose files were fetched
-  module _ (k : Kind) (n : ℕ) (mesh : Option (List ℕ)) (script : List ℕ) (tells : Tells words (RunScript k n mesh script))
+  module _ (k : Kind) (n : ℕ) (mesh : Option (List ℕ)) (script : List ℕ) (tells : TellsCommand words (RunScript k n mesh script))
       (bytes : Option (List ℕ)) (text : List ℕ) (mesh-is : IsMeshOf files mesh bytes) (script-is : IsFile files script text) where
     -- the mesh is refused
     refused-answers : (mesh' : Option (List ℕ)) (bytes' line : List ℕ) → IsMeshOf files mesh' (Some bytes') → refusal_line k (mesh_of bytes') ≡ Some line
@@ -101,14 +101,14 @@ module _ (hook : Meaning) (words : List (List ℕ)) (files : Files) (shelf_rose 
 
   -- without a fault the answer is the whole one, or there was no memory
   complete-outcome : (status : ℕ) (piece : List ℕ) → (shelf_rose → ⊥) → (sink_rose → ⊥) → Outcome hook words files shelf_rose sink_rose status piece
-      → (status ≡ 7) ⊎ Answers hook words files piece status
+      → (status ≡ 7) ⊎ ProgramAnswer hook words files piece status
   complete-outcome status piece no_shelf no_sink (answered small answers) = inr answers
   complete-outcome status piece no_shelf no_sink (unread five shelf text) = absurd (no_shelf shelf)
   complete-outcome status piece no_shelf no_sink (unwritten six rose cut) = absurd (no_sink rose)
   complete-outcome status piece no_shelf no_sink (no_memory seven ends cut) = inl seven
 
 pub Ends-last : (hook : Meaning) (before after : Option (List ℕ)) (words : List (List ℕ)) (files : Files) (shelf_rose sink_rose : Type 0) (line : List ℕ) (status result : ℕ)
-    → Answers hook words files line status → status ≤ 4 → WritesLast before after sink_rose line status result → Ends hook before after words files shelf_rose sink_rose result
+    → ProgramAnswer hook words files line status → status ≤ 4 → WritesLast before after sink_rose line status result → EndsCall hook before after words files shelf_rose sink_rose result
 Ends-last hook before after words files shelf_rose sink_rose line status result answers small w = record {
   text = w.piece;
   appended = w.appended;
@@ -116,7 +116,7 @@ Ends-last hook before after words files shelf_rose sink_rose line status result 
 }
 
 pub Ends-unread : (hook : Meaning) (before after : Option (List ℕ)) (words : List (List ℕ)) (files : Files) (shelf_rose sink_rose : Type 0) (result : ℕ)
-    → shelf_rose → WritesLast before after sink_rose cannot_read 5 result → Ends hook before after words files shelf_rose sink_rose result
+    → shelf_rose → WritesLast before after sink_rose cannot_read 5 result → EndsCall hook before after words files shelf_rose sink_rose result
 Ends-unread hook before after words files shelf_rose sink_rose result shelf w = record {
   text = w.piece;
   appended = w.appended;
@@ -124,7 +124,7 @@ Ends-unread hook before after words files shelf_rose sink_rose result shelf w = 
 }
 
 pub Ends-nothing : (hook : Meaning) (k : Kind) (n : ℕ) (mesh : Option (List ℕ)) (script : List ℕ) (o : Option (List ℕ)) (words : List (List ℕ)) (files : Files) (shelf_rose sink_rose : Type 0)
-    → Tells words (RunScript k n mesh script) → Ends hook o o words files shelf_rose sink_rose 7
+    → TellsCommand words (RunScript k n mesh script) → EndsCall hook o o words files shelf_rose sink_rose 7
 Ends-nothing hook k n mesh script o words files shelf_rose sink_rose tells = record {
   text = [];
   appended = Appended-nothing o;
@@ -132,8 +132,8 @@ Ends-nothing hook k n mesh script o words files shelf_rose sink_rose tells = rec
 }
 
 pub Ends-texts : (hook : Meaning) (k : Kind) (n : ℕ) (mesh : Option (List ℕ)) (script : List ℕ) (words : List (List ℕ)) (files : Files) (before after : Option (List ℕ)) (shelf_rose sink_rose : Type 0) (status : ℕ)
-    (bytes : Option (List ℕ)) (text : List ℕ) → Tells words (RunScript k n mesh script) → IsMeshOf files mesh bytes × IsFile files script text
-    → EndsTexts hook k n bytes text sink_rose before after status → Ends hook before after words files shelf_rose sink_rose status
+    (bytes : Option (List ℕ)) (text : List ℕ) → TellsCommand words (RunScript k n mesh script) → IsMeshOf files mesh bytes × IsFile files script text
+    → EndsTexts hook k n bytes text sink_rose before after status → EndsCall hook before after words files shelf_rose sink_rose status
 Ends-texts hook k n mesh script words files before after shelf_rose sink_rose status bytes text tells are e = record {
   text = e.piece;
   appended = e.appended;
@@ -141,8 +141,8 @@ Ends-texts hook k n mesh script words files before after shelf_rose sink_rose st
 }
 
 pub Ends-flushed : (hook : Meaning) (before middle after : Option (List ℕ)) (words : List (List ℕ)) (files : Files) (shelf_rose sink_rose sink_rose' : Type 0) (status : ℕ)
-    → (sink_rose → sink_rose') → Ends hook before middle words files shelf_rose sink_rose status → Appended middle after []
-    → Ends hook before after words files shelf_rose sink_rose' status
+    → (sink_rose → sink_rose') → EndsCall hook before middle words files shelf_rose sink_rose status → Appended middle after []
+    → EndsCall hook before after words files shelf_rose sink_rose' status
 Ends-flushed hook before middle after words files shelf_rose sink_rose sink_rose' status grows e kept = record {
   text = e.text;
   appended = subst (Appended before after) (append-nil e.text) (Appended-then before middle after e.text [] e.appended kept);
@@ -150,8 +150,8 @@ Ends-flushed hook before middle after words files shelf_rose sink_rose sink_rose
 }
 
 pub Ends-unflushed : (hook : Meaning) (before middle after : Option (List ℕ)) (words : List (List ℕ)) (files : Files) (shelf_rose sink_rose sink_rose' : Type 0) (status : ℕ)
-    → sink_rose' → Ends hook before middle words files shelf_rose sink_rose status → Appended middle after []
-    → Ends hook before after words files shelf_rose sink_rose' (cond (nat_lt status 6) 6 status)
+    → sink_rose' → EndsCall hook before middle words files shelf_rose sink_rose status → Appended middle after []
+    → EndsCall hook before after words files shelf_rose sink_rose' (cond (nat_lt status 6) 6 status)
 Ends-unflushed hook before middle after words files shelf_rose sink_rose sink_rose' status rose e kept = record {
   text = e.text;
   appended = subst (Appended before after) (append-nil e.text) (Appended-then before middle after e.text [] e.appended kept);
@@ -159,7 +159,7 @@ Ends-unflushed hook before middle after words files shelf_rose sink_rose sink_ro
 }
 
 pub EndsWhole-from : (hook : Meaning) (before after : Option (List ℕ)) (words : List (List ℕ)) (files : Files) (shelf_rose sink_rose : Type 0) (status : ℕ)
-    → (shelf_rose → ⊥) → (sink_rose → ⊥) → Ends hook before after words files shelf_rose sink_rose status → (status ≡ 7) ⊎ EndsWhole hook before after words files status
+    → (shelf_rose → ⊥) → (sink_rose → ⊥) → EndsCall hook before after words files shelf_rose sink_rose status → (status ≡ 7) ⊎ EndsWhole hook before after words files status
 EndsWhole-from hook before after words files shelf_rose sink_rose status no_shelf no_sink e =
     elim (complete-outcome hook words files shelf_rose sink_rose status e.text no_shelf no_sink e.outcome) [
       | inl seven ↦ inl seven

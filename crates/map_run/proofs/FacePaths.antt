@@ -5,7 +5,8 @@ use Rattle.std.specs.List.{list_all}
 use Rattle.std.specs.Str.{bytes_eq}
 use Rattle.std.proofs.lemmas.Bool.{and_parts, leb-true}
 use Rattle.std.proofs.lemmas.Option.{option_and_then_some}
-use Rattle.map_defs.specs.Script.{Line, Face, Mark, Undo, Log, is_text, numeral, numerals, name, value, found, alone, with_one, with_two, with_three, numbers_line, face_line, rule_line, set_line, only_name, line_with, line_of}
+use Rattle.machine_defs.specs.Script.{Line, Face, Mark, Undo, Log, numeral, numerals, name, value, found, alone, with_one, with_two, with_three, numbers_line, face_line, rule_line, set_line, only_name, line_with, line_of}
+use Rattle.map_defs.specs.TextWords.{is_text}
 
 -- the line tells no face
 abbrev IsOther : Line → Type 0

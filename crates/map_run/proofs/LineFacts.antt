@@ -3,17 +3,17 @@ use Rattle.std.proofs.Common.{◌≡◌, ◌≢◌, ℕ, List, [], ◌∷◌, Op
 use Rattle.std.proofs.lemmas.List.{append-nil}
 use Rattle.map_io.specs.declared.sink.PutFault.{PutFault}
 use Rattle.map_io.specs.declared.sink.PutFault.TheVariants.{Failed, NoMemory}
-use Rattle.map_defs.specs.Outside.{IsFront}
+use Rattle.machine_defs.specs.Outside.{IsFront}
 use Rattle.map_defs.specs.Values.{Meaning}
-use Rattle.map_defs.specs.State.{State}
-use Rattle.map_defs.specs.Script.{Line, line_of}
-use Rattle.map_defs.specs.Text.{Reply, Refused, reply_text, replies_text, is_refused, any_refused}
+use Rattle.machine_defs.specs.State.{State}
+use Rattle.machine_defs.specs.Script.{Line, line_of}
+use Rattle.machine_defs.specs.Text.{Reply, Refused, reply_text, replies_text, is_refused, any_refused}
 use Rattle.map_defs.specs.Refusal.{Syntax}
-use Rattle.map_defs.specs.Machine.{Step, Obeys, blank, obeyed, unread}
+use Rattle.machine_defs.specs.Machine.{Step, Obeys, blank, obeyed, unread}
 use Rattle.std.specs.declared.alloc.AllocError.{AllocError}
 use Rattle.map_run.specs.declared.answer.Answer.{Answer}
 use Rattle.map_run.specs.Lines.{answer_meaning}
-use Rattle.map_run.specs.Writing.{Writes, IsWritten, IsSaid, Says, IsAnswered, AnswersLine}
+use Rattle.map_run.specs.Writing.{WritesText, IsWritten, IsSaid, Says, IsAnswered, AnswersLine}
 use Rattle.map_run.proofs.WritingFacts.{Appended-nothing}
 
 -- a reply that was written, or cut short, and is told to be a refusal or not
@@ -26,7 +26,7 @@ said-is reply (Err NoMemory) result refused piece same ok err p = rw err p
 
 pub Says-from : (before after : Option (List ℕ)) (reply : Reply) (written : Result (Unit {0}) PutFault) (result : Result Bool PutFault) (refused : Bool)
     → refused ≡ is_refused reply → OnOk written (result ≡ Ok refused) → IfErr written (λ (fault : PutFault). result ≡ Err fault)
-    → Writes before after written (reply_text reply) → Says before after reply result
+    → WritesText before after written (reply_text reply) → Says before after reply result
 Says-from before after reply written result refused same ok err w = record {
   piece = w.piece;
   appended = w.appended;

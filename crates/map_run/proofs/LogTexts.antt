@@ -3,10 +3,10 @@ use Rattle.std.proofs.Common.{◌≡◌, ℕ, ◌+◌, ◌<◌, ◌==◌, if◌t
 use Rattle.std.specs.List.{flat_map}
 use Rattle.std.proofs.lemmas.List.{append-nil, take_more, length-take-le, take-append-drop}
 use Rattle.map_defs.specs.Edits.{Change}
-use Rattle.map_defs.specs.Difference.{ValueChange, RuleChange, Difference}
-use Rattle.map_defs.specs.Text.{ended, spaced}
-use Rattle.map_defs.specs.LogText.{logged_value, logged_rule, born_text, dead_text, link_change_text, value_change_text, rule_change_text, step_text, steps_text, log_text}
-use Rattle.map_defs.specs.Program.{EndsLine}
+use Rattle.machine_defs.specs.Difference.{ValueChange, RuleChange, Difference}
+use Rattle.machine_defs.specs.Text.{ended, spaced}
+use Rattle.machine_defs.specs.LogText.{logged_value, logged_rule, born_text, dead_text, link_change_text, value_change_text, rule_change_text, step_text, steps_text, log_text}
+use Rattle.machine_defs.specs.Program.{EndsLine}
 use Rattle.map_run.specs.LogLines.{changes_text}
 use Rattle.map_run.proofs.RowTexts.{texts-end}
 use Rattle.map_run.proofs.WritingFacts.{EndsLine-then}

@@ -9,15 +9,15 @@ use Rattle.map_defs.specs.Edits.{Edit, after_edit}
 use Rattle.map_defs.specs.Cells.{here, InCell, NamesCell}
 use Rattle.map_defs.specs.Values.{Place}
 use Rattle.map_defs.specs.Off.{Mesh}
-use Rattle.map_defs.specs.State.{Content, value_at}
+use Rattle.machine_defs.specs.State.{Content, value_at}
 use Rattle.map_defs.specs.MeshMap.{sides_of, LiesAt, MakesMesh, AreMeshLinks}
-use Rattle.map_defs.specs.Loading.{IsMeshContent, dart_count}
+use Rattle.machine_defs.specs.Loading.{IsMeshContent, dart_count}
 use Rattle.link_laws.proofs.CellFacts.{cell_back}
 use Rattle.link_laws.proofs.RowFacts.{rows_lead_to_live}
-use Rattle.link_rows.proofs.EditSound.{length-after}
+use Rattle.edit_laws.proofs.EditSound.{length-after}
 use Rattle.value_laws.proofs.MapValues.{cell_trans}
 use Rattle.value_laws.proofs.Touching.{cell_live}
-use Rattle.value_laws.proofs.ValueFacts.{value-cases}
+use Rattle.journal_laws.proofs.ContentFacts.{value-cases}
 use Rattle.mesh_laws.proofs.MeshLinks.{lies-within}
 use Rattle.mesh_laws.proofs.LiveDarts.{live-made}
 use Rattle.map_core.specs.Made.{IsMadeOf}

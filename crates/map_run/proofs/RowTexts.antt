@@ -3,10 +3,10 @@ use Rattle.std.proofs.Common.{◌≡◌, ℕ, ◌+◌, ◌<◌, List, [], ◌∷
 use Rattle.std.specs.List.{flat_map}
 use Rattle.std.proofs.lemmas.Grind.{flat_map-append}
 use Rattle.std.proofs.lemmas.List.{append-nil, take_more, take-append-drop}
-use Rattle.map_defs.specs.Listing.{ListRow, ListValue}
-use Rattle.map_defs.specs.Text.{row_text, value_text, spaced, spaced_signed}
+use Rattle.machine_defs.specs.Listing.{ListRow, ListValue}
+use Rattle.machine_defs.specs.Text.{row_text, value_text, spaced, spaced_signed}
 use Rattle.std.specs.Fmt.{decimal}
-use Rattle.map_defs.specs.Program.{EndsLine}
+use Rattle.machine_defs.specs.Program.{EndsLine}
 use Rattle.map_run.proofs.WritingFacts.{EndsLine-then}
 
 module _ {X : Type 0} (text : X → List ℕ) where

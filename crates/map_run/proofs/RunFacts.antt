@@ -5,15 +5,16 @@ use Rattle.std.proofs.lemmas.Grind.{flat_map-append}
 use Rattle.std.proofs.lemmas.List.{append-nil}
 use Rattle.map_io.specs.declared.sink.PutFault.{PutFault}
 use Rattle.map_io.specs.declared.sink.PutFault.TheVariants.{Failed, NoMemory}
-use Rattle.map_defs.specs.Outside.{Appended, IsFront}
+use Rattle.machine_defs.specs.Outside.{Appended, IsFront}
 use Rattle.map_defs.specs.Values.{Meaning}
-use Rattle.map_defs.specs.State.{State}
-use Rattle.map_defs.specs.Script.{words_of, lines_of}
-use Rattle.map_defs.specs.Text.{Reply, Done, Truth, Darts, Worth, Counts, Shown, Logged, Refused, reply_text, replies_text, is_refused, any_refused, ended, spaced, spaced_signed, header_text, row_text, value_text}
-use Rattle.map_defs.specs.LogText.{steps_text}
+use Rattle.machine_defs.specs.State.{State}
+use Rattle.machine_defs.specs.Script.{lines_of}
+use Rattle.map_defs.specs.TextWords.{words_of}
+use Rattle.machine_defs.specs.Text.{Reply, Done, Truth, Darts, CellValue, Counts, Shown, Logged, Refused, reply_text, replies_text, is_refused, any_refused, ended, spaced, spaced_signed, header_text, row_text, value_text}
+use Rattle.machine_defs.specs.LogText.{steps_text}
 use Rattle.map_defs.specs.Refusal.{number, name}
-use Rattle.map_defs.specs.Machine.{Obeys, Run}
-use Rattle.map_defs.specs.Program.{EndsLine, Begins, run_status}
+use Rattle.machine_defs.specs.Machine.{Obeys, Run}
+use Rattle.machine_defs.specs.Program.{EndsLine, Begins, run_status}
 use Rattle.map_run.specs.Writing.{IsAnswered, AnswersLine, IsFrontOfLine}
 use Rattle.map_run.specs.Going.{IsGoing, IsObeyed, ObeysScript}
 use Rattle.map_run.proofs.WritingFacts.{Appended-nothing, Appended-then, EndsLine-then, IsFront-all, IsFront-then}
@@ -28,8 +29,8 @@ reply_ends (Done first count) = done_ends (count == 0) (codes "ok" ++ spaced fir
 reply_ends (Truth true) = inr (codes "true", refl)
 reply_ends (Truth false) = inr (codes "false", refl)
 reply_ends (Darts darts) = inr (codes "cell" ++ flat_map spaced darts, refl)
-reply_ends (Worth None) = inr (codes "value none", refl)
-reply_ends (Worth (Some v)) = inr (codes "value" ++ spaced_signed v.a ++ spaced_signed v.b ++ spaced_signed v.c, refl)
+reply_ends (CellValue None) = inr (codes "value none", refl)
+reply_ends (CellValue (Some v)) = inr (codes "value" ++ spaced_signed v.a ++ spaced_signed v.b ++ spaced_signed v.c, refl)
 reply_ends (Counts counts) = inr (codes "count" ++ flat_map spaced counts, refl)
 reply_ends (Shown l) =
     let front : List ℕ = header_text l ++ flat_map row_text l.rows ++ flat_map value_text l.values in

@@ -3,26 +3,26 @@ use Rattle.std.proofs.Common.{◌≡◌, ℕ, ◌≤◌, List, [], length, Optio
 use Rattle.std.proofs.lemmas.Bool.{cases_lt}
 use Rattle.map_defs.specs.Kind.{Kind}
 use Rattle.map_defs.specs.Values.{Meaning}
-use Rattle.map_defs.specs.Outside.{Files, held}
-use Rattle.map_defs.specs.State.{State, empty_state}
-use Rattle.map_defs.specs.Script.{lines_of}
+use Rattle.machine_defs.specs.Outside.{Files, held}
+use Rattle.machine_defs.specs.State.{State, empty_state}
+use Rattle.machine_defs.specs.Script.{lines_of}
 use Rattle.map_defs.specs.Off.{Mesh, mesh_of}
 use Rattle.map_defs.specs.Off as off
-use Rattle.map_defs.specs.MeshMap.{Fault, mesh_fault}
-use Rattle.map_defs.specs.Loading.{IsLoaded, first_state, refusal_line, map_fault_line}
-use Rattle.map_defs.specs.Program.{RunScript, Tells, told, ScriptAnswer, FileAnswer, MeshAnswer, CommandAnswer, IsFile, Begins, Starts, whole, lines, file_limit, cannot_read, too_long}
-use Rattle.mesh_laws.proofs.MeshContent.{has-map}
+use Rattle.map_defs.specs.MeshMap.{MapFault, mesh_fault}
+use Rattle.machine_defs.specs.Loading.{IsLoaded, first_state, refusal_line, map_fault_line}
+use Rattle.machine_defs.specs.Program.{RunScript, TellsCommand, told, ScriptAnswer, FileAnswer, MeshAnswer, CommandAnswer, IsFile, Begins, Starts, whole, lines, file_limit, cannot_read, too_long}
+use Rattle.loading_laws.proofs.MeshContent.{has-map}
 use Rattle.map_run.proofs.WritingFacts.{IsFront-nothing}
 
 -- a mesh that is not refused leads to a state
 loaded-exists : (k : Kind) (n : ℕ) (bytes : List ℕ) → 2 ≤ n → refusal_line k (mesh_of bytes) ≡ None → (start : State) × IsLoaded k n bytes start
 loaded-exists k n bytes flat none = go (mesh_of bytes) refl
   where
-    sound : (mesh : Mesh) (o : Option Fault) → mesh_of bytes ≡ Ok mesh → mesh_fault k mesh ≡ o → mesh_fault k mesh ≡ None
+    sound : (mesh : Mesh) (o : Option MapFault) → mesh_of bytes ≡ Ok mesh → mesh_fault k mesh ≡ o → mesh_fault k mesh ≡ None
     sound mesh None read is = is
     sound mesh (Some fault) read is = absurd (let line : refusal_line k (mesh_of bytes) ≡ Some (map_fault_line fault) = rw (read, is) refl in cc)
 
-    go : (r : Result Mesh off.Fault) → mesh_of bytes ≡ r → (start : State) × IsLoaded k n bytes start
+    go : (r : Result Mesh off.TextFault) → mesh_of bytes ≡ r → (start : State) × IsLoaded k n bytes start
     go (Ok mesh) read =
         let exists = has-map k n mesh flat (sound mesh (mesh_fault k mesh) read refl) in
         (first_state exists.0, record { mesh = mesh; read = read; sound = sound mesh (mesh_fault k mesh) read refl; content = exists.0; is = exists.1; begun = refl })
@@ -51,11 +51,11 @@ module _ (hook : Meaning) (words : List (List ℕ)) (files : Files) where
   read-answer name bytes read text status is answer = subst (λ (o : Option (List ℕ)). FileAnswer o read text status) (sym is.0) (inr (is.1, answer))
 
   module _ (k : Kind) (n : ℕ) (script : List ℕ) where
-    answered-by : (mesh : Option (List ℕ)) → Tells words (RunScript k n mesh script) → (text : List ℕ) (status : ℕ) → CommandAnswer hook files (RunScript k n mesh script) text status → Starts hook words files []
+    answered-by : (mesh : Option (List ℕ)) → TellsCommand words (RunScript k n mesh script) → (text : List ℕ) (status : ℕ) → CommandAnswer hook files (RunScript k n mesh script) text status → Starts hook words files []
     answered-by mesh tells text status answer = whole text status (told (RunScript k n mesh script) tells answer) (IsFront-nothing text)
 
     -- both files were read
-    by-mesh : (name mesh bytes : List ℕ) → Tells words (RunScript k n (Some name) script) → IsFile files name mesh → IsFile files script bytes → Starts hook words files []
+    by-mesh : (name mesh bytes : List ℕ) → TellsCommand words (RunScript k n (Some name) script) → IsFile files name mesh → IsFile files script bytes → Starts hook words files []
     by-mesh name mesh bytes tells is at = go (refusal_line k (mesh_of mesh)) refl
       where
         go : (o : Option (List ℕ)) → refusal_line k (mesh_of mesh) ≡ o → Starts hook words files []
@@ -67,7 +67,7 @@ module _ (hook : Meaning) (words : List (List ℕ)) (files : Files) where
             let start = loaded-exists k n mesh tells.0.1 sound in
             lines (RunScript k n (Some name) script) tells (start.0, bytes, (mesh, is, start.1), at, Begins-nothing hook start.0 (lines_of bytes))
 
-    pub starts-nothing : (mesh : Option (List ℕ)) → Tells words (RunScript k n mesh script) → Starts hook words files []
+    pub starts-nothing : (mesh : Option (List ℕ)) → TellsCommand words (RunScript k n mesh script) → Starts hook words files []
     starts-nothing None tells =
         by-file script (ScriptAnswer hook (empty_state k n)) (answered-by None tells)
         (λ bytes is. lines (RunScript k n None script) tells (empty_state k n, bytes, refl, is, Begins-nothing hook (empty_state k n) (lines_of bytes)))

@@ -4,9 +4,9 @@ use Rattle.std.proofs.lemmas.List.{append-nil}
 use Rattle.map_io.specs.declared.sink.PutFault.{PutFault}
 use Rattle.map_io.specs.declared.sink.PutFault.TheVariants.{Failed, NoMemory}
 use Rattle.map_io.specs.Put.{IsPut}
-use Rattle.map_defs.specs.Outside.{Appended, IsFront}
-use Rattle.map_defs.specs.Program.{EndsLine}
-use Rattle.map_run.specs.Writing.{Writes, IsWritten, HasWritten}
+use Rattle.machine_defs.specs.Outside.{Appended, IsFront}
+use Rattle.machine_defs.specs.Program.{EndsLine}
+use Rattle.map_run.specs.Writing.{WritesText, IsWritten, HasWritten}
 
 pub Appended-nothing : (o : Option (List ℕ)) → Appended o o []
 Appended-nothing None = tt
@@ -44,7 +44,7 @@ then-is (Err NoMemory) one other piece ends p = (EndsLine-then one piece ends p.
 
 -- one text after another
 pub Writes-then : (before middle after : Option (List ℕ)) (result : Result (Unit {0}) PutFault) (one other : List ℕ)
-    → HasWritten before middle one → Writes middle after result other → Writes before after result (one ++ other)
+    → HasWritten before middle one → WritesText middle after result other → WritesText before after result (one ++ other)
 Writes-then before middle after result one other p q = record {
   piece = one ++ q.piece;
   appended = Appended-then before middle after one q.piece p.appended q.appended;
@@ -53,11 +53,11 @@ Writes-then before middle after result one other p q = record {
 
 -- what was cut is the same where more would have come
 pub Writes-cut : (before after : Option (List ℕ)) (fault : PutFault) (text more : List ℕ)
-    → Writes before after (Err fault) text → Writes before after (Err fault) (text ++ more)
+    → WritesText before after (Err fault) text → WritesText before after (Err fault) (text ++ more)
 Writes-cut before after Failed text more p = record { piece = p.piece; appended = p.appended; is = IsFront-longer p.piece text more p.is }
 Writes-cut before after NoMemory text more p = record { piece = p.piece; appended = p.appended; is = (p.is.0, IsFront-longer p.piece text more p.is.1) }
 
-pub HasWritten-from : (before after : Option (List ℕ)) (done : Unit {0}) (text : List ℕ) → Writes before after (Ok done) text → EndsLine text → HasWritten before after text
+pub HasWritten-from : (before after : Option (List ℕ)) (done : Unit {0}) (text : List ℕ) → WritesText before after (Ok done) text → EndsLine text → HasWritten before after text
 HasWritten-from before after done text p ends = record { appended = subst (Appended before after) p.is p.appended; ends = ends }
 
 pub HasWritten-nothing : (o : Option (List ℕ)) → HasWritten o o []
@@ -70,7 +70,7 @@ HasWritten-then before middle after one other p q = record {
   ends = EndsLine-then one other p.ends q.ends;
 }
 
-pub Writes-done : (before after : Option (List ℕ)) (done : Unit {0}) (text : List ℕ) → HasWritten before after text → Writes before after (Ok done) text
+pub Writes-done : (before after : Option (List ℕ)) (done : Unit {0}) (text : List ℕ) → HasWritten before after text → WritesText before after (Ok done) text
 Writes-done before after done text p = record { piece = text; appended = p.appended; is = refl }
 
 -- one put of a piece
@@ -80,5 +80,5 @@ put-is (Err Failed) piece text p = p
 put-is (Err NoMemory) piece text p = (inl p, (piece, ap (λ (t : List ℕ). t ++ piece) (sym p)))
 
 pub Writes-put : (before after : Option (List ℕ)) (result : Result (Unit {0}) PutFault) (piece : List ℕ)
-    → ((text : List ℕ) × Appended before after text × IsPut piece result text) → Writes before after result piece
+    → ((text : List ℕ) × Appended before after text × IsPut piece result text) → WritesText before after result piece
 Writes-put before after result piece p = record { piece = p.0; appended = p.1; is = put-is result piece p.0 p.2 }

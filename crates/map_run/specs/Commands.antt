@@ -3,7 +3,7 @@ use Rattle.std.specs.Prelude.{ℕ, ◌≡◌, ◌≢◌, ◌≤◌, List, Option
 use Rattle.std.specs.Borrow.{Bor}
 use Rattle.std.specs.Fmt.{decimal}
 use Rattle.map_defs.specs.Kind.{alpha}
-use Rattle.map_defs.specs.Program as told
+use Rattle.machine_defs.specs.Program as told
 use Rattle.map_run.specs.declared.command.Dimension.{Dimension}
 use Rattle.map_run.specs.declared.command.Dimension.TheVariants.{Two, Three, Four}
 use Rattle.map_run.specs.declared.command.RunScript.{RunScript}

@@ -3,8 +3,8 @@ use Rattle.std.specs.Prelude.{ℕ, ◌≡◌, ◌⊎◌, List, [], Option, Resul
 use Rattle.map_io.specs.declared.sink.PutFault.{PutFault}
 use Rattle.map_io.specs.declared.sink.PutFault.TheVariants.{Failed, NoMemory}
 use Rattle.map_defs.specs.Values.{Meaning}
-use Rattle.map_defs.specs.Outside.{Files, Appended, IsFront}
-use Rattle.map_defs.specs.Program.{Outcome, Answers}
+use Rattle.machine_defs.specs.Outside.{Files, Appended, IsFront}
+use Rattle.machine_defs.specs.Program.{Outcome, ProgramAnswer}
 
 -- the one line that ends the program was written whole, and the status is as it should be; or the sink had a fault; or
 -- there was no memory
@@ -26,7 +26,7 @@ status_of (Err NoMemory) = 7
 
 -- What a call appended, with its outcome. Where the sink does not tell what was written, the outcome still tells of the
 -- status.
-pub record Ends (hook : Meaning) (before after : Option (List ℕ)) (words : List (List ℕ)) (files : Files) (shelf_rose sink_rose : Type 0) (status : ℕ) : Type 0 where
+pub record EndsCall (hook : Meaning) (before after : Option (List ℕ)) (words : List (List ℕ)) (files : Files) (shelf_rose sink_rose : Type 0) (status : ℕ) : Type 0 where
   pub text : List ℕ
   pub appended : Appended before after text
   pub outcome : Outcome hook words files shelf_rose sink_rose status text
@@ -35,4 +35,4 @@ pub record Ends (hook : Meaning) (before after : Option (List ℕ)) (words : Lis
 pub record EndsWhole (hook : Meaning) (before after : Option (List ℕ)) (words : List (List ℕ)) (files : Files) (status : ℕ) : Type 0 where
   pub text : List ℕ
   pub appended : Appended before after text
-  pub answers : Answers hook words files text status
+  pub answers : ProgramAnswer hook words files text status

@@ -2,13 +2,13 @@
 use Rattle.std.specs.Prelude.{ℕ, ◌≡◌, List, Option, Result, Ok, Err, Bool}
 use Rattle.map_io.specs.declared.sink.PutFault.{PutFault}
 use Rattle.map_io.specs.declared.sink.PutFault.TheVariants.{Failed, NoMemory}
-use Rattle.map_defs.specs.Outside.{Appended}
+use Rattle.machine_defs.specs.Outside.{Appended}
 use Rattle.map_defs.specs.Values.{Meaning}
-use Rattle.map_defs.specs.State.{State}
-use Rattle.map_defs.specs.Script.{lines_of}
-use Rattle.map_defs.specs.Text.{Reply, replies_text, any_refused}
-use Rattle.map_defs.specs.Machine.{Run}
-use Rattle.map_defs.specs.Program.{EndsLine, Begins, ScriptAnswer, run_status}
+use Rattle.machine_defs.specs.State.{State}
+use Rattle.machine_defs.specs.Script.{lines_of}
+use Rattle.machine_defs.specs.Text.{Reply, replies_text, any_refused}
+use Rattle.machine_defs.specs.Machine.{Run}
+use Rattle.machine_defs.specs.Program.{EndsLine, Begins, ScriptAnswer, run_status}
 
 -- These lines are obeyed, and their replies are written.
 pub record IsGoing (hook : Meaning) (start now : State) (done : List (List ℕ)) (refused : Bool) (before after : Option (List ℕ)) : Type 0 where

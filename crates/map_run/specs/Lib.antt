@@ -6,5 +6,5 @@ pub mod Going
 pub mod Ending
 pub mod Loads
 pub mod Texts
-pub use Rattle.map_defs.specs.Program
-pub use Rattle.map_defs.specs.Outside
+pub use Rattle.machine_defs.specs.Program
+pub use Rattle.machine_defs.specs.Outside

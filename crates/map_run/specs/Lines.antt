@@ -1,8 +1,8 @@
 -- What the program's own lines and answers stand for.
 use Rattle.std.specs.Prelude.{ℕ, List, [], Option, Some, None}
 use Rattle.std.specs.Borrow.{Bor}
-use Rattle.map_defs.specs.Script as machine
-use Rattle.map_defs.specs.Text as text
+use Rattle.machine_defs.specs.Script as machine
+use Rattle.machine_defs.specs.Text as text
 use Rattle.script_text.specs.Meanings.{reply_meaning, Tell}
 use Rattle.script_text.specs.declared.line.Line.{Line}
 use Rattle.script_text.specs.declared.line.Line.TheVariants as told

@@ -1,10 +1,10 @@
 -- What loading a mesh answers, and the line that refuses one.
 use Rattle.std.specs.Prelude.{ℕ, ◌≡◌, ◌⊎◌, List, [], Option, Some, None, Ok}
 use Rattle.map_defs.specs.Kind.{Kind}
-use Rattle.map_defs.specs.Outside.{Appended}
+use Rattle.machine_defs.specs.Outside.{Appended}
 use Rattle.map_defs.specs.Off.{Mesh, mesh_of}
 use Rattle.map_defs.specs.MeshMap as built_mesh
-use Rattle.map_defs.specs.Loading.{refusal_line, text_fault_line, map_fault_line}
+use Rattle.machine_defs.specs.Loading.{refusal_line, text_fault_line, map_fault_line}
 use Rattle.off_text.specs.Meanings.{meaning}
 use Rattle.off_text.specs.declared.fault.OffFault.{OffFault}
 use Rattle.off_text.specs.declared.fault.OffFault.TheVariants as off

@@ -1,8 +1,8 @@
 -- The lines of a log that are written together.
 use Rattle.std.specs.Prelude.{ℕ, List, ◌++◌}
 use Rattle.std.specs.List.{flat_map}
-use Rattle.map_defs.specs.Difference.{Difference}
-use Rattle.map_defs.specs.LogText.{link_change_text, value_change_text, rule_change_text}
+use Rattle.machine_defs.specs.Difference.{Difference}
+use Rattle.machine_defs.specs.LogText.{link_change_text, value_change_text, rule_change_text}
 
 -- the lines of what a step changed: links, values and rules
 abbrev pub changes_text : Difference → List ℕ

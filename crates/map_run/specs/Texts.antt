@@ -8,11 +8,11 @@ use Rattle.map_io.specs.declared.sink.PutFault.TheVariants as put
 use Rattle.map_io.specs.Fetched.{IsFetched}
 use Rattle.map_defs.specs.Kind.{Kind}
 use Rattle.map_defs.specs.Values.{Meaning}
-use Rattle.map_defs.specs.State.{State, empty_state}
+use Rattle.machine_defs.specs.State.{State, empty_state}
 use Rattle.map_defs.specs.Off.{mesh_of}
-use Rattle.map_defs.specs.Loading.{IsLoaded, refusal_line}
-use Rattle.map_defs.specs.Outside.{Files, Appended}
-use Rattle.map_defs.specs.Program.{Command, RunScript, CommandAnswer, IsFile, too_long, file_limit}
+use Rattle.machine_defs.specs.Loading.{IsLoaded, refusal_line}
+use Rattle.machine_defs.specs.Outside.{Files, Appended}
+use Rattle.machine_defs.specs.Program.{Command, RunScript, CommandAnswer, IsFile, too_long, file_limit}
 use Rattle.map_run.specs.declared.files.Texts.{Texts}
 use Rattle.map_run.specs.Ending.{IsLast, status_of}
 use Rattle.map_run.specs.Going.{IsObeyed}

@@ -2,12 +2,12 @@
 use Rattle.std.specs.Prelude.{ℕ, ◌≡◌, ◌⊎◌, List, [], Option, Result, Ok, Err, Bool}
 use Rattle.map_io.specs.declared.sink.PutFault.{PutFault}
 use Rattle.map_io.specs.declared.sink.PutFault.TheVariants.{Failed, NoMemory}
-use Rattle.map_defs.specs.Outside.{Appended, IsFront}
-use Rattle.map_defs.specs.Program.{EndsLine}
+use Rattle.machine_defs.specs.Outside.{Appended, IsFront}
+use Rattle.machine_defs.specs.Program.{EndsLine}
 use Rattle.map_defs.specs.Values.{Meaning}
-use Rattle.map_defs.specs.State.{State}
-use Rattle.map_defs.specs.Text.{Reply, reply_text, replies_text, is_refused, any_refused}
-use Rattle.map_defs.specs.Machine.{Obeys}
+use Rattle.machine_defs.specs.State.{State}
+use Rattle.machine_defs.specs.Text.{Reply, reply_text, replies_text, is_refused, any_refused}
+use Rattle.machine_defs.specs.Machine.{Obeys}
 
 -- the whole text; or a front of it; or for want of memory a front that ends with a line
 abbrev pub IsWritten : List ℕ → Result (Unit {0}) PutFault → List ℕ → Type 0
@@ -15,7 +15,7 @@ IsWritten text (Ok done) piece = piece ≡ text
 IsWritten text (Err Failed) piece = IsFront piece text
 IsWritten text (Err NoMemory) piece = EndsLine piece × IsFront piece text
 
-pub record Writes (before after : Option (List ℕ)) (result : Result (Unit {0}) PutFault) (text : List ℕ) : Type 0 where
+pub record WritesText (before after : Option (List ℕ)) (result : Result (Unit {0}) PutFault) (text : List ℕ) : Type 0 where
   pub piece : List ℕ
   pub appended : Appended before after piece
   pub is : IsWritten text result piece

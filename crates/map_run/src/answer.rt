@@ -1,11 +1,11 @@
 //! What the map answers, as the program says it.
 ghost use Rattle.std.specs.Prelude.{◌≡◌, IfOk, OnOk};
 ghost use Rattle.map_defs.specs.Values.{Meaning};
-ghost use Rattle.map_defs.specs.State.{State};
-ghost use Rattle.map_defs.specs.Script.{Line as MapLine};
-ghost use Rattle.map_defs.specs.Machine.{Step};
-ghost use Rattle.map_defs.specs.Text.{Truth, Darts, Worth, Counts, Logged, is_refused};
-ghost use Rattle.map_core.specs.Calls.{Does, Answers, Tells};
+ghost use Rattle.machine_defs.specs.State.{State};
+ghost use Rattle.machine_defs.specs.Script.{Line as MapLine};
+ghost use Rattle.machine_defs.specs.Machine.{Step};
+ghost use Rattle.machine_defs.specs.Text.{Truth, Darts, CellValue, Counts, Logged, is_refused};
+ghost use Rattle.map_core.specs.Calls.{Does, AnswersQuestion, AnswersAtOnce};
 ghost use Rattle.map_run.specs.Lines.{answer_meaning};
 
 use list_text::Listing;
@@ -48,7 +48,7 @@ pub fn done<'a>(done: Result<Done, Refused>) -> Result<Answer<'a>, AllocError>
 
 /// What is said of a question of yes or no.
 pub fn truth<'a>(answer: Result<bool, Refused>) -> Result<Answer<'a>, AllocError>
-    ensures { (hook : Meaning) (s : State) (line : MapLine) → Answers hook s line Truth answer → IfOk result (λ said. Step hook s line (answer_meaning said) s) }
+    ensures { (hook : Meaning) (s : State) (line : MapLine) → AnswersQuestion hook s line Truth answer → IfOk result (λ said. Step hook s line (answer_meaning said) s) }
 {
     match answer {
         Ok(answer) => Ok(Answer::Line(Reply::Truth(answer))),
@@ -59,7 +59,7 @@ pub fn truth<'a>(answer: Result<bool, Refused>) -> Result<Answer<'a>, AllocError
 
 /// What is said of a question of yes or no that takes no memory.
 pub fn told<'a>(answer: Result<bool, Refusal>) -> Result<Answer<'a>, AllocError>
-    ensures { (hook : Meaning) (s : State) (line : MapLine) → Tells hook s line Truth answer → IfOk result (λ said. Step hook s line (answer_meaning said) s) }
+    ensures { (hook : Meaning) (s : State) (line : MapLine) → AnswersAtOnce hook s line Truth answer → IfOk result (λ said. Step hook s line (answer_meaning said) s) }
 {
     match answer {
         Ok(answer) => Ok(Answer::Line(Reply::Truth(answer))),
@@ -68,8 +68,8 @@ pub fn told<'a>(answer: Result<bool, Refusal>) -> Result<Answer<'a>, AllocError>
 }
 
 /// What is said of the value of a cell.
-pub fn worth<'a>(value: Result<Option<Value>, Refusal>) -> Result<Answer<'a>, AllocError>
-    ensures { (hook : Meaning) (s : State) (line : MapLine) → Tells hook s line Worth value → IfOk result (λ said. Step hook s line (answer_meaning said) s) }
+pub fn cell_value<'a>(value: Result<Option<Value>, Refusal>) -> Result<Answer<'a>, AllocError>
+    ensures { (hook : Meaning) (s : State) (line : MapLine) → AnswersAtOnce hook s line CellValue value → IfOk result (λ said. Step hook s line (answer_meaning said) s) }
 {
     match value {
         Ok(value) => Ok(Answer::Line(Reply::Value(value))),
@@ -79,7 +79,7 @@ pub fn worth<'a>(value: Result<Option<Value>, Refusal>) -> Result<Answer<'a>, Al
 
 /// What is said of the darts of a cell.
 pub fn darts<'a>(darts: Result<Vec<Dart>, Refused>) -> Result<Answer<'a>, AllocError>
-    ensures { (hook : Meaning) (s : State) (line : MapLine) → Answers hook s line (λ found. Darts found.items) darts → IfOk result (λ said. Step hook s line (answer_meaning said) s) }
+    ensures { (hook : Meaning) (s : State) (line : MapLine) → AnswersQuestion hook s line (λ found. Darts found.items) darts → IfOk result (λ said. Step hook s line (answer_meaning said) s) }
 {
     match darts {
         Ok(darts) => Ok(Answer::Line(Reply::Cell(darts))),
@@ -97,7 +97,7 @@ pub fn counts<'a>(counts: Result<Vec<u64>, AllocError>) -> Result<Answer<'a>, Al
 
 /// What is said of a log: the steps, as the map lends them.
 pub fn logged(steps: Result<&[Changed], Refusal>) -> Result<Answer<'_>, AllocError>
-    ensures { (hook : Meaning) (s : State) (line : MapLine) → Tells hook s line (λ found. Logged found.now) steps.entry → IfOk result (λ said. Step hook s line (answer_meaning said) s) }
+    ensures { (hook : Meaning) (s : State) (line : MapLine) → AnswersAtOnce hook s line (λ found. Logged found.now) steps.entry → IfOk result (λ said. Step hook s line (answer_meaning said) s) }
 {
     match steps {
         Ok(steps) => Ok(Answer::Log(steps)),

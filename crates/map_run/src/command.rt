@@ -1,7 +1,7 @@
 //! The words with which the program is called.
 ghost use Rattle.std.specs.Prelude.{◌≡◌, ℕ, map, IsNone, IfSome, string_bytes, codes, IsTrue, ◌↔◌, ◌≤◌, None, Some};
 ghost use Rattle.map_defs.specs.Kind.{alpha};
-ghost use Rattle.map_defs.specs.Program.{RunScript, Tells, IsNoCommand};
+ghost use Rattle.machine_defs.specs.Program.{RunScript, TellsCommand, IsNoCommand};
 ghost use Rattle.map_run.specs.Commands.{number, IsNumbered, IsMeshNamed, command_of};
 
 /// The dimensions that the program offers.
@@ -25,7 +25,7 @@ pub struct RunScript<'a> {
 /// The command that the words tell; none exactly where they tell none.
 pub fn read_command(words: &[String]) -> Option<RunScript<'_>>
     ensures none { IsNone result ↔ IsNoCommand (map string_bytes words.now) }
-    ensures told { IfSome result (λ command. Tells (map string_bytes words.now) (command_of command)) }
+    ensures told { IfSome result (λ command. TellsCommand (map string_bytes words.now) (command_of command)) }
 {
     let [run, kind, dimension, mesh, script] = words else {
         return None;

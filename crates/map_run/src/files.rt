@@ -1,7 +1,7 @@
 //! The files that a command needs.
 ghost use Rattle.std.specs.Prelude.{◌≡◌, ℕ, ◌↔◌, List, Some, IfOk, IsErrOf};
-ghost use Rattle.map_defs.specs.Outside.{Files};
-ghost use Rattle.map_defs.specs.Program.{IsNeededBy};
+ghost use Rattle.machine_defs.specs.Outside.{Files};
+ghost use Rattle.machine_defs.specs.Program.{IsNeededBy};
 ghost use Rattle.map_io.specs.Cause.{HasCause};
 ghost use Rattle.map_run.specs.Commands.{mesh_name, command_of};
 ghost use Rattle.map_run.specs.Texts.{AreFetched, AreShort, IsMeshFetched, MayAsk};

@@ -1,6 +1,6 @@
 //! The line that ends the program.
 ghost use Rattle.std.specs.Prelude.{◌≡◌, ◌⊎◌, ◌≤◌};
-ghost use Rattle.map_defs.specs.Outside.{Rose};
+ghost use Rattle.machine_defs.specs.Outside.{Rose};
 ghost use Rattle.map_run.specs.Ending.{WritesLast};
 
 use map_io::{PutFault, Sink};

@@ -1,10 +1,10 @@
 //! A log, written line by line.
 ghost use Rattle.std.specs.Prelude.{◌≡◌, ◌++◌, codes, IsErrOf};
 ghost use Rattle.std.specs.List.{flat_map};
-ghost use Rattle.map_defs.specs.Text.{ended, spaced};
-ghost use Rattle.map_defs.specs.LogText.{born_text, dead_text, link_change_text, value_change_text, rule_change_text, step_text, steps_text, log_text};
+ghost use Rattle.machine_defs.specs.Text.{ended, spaced};
+ghost use Rattle.machine_defs.specs.LogText.{born_text, dead_text, link_change_text, value_change_text, rule_change_text, step_text, steps_text, log_text};
 ghost use Rattle.map_io.specs.Cause.{HasCause};
-ghost use Rattle.map_run.specs.Writing.{Writes};
+ghost use Rattle.map_run.specs.Writing.{WritesText};
 ghost use Rattle.map_run.specs.LogLines.{changes_text};
 
 use link_rows::Change;
@@ -16,9 +16,9 @@ use script_text::{
 use std::alloc::Global;
 use undo_journal::{RuleChange, Step, ValueChange};
 
-/// Writes a log, each line in one piece.
+/// WritesText a log, each line in one piece.
 pub fn write_log<S: Sink>(alloc: Global, out: &mut S, steps: &[Step]) -> Result<(), PutFault>
-    ensures written { Writes (S.written out.old) (S.written out.new) result (log_text steps.now) }
+    ensures written { WritesText (S.written out.old) (S.written out.new) result (log_text steps.now) }
     ensures cause { HasCause (S.faults out.old) (S.faults out.new) (IsErrOf result PutFault.Failed) }
 {
     let mut line = Vec::new(alloc);
@@ -28,7 +28,7 @@ pub fn write_log<S: Sink>(alloc: Global, out: &mut S, steps: &[Step]) -> Result<
 }
 
 fn write_header<S: Sink>(line: &mut Vec<u8>, out: &mut S, steps: usize) -> Result<(), PutFault>
-    ensures written { Writes (S.written out.old) (S.written out.new) result (ended (codes "log" ++ spaced steps)) }
+    ensures written { WritesText (S.written out.old) (S.written out.new) result (ended (codes "log" ++ spaced steps)) }
     ensures cause { HasCause (S.faults out.old) (S.faults out.new) (IsErrOf result PutFault.Failed) }
 {
     line.clear();
@@ -39,7 +39,7 @@ fn write_header<S: Sink>(line: &mut Vec<u8>, out: &mut S, steps: usize) -> Resul
 }
 
 fn write_end<S: Sink>(line: &mut Vec<u8>, out: &mut S) -> Result<(), PutFault>
-    ensures written { Writes (S.written out.old) (S.written out.new) result (ended (codes "end")) }
+    ensures written { WritesText (S.written out.old) (S.written out.new) result (ended (codes "end")) }
     ensures cause { HasCause (S.faults out.old) (S.faults out.new) (IsErrOf result PutFault.Failed) }
 {
     line.clear();
@@ -49,9 +49,9 @@ fn write_end<S: Sink>(line: &mut Vec<u8>, out: &mut S) -> Result<(), PutFault>
     }
 }
 
-/// Writes the lines of each step, numbered from 1.
+/// WritesText the lines of each step, numbered from 1.
 fn write_steps<S: Sink>(line: &mut Vec<u8>, out: &mut S, steps: &[Step]) -> Result<(), PutFault>
-    ensures written { Writes (S.written out.old) (S.written out.new) result (steps_text 1 steps.now) }
+    ensures written { WritesText (S.written out.old) (S.written out.new) result (steps_text 1 steps.now) }
     ensures cause { HasCause (S.faults out.old) (S.faults out.new) (IsErrOf result PutFault.Failed) }
 {
     for (index, step) in steps.iter().enumerate() {
@@ -60,14 +60,14 @@ fn write_steps<S: Sink>(line: &mut Vec<u8>, out: &mut S, steps: &[Step]) -> Resu
     Ok(())
 }
 
-/// Writes the lines of a step.
+/// WritesText the lines of a step.
 fn write_step<S: Sink>(
     line: &mut Vec<u8>,
     out: &mut S,
     number: usize,
     step: &Step,
 ) -> Result<(), PutFault>
-    ensures written { Writes (S.written out.old) (S.written out.new) result (step_text number step.now) }
+    ensures written { WritesText (S.written out.old) (S.written out.new) result (step_text number step.now) }
     ensures cause { HasCause (S.faults out.old) (S.faults out.new) (IsErrOf result PutFault.Failed) }
 {
     write_step_line(line, out, number)?;
@@ -76,9 +76,9 @@ fn write_step<S: Sink>(
     write_changes(line, out, step)
 }
 
-/// Writes the lines of what a step changed: links, values and rules.
+/// WritesText the lines of what a step changed: links, values and rules.
 fn write_changes<S: Sink>(line: &mut Vec<u8>, out: &mut S, step: &Step) -> Result<(), PutFault>
-    ensures written { Writes (S.written out.old) (S.written out.new) result (changes_text step.now) }
+    ensures written { WritesText (S.written out.old) (S.written out.new) result (changes_text step.now) }
     ensures cause { HasCause (S.faults out.old) (S.faults out.new) (IsErrOf result PutFault.Failed) }
 {
     write_link_changes(line, out, step.edit.changes.as_slice())?;
@@ -87,7 +87,7 @@ fn write_changes<S: Sink>(line: &mut Vec<u8>, out: &mut S, step: &Step) -> Resul
 }
 
 fn write_step_line<S: Sink>(line: &mut Vec<u8>, out: &mut S, number: usize) -> Result<(), PutFault>
-    ensures written { Writes (S.written out.old) (S.written out.new) result (ended (codes "step" ++ spaced number)) }
+    ensures written { WritesText (S.written out.old) (S.written out.new) result (ended (codes "step" ++ spaced number)) }
     ensures cause { HasCause (S.faults out.old) (S.faults out.new) (IsErrOf result PutFault.Failed) }
 {
     line.clear();
@@ -97,9 +97,9 @@ fn write_step_line<S: Sink>(line: &mut Vec<u8>, out: &mut S, number: usize) -> R
     }
 }
 
-/// Writes the line of the darts that a step made; nothing where none was made.
+/// WritesText the line of the darts that a step made; nothing where none was made.
 fn write_born<S: Sink>(line: &mut Vec<u8>, out: &mut S, step: &Step) -> Result<(), PutFault>
-    ensures written { Writes (S.written out.old) (S.written out.new) result (born_text step.now.first step.now.edit.births) }
+    ensures written { WritesText (S.written out.old) (S.written out.new) result (born_text step.now.first step.now.edit.births) }
     ensures cause { HasCause (S.faults out.old) (S.faults out.new) (IsErrOf result PutFault.Failed) }
 {
     line.clear();
@@ -109,9 +109,9 @@ fn write_born<S: Sink>(line: &mut Vec<u8>, out: &mut S, step: &Step) -> Result<(
     }
 }
 
-/// Writes the line of the darts that a step ended; nothing where none ended.
+/// WritesText the line of the darts that a step ended; nothing where none ended.
 fn write_dead<S: Sink>(line: &mut Vec<u8>, out: &mut S, step: &Step) -> Result<(), PutFault>
-    ensures written { Writes (S.written out.old) (S.written out.new) result (dead_text step.now.edit.deaths) }
+    ensures written { WritesText (S.written out.old) (S.written out.new) result (dead_text step.now.edit.deaths) }
     ensures cause { HasCause (S.faults out.old) (S.faults out.new) (IsErrOf result PutFault.Failed) }
 {
     line.clear();
@@ -123,7 +123,7 @@ fn write_dead<S: Sink>(line: &mut Vec<u8>, out: &mut S, step: &Step) -> Result<(
 
 /// Puts a line, or nothing where there is none.
 fn put_some<S: Sink>(out: &mut S, line: &[u8]) -> Result<(), PutFault>
-    ensures written { Writes (S.written out.old) (S.written out.new) result line.now }
+    ensures written { WritesText (S.written out.old) (S.written out.new) result line.now }
     ensures cause { HasCause (S.faults out.old) (S.faults out.new) (IsErrOf result PutFault.Failed) }
 {
     if line.is_empty() {
@@ -137,7 +137,7 @@ fn write_link_changes<S: Sink>(
     out: &mut S,
     changes: &[Change],
 ) -> Result<(), PutFault>
-    ensures written { Writes (S.written out.old) (S.written out.new) result (flat_map link_change_text changes.now) }
+    ensures written { WritesText (S.written out.old) (S.written out.new) result (flat_map link_change_text changes.now) }
     ensures cause { HasCause (S.faults out.old) (S.faults out.new) (IsErrOf result PutFault.Failed) }
 {
     for change in changes {
@@ -151,7 +151,7 @@ fn write_link_change<S: Sink>(
     out: &mut S,
     change: Change,
 ) -> Result<(), PutFault>
-    ensures written { Writes (S.written out.old) (S.written out.new) result (link_change_text change) }
+    ensures written { WritesText (S.written out.old) (S.written out.new) result (link_change_text change) }
     ensures cause { HasCause (S.faults out.old) (S.faults out.new) (IsErrOf result PutFault.Failed) }
 {
     line.clear();
@@ -166,7 +166,7 @@ fn write_value_changes<S: Sink>(
     out: &mut S,
     changes: &[ValueChange],
 ) -> Result<(), PutFault>
-    ensures written { Writes (S.written out.old) (S.written out.new) result (flat_map value_change_text changes.now) }
+    ensures written { WritesText (S.written out.old) (S.written out.new) result (flat_map value_change_text changes.now) }
     ensures cause { HasCause (S.faults out.old) (S.faults out.new) (IsErrOf result PutFault.Failed) }
 {
     for change in changes {
@@ -180,7 +180,7 @@ fn write_value_change<S: Sink>(
     out: &mut S,
     change: ValueChange,
 ) -> Result<(), PutFault>
-    ensures written { Writes (S.written out.old) (S.written out.new) result (value_change_text change) }
+    ensures written { WritesText (S.written out.old) (S.written out.new) result (value_change_text change) }
     ensures cause { HasCause (S.faults out.old) (S.faults out.new) (IsErrOf result PutFault.Failed) }
 {
     line.clear();
@@ -195,7 +195,7 @@ fn write_rule_changes<S: Sink>(
     out: &mut S,
     changes: &[RuleChange],
 ) -> Result<(), PutFault>
-    ensures written { Writes (S.written out.old) (S.written out.new) result (flat_map rule_change_text changes.now) }
+    ensures written { WritesText (S.written out.old) (S.written out.new) result (flat_map rule_change_text changes.now) }
     ensures cause { HasCause (S.faults out.old) (S.faults out.new) (IsErrOf result PutFault.Failed) }
 {
     for change in changes {
@@ -209,7 +209,7 @@ fn write_rule_change<S: Sink>(
     out: &mut S,
     change: RuleChange,
 ) -> Result<(), PutFault>
-    ensures written { Writes (S.written out.old) (S.written out.new) result (rule_change_text change) }
+    ensures written { WritesText (S.written out.old) (S.written out.new) result (rule_change_text change) }
     ensures cause { HasCause (S.faults out.old) (S.faults out.new) (IsErrOf result PutFault.Failed) }
 {
     line.clear();

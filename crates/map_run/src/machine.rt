@@ -1,14 +1,14 @@
 //! One line of a script, obeyed.
 ghost use Rattle.std.specs.Prelude.{◌≡◌, IfOk, IfErr, IfSome, IsNone, IsErrOf};
-ghost use Rattle.map_defs.specs.Script.{words_of};
-ghost use Rattle.map_defs.specs.Machine.{Step};
+ghost use Rattle.map_defs.specs.TextWords.{words_of};
+ghost use Rattle.machine_defs.specs.Machine.{Step};
 ghost use Rattle.map_core.specs.Calls.{Does};
 ghost use Rattle.map_io.specs.Cause.{HasCause};
 ghost use Rattle.script_text.specs.Meanings.{line_meaning};
 ghost use Rattle.map_run.specs.Lines.{answer_meaning, IsTold, Asks};
 ghost use Rattle.map_run.specs.Writing.{AnswersLine, Says};
 
-use crate::answer::{Answer, counts, darts, done, logged, told, truth, worth};
+use crate::answer::{Answer, counts, darts, done, logged, told, truth, cell_value};
 use crate::reply;
 use attr_rules::Hook;
 use map_core::{Done, Map};
@@ -108,7 +108,7 @@ fn ask<'a, H: Hook, const DIM: usize>(
         Line::Cell(dim, dart) => darts(map.cell(alloc, *dim, *dart)),
         Line::Same(dim, one, other) => truth(map.same(alloc, *dim, *one, *other)),
         Line::Free(link, dart) => told(map.free(*link, *dart)),
-        Line::Value(dim, dart) => worth(map.value(*dim, *dart)),
+        Line::Value(dim, dart) => cell_value(map.value(*dim, *dart)),
         Line::Removable(dim, dart) => truth(map.removable(alloc, *dim, *dart)),
         Line::Contractible(dim, dart) => truth(map.contractible(alloc, *dim, *dart)),
         Line::Sewable(link, one, other) => truth(map.sewable(alloc, *link, *one, *other)),

@@ -3,12 +3,12 @@ ghost use Rattle.std.specs.Prelude.{◌≡◌, ◌≤◌, ◌++◌, [], ◌∷�
 ghost use Rattle.map_defs.specs.Edits.{after_edit};
 ghost use Rattle.map_defs.specs.Edits as edits;
 ghost use Rattle.map_defs.specs.Rows.{links_of};
-ghost use Rattle.map_defs.specs.State.{empty_state};
-ghost use Rattle.map_defs.specs.Text.{ended, spaced};
+ghost use Rattle.machine_defs.specs.State.{empty_state};
+ghost use Rattle.machine_defs.specs.Text.{ended, spaced};
 ghost use Rattle.map_defs.specs.Off.{Mesh as ReadMesh};
-ghost use Rattle.map_defs.specs.Outside.{Rose};
+ghost use Rattle.machine_defs.specs.Outside.{Rose};
 ghost use Rattle.map_defs.specs.MeshMap.{MakesMesh};
-ghost use Rattle.map_defs.specs.Loading.{IsLoaded, text_fault_line};
+ghost use Rattle.machine_defs.specs.Loading.{IsLoaded, text_fault_line};
 ghost use Rattle.cell_walk.specs.CellLists.{AreCellsOf, lists_of};
 ghost use Rattle.off_text.specs.Meanings.{meaning};
 ghost use Rattle.map_run.specs.Loads.{Refuses, IsRead, WritesFault, text_line, map_line, fault_line};

@@ -1,7 +1,7 @@
 //! A script, obeyed from the map of a mesh or from the empty map.
 ghost use Rattle.std.specs.Prelude.{◌≡◌, ℕ, ◌≤◌, ◌||◌, List, Some, IfOk, IfErr, IsErrOf};
 ghost use Rattle.map_defs.specs.Kind.{alpha};
-ghost use Rattle.map_defs.specs.Outside.{Rose};
+ghost use Rattle.machine_defs.specs.Outside.{Rose};
 ghost use Rattle.map_io.specs.Cause.{HasCause};
 ghost use Rattle.map_run.specs.Going.{ObeysScript};
 ghost use Rattle.map_run.specs.Commands.{number};

@@ -1,9 +1,9 @@
 //! The top call: what the whole program does.
 ghost use Rattle.std.specs.Prelude.{◌≡◌, ◌≢◌, ℕ, ◌⊎◌, ◌≤◌, List, Some, map, string_bytes, nat_lt, if◌then◌else◌};
-ghost use Rattle.map_defs.specs.Outside.{Files, Rose};
-ghost use Rattle.map_defs.specs.Program.{Tells, Needs, IsNeededBy, Known, IsNoCommand};
+ghost use Rattle.machine_defs.specs.Outside.{Files, Rose};
+ghost use Rattle.machine_defs.specs.Program.{TellsCommand, NeedsFile, IsNeededBy, Known, IsNoCommand};
 ghost use Rattle.map_run.specs.Commands.{command_of};
-ghost use Rattle.map_run.specs.Ending.{Ends, EndsWhole};
+ghost use Rattle.map_run.specs.Ending.{EndsCall, EndsWhole};
 
 use crate::command::{RunScript, read_command};
 use crate::files::fetch_texts;
@@ -24,9 +24,9 @@ fn run_script<F: Shelf, S: Sink, H: Hook>(
 ) -> u8
     requires ready { H.ready hook.now }
     requires asked { (name : List ℕ) → IsNeededBy (command_of command) name → F.may_ask shelf.old name }
-    ensures outcome { (words : List (List ℕ)) (files : Files) → Tells words (command_of command.entry)
+    ensures outcome { (words : List (List ℕ)) (files : Files) → TellsCommand words (command_of command.entry)
         → F.holds shelf.old ≡ Some files →
-        Ends (H.meaning hook.now) (S.written out.old) (S.written out.new) words files
+        EndsCall (H.meaning hook.now) (S.written out.old) (S.written out.new) words files
         (Rose (F.faults shelf.old) (F.faults shelf.new)) (Rose (S.faults out.old) (S.faults out.new)) result }
     ensures command { result ≢ 2 }
     ensures range { result ≤ 7 }
@@ -58,9 +58,9 @@ fn answer<F: Shelf, S: Sink, H: Hook>(
     hook: &H,
 ) -> u8
     requires ready { H.ready hook.now }
-    requires asked { (name : List ℕ) → Needs (map string_bytes words.now) name → F.may_ask shelf.old name }
+    requires asked { (name : List ℕ) → NeedsFile (map string_bytes words.now) name → F.may_ask shelf.old name }
     ensures outcome { (files : Files) → Known (map string_bytes words.now) (F.holds shelf.old) files →
-        Ends (H.meaning hook.now) (S.written out.old) (S.written out.new) (map string_bytes words.now) files
+        EndsCall (H.meaning hook.now) (S.written out.old) (S.written out.new) (map string_bytes words.now) files
         (Rose (F.faults shelf.old) (F.faults shelf.new)) (Rose (S.faults out.old) (S.faults out.new)) result }
     ensures usage { result ≡ 2 → IsNoCommand (map string_bytes words.now) }
     ensures range { result ≤ 7 }
@@ -83,9 +83,9 @@ fn serve<F: Shelf, S: Sink, H: Hook>(
     hook: &H,
 ) -> u8
     requires ready { H.ready hook.now }
-    requires asked { (name : List ℕ) → Needs (map string_bytes words.now) name → F.may_ask shelf.old name }
+    requires asked { (name : List ℕ) → NeedsFile (map string_bytes words.now) name → F.may_ask shelf.old name }
     ensures outcome { (files : Files) → Known (map string_bytes words.now) (F.holds shelf.old) files →
-        Ends (H.meaning hook.now) (S.written out.old) (S.written out.new) (map string_bytes words.now) files
+        EndsCall (H.meaning hook.now) (S.written out.old) (S.written out.new) (map string_bytes words.now) files
         (Rose (F.faults shelf.old) (F.faults shelf.new)) (Rose (S.faults out.old) (S.faults out.new)) result }
     ensures usage { result ≡ 2 → IsNoCommand (map string_bytes words.now) }
     ensures range { result ≤ 7 }
@@ -129,9 +129,9 @@ pub fn run<F: Shelf, S: Sink, H: Hook>(
     hook: &H,
 ) -> u8
     requires ready { H.ready hook.now }
-    requires asked { (name : List ℕ) → Needs (map string_bytes words.now) name → F.may_ask shelf.old name }
+    requires asked { (name : List ℕ) → NeedsFile (map string_bytes words.now) name → F.may_ask shelf.old name }
     ensures outcome { (files : Files) → Known (map string_bytes words.now) (F.holds shelf.old) files →
-        Ends (H.meaning hook.now) (S.written out.old) (S.written out.new) (map string_bytes words.now) files
+        EndsCall (H.meaning hook.now) (S.written out.old) (S.written out.new) (map string_bytes words.now) files
         (Rose (F.faults shelf.old) (F.faults shelf.new)) (Rose (S.faults out.old) (S.faults out.new)) result }
     ensures complete { (files : Files) → Known (map string_bytes words.now) (F.holds shelf.old) files →
         ¬ (Rose (F.faults shelf.old) (F.faults shelf.new)) → ¬ (Rose (S.faults out.old) (S.faults out.new)) →

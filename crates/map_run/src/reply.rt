@@ -1,11 +1,11 @@
 //! Replies, written line by line.
 ghost use Rattle.std.specs.Prelude.{◌≡◌, IsErrOf};
 ghost use Rattle.std.specs.List.{flat_map};
-ghost use Rattle.map_defs.specs.Text.{reply_text, listing_text, header_text, row_text, value_text};
+ghost use Rattle.machine_defs.specs.Text.{reply_text, listing_text, header_text, row_text, value_text};
 ghost use Rattle.script_text.specs.Meanings.{reply_meaning};
 ghost use Rattle.map_io.specs.Cause.{HasCause};
 ghost use Rattle.map_run.specs.Lines.{answer_meaning};
-ghost use Rattle.map_run.specs.Writing.{Writes};
+ghost use Rattle.map_run.specs.Writing.{WritesText};
 
 use crate::answer::Answer;
 use crate::log::write_log;
@@ -14,13 +14,13 @@ use map_io::{PutFault, Sink};
 use script_text::{Reply, reply_text};
 use std::alloc::Global;
 
-/// Writes an answer.
+/// WritesText an answer.
 pub fn write_answer<S: Sink>(
     alloc: Global,
     out: &mut S,
     answer: &Answer<'_>,
 ) -> Result<(), PutFault>
-    ensures written { Writes (S.written out.old) (S.written out.new) result
+    ensures written { WritesText (S.written out.old) (S.written out.new) result
         (reply_text (answer_meaning answer.now)) }
     ensures cause { HasCause (S.faults out.old) (S.faults out.new) (IsErrOf result PutFault.Failed) }
 {
@@ -31,9 +31,9 @@ pub fn write_answer<S: Sink>(
     }
 }
 
-/// Writes a reply of one line.
+/// WritesText a reply of one line.
 fn write_reply<S: Sink>(alloc: Global, out: &mut S, reply: &Reply) -> Result<(), PutFault>
-    ensures written { Writes (S.written out.old) (S.written out.new) result
+    ensures written { WritesText (S.written out.old) (S.written out.new) result
         (reply_text (reply_meaning reply.now)) }
     ensures cause { HasCause (S.faults out.old) (S.faults out.new) (IsErrOf result PutFault.Failed) }
 {
@@ -43,9 +43,9 @@ fn write_reply<S: Sink>(alloc: Global, out: &mut S, reply: &Reply) -> Result<(),
     }
 }
 
-/// Writes a listing, each line in one piece.
+/// WritesText a listing, each line in one piece.
 fn write_listing<S: Sink>(alloc: Global, out: &mut S, listing: &Listing) -> Result<(), PutFault>
-    ensures written { Writes (S.written out.old) (S.written out.new) result (listing_text listing.now) }
+    ensures written { WritesText (S.written out.old) (S.written out.new) result (listing_text listing.now) }
     ensures cause { HasCause (S.faults out.old) (S.faults out.new) (IsErrOf result PutFault.Failed) }
 {
     let mut line = Vec::new(alloc);
@@ -56,7 +56,7 @@ fn write_listing<S: Sink>(alloc: Global, out: &mut S, listing: &Listing) -> Resu
 }
 
 fn write_header<S: Sink>(line: &mut Vec<u8>, out: &mut S, listing: &Listing) -> Result<(), PutFault>
-    ensures written { Writes (S.written out.old) (S.written out.new) result (header_text listing.now) }
+    ensures written { WritesText (S.written out.old) (S.written out.new) result (header_text listing.now) }
     ensures cause { HasCause (S.faults out.old) (S.faults out.new) (IsErrOf result PutFault.Failed) }
 {
     line.clear();
@@ -73,7 +73,7 @@ fn write_header<S: Sink>(line: &mut Vec<u8>, out: &mut S, listing: &Listing) -> 
 }
 
 fn write_rows<S: Sink>(line: &mut Vec<u8>, out: &mut S, rows: &[ListRow]) -> Result<(), PutFault>
-    ensures written { Writes (S.written out.old) (S.written out.new) result (flat_map row_text rows.now) }
+    ensures written { WritesText (S.written out.old) (S.written out.new) result (flat_map row_text rows.now) }
     ensures cause { HasCause (S.faults out.old) (S.faults out.new) (IsErrOf result PutFault.Failed) }
 {
     for row in rows {
@@ -83,7 +83,7 @@ fn write_rows<S: Sink>(line: &mut Vec<u8>, out: &mut S, rows: &[ListRow]) -> Res
 }
 
 fn write_row<S: Sink>(line: &mut Vec<u8>, out: &mut S, row: &ListRow) -> Result<(), PutFault>
-    ensures written { Writes (S.written out.old) (S.written out.new) result (row_text row.now) }
+    ensures written { WritesText (S.written out.old) (S.written out.new) result (row_text row.now) }
     ensures cause { HasCause (S.faults out.old) (S.faults out.new) (IsErrOf result PutFault.Failed) }
 {
     line.clear();
@@ -98,7 +98,7 @@ fn write_values<S: Sink>(
     out: &mut S,
     values: &[ListValue],
 ) -> Result<(), PutFault>
-    ensures written { Writes (S.written out.old) (S.written out.new) result (flat_map value_text values.now) }
+    ensures written { WritesText (S.written out.old) (S.written out.new) result (flat_map value_text values.now) }
     ensures cause { HasCause (S.faults out.old) (S.faults out.new) (IsErrOf result PutFault.Failed) }
 {
     for value in values {
@@ -108,7 +108,7 @@ fn write_values<S: Sink>(
 }
 
 fn write_value<S: Sink>(line: &mut Vec<u8>, out: &mut S, value: &ListValue) -> Result<(), PutFault>
-    ensures written { Writes (S.written out.old) (S.written out.new) result (value_text value.now) }
+    ensures written { WritesText (S.written out.old) (S.written out.new) result (value_text value.now) }
     ensures cause { HasCause (S.faults out.old) (S.faults out.new) (IsErrOf result PutFault.Failed) }
 {
     line.clear();

@@ -1,6 +1,6 @@
 //! The lines of a script.
 ghost use Rattle.std.specs.Prelude.{◌≡◌, ◌+◌, ◌<◌, ◌∷◌, length, IfSome, position, ◌==◌};
-ghost use Rattle.map_defs.specs.Script.{lines_of};
+ghost use Rattle.machine_defs.specs.Script.{lines_of};
 ghost use Rattle.map_run.specs.Lines.{lines_after};
 
 /// The first line of a text, and the text behind its line feed, if it ends with one.

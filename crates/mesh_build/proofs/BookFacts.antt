@@ -7,11 +7,11 @@ use Rattle.mesh_build.specs.declared.fault.MeshFault.{MeshFault}
 use Rattle.mesh_build.specs.declared.fault.MeshFault.TheVariants as told
 use Rattle.std.proofs.lemmas.List.{get_or_append_left, get_or_push, length_push, length-set, get_or-set_same, get_or-set_other}
 use Rattle.map_defs.specs.Kind.{Kind}
-use Rattle.map_defs.specs.MeshMap.{Side, Fault, ThreeSides, Turned, is_between, has_ends, side_fault}
+use Rattle.map_defs.specs.MeshMap.{Side, MapFault, ThreeSides, Turned, is_between, has_ends, side_fault}
 use Rattle.mesh_build.specs.Sides.{Fails}
 use Rattle.mesh_laws.specs.Sides.{side_of, partner_of, kind_of}
 use Rattle.mesh_laws.proofs.Filtered.{found_at, not-true, oriented-is, between-ends, numbered-on, filter-more, filter-same, ends-of}
-use Rattle.mesh_build.specs.Kept.{Last, pair_eq, last_at, KeepsEdge, Keeps}
+use Rattle.mesh_build.specs.Books.{Last, pair_eq, last_at, KeepsEdge, Keeps}
 
 module _ (o : Bool) where
   -- the faults, by what the book has
@@ -181,6 +181,6 @@ pub apart-of : (last next : Last) (key edge : ℕ × ℕ) → key ≡ edge → (
 apart-of last next key edge same h q e = h q (ap (λ (k : ℕ × ℕ). pair_eq k q) same ∙ e)
 
 -- want of memory is free
-pub fails-none : {A : Type 0} (r : Result A MeshFault) (fault : Option Fault) → IfErr r (λ f. f ≡ told.NoMemory) → fault ≡ None → Fails r fault
+pub fails-none : {A : Type 0} (r : Result A MeshFault) (fault : Option MapFault) → IfErr r (λ f. f ≡ told.NoMemory) → fault ≡ None → Fails r fault
 fails-none (Ok x) fault h none = none
 fails-none {A = A} (Err f) fault h none = subst (λ (g : MeshFault). Fails {A = A} (Err g) fault) (sym h) tt

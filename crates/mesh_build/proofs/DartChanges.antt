@@ -7,8 +7,8 @@ use Rattle.map_defs.specs.Kind.{Kind}
 use Rattle.map_defs.specs.Rows.{Rows, IsSound}
 use Rattle.map_defs.specs.Edits.{Change, with_births, linked, after_edit}
 use Rattle.map_defs.specs.MeshMap.{Side}
-use Rattle.link_rows.proofs.EditSteps.{linked-append}
-use Rattle.link_rows.proofs.EditSound.{after-sound}
+use Rattle.edit_laws.proofs.EditSteps.{linked-append}
+use Rattle.edit_laws.proofs.EditSound.{after-sound}
 use Rattle.mesh_laws.specs.Sides.{kind_of, IsSewn}
 use Rattle.mesh_laws.specs.SideLinks.{Entries, entry_changes, dart_entries, dart_count, mesh_changes, mesh_edit}
 use Rattle.mesh_laws.proofs.LiveDarts.{none-sound}

@@ -3,7 +3,7 @@ use Rattle.std.proofs.Common.{ℕ, ◌<◌, Bool, List, [], ◌∷◌, length, f
 use Rattle.map_defs.specs.MeshMap.{Side, is_between}
 use Rattle.mesh_laws.specs.Sides.{IsRing, IsSewn}
 use Rattle.mesh_laws.proofs.Partners.{ArePartners, ArePaired, paired-sewn}
-use Rattle.mesh_build.specs.Kept.{Last, last_at, KeepsEdge, Keeps}
+use Rattle.mesh_build.specs.Books.{Last, last_at, KeepsEdge, Keeps}
 
 edge-partners : (o : Bool) (partners : List (Option ℕ)) (last : Option ℕ) (met : List Side) → KeepsEdge o partners last met → ArePartners o partners met
 edge-partners o partners last [] h = tt

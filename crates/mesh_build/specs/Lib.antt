@@ -1,3 +1,3 @@
 pub mod Sides
-pub mod Kept
+pub mod Books
 pub mod EntriesView

@@ -16,7 +16,7 @@ abbrev pub sides_view : Vec Side Global → List mesh.Side
 sides_view sides = views sides.items
 
 -- What a call failed with is this fault; where it did not fail there is none. Want of memory is free.
-abbrev pub Fails : {A : Type 0} → Result A MeshFault → Option mesh.Fault → Type 0
+abbrev pub Fails : {A : Type 0} → Result A MeshFault → Option mesh.MapFault → Type 0
 Fails (Ok x) fault = fault ≡ None
 Fails (Err (told.Full darts)) fault = fault ≡ Some (mesh.Full darts)
 Fails (Err (told.Repeated face)) fault = fault ≡ Some (mesh.Repeated face)

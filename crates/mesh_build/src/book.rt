@@ -2,7 +2,7 @@ ghost use Rattle.std.specs.Prelude.{◌≡◌, Bool, ◌&&◌, ◌==◌, ◌+◌
 ghost use Rattle.map_defs.specs.MeshMap.{side_fault, has_ends};
 ghost use Rattle.mesh_build.specs.Sides.{side_view, sides_view, Fails};
 ghost use Rattle.mesh_laws.specs.Sides.{kind_of};
-ghost use Rattle.mesh_build.specs.Kept.{IsKept};
+ghost use Rattle.mesh_build.specs.Books.{KeepsBook};
 
 use crate::MeshFault;
 use crate::side::Side;
@@ -23,7 +23,7 @@ impl Book {
     /// A book without sides, with room for so many. In a closed mesh each two points that have a side between them have
     /// two.
     pub fn with_capacity(alloc: Global, sides: usize) -> Result<Self, AllocError>
-        ensures kept { IfOk result (λ book. (o : Bool) → IsKept o book) }
+        ensures kept { IfOk result (λ book. (o : Bool) → KeepsBook o book) }
         ensures sides { IfOk result (λ book. book.sides.items ≡ []) }
     {
         Ok(Book {
@@ -35,9 +35,9 @@ impl Book {
 
     /// Adds a side of a face, and sews it to the side with the same two points, if there is one.
     pub fn add(&mut self, oriented: bool, face: u32, side: Side) -> Result<(), MeshFault>
-        requires kept { IsKept oriented self.old }
+        requires kept { KeepsBook oriented self.old }
         requires number { side.number ≡ vec_len self.old.sides }
-        ensures ok { OnOk result (IsKept oriented self.new) }
+        ensures ok { OnOk result (KeepsBook oriented self.new) }
         ensures sides { OnOk result (sides_view self.new.sides ≡ sides_view self.old.sides ++ side_view side ∷ []) }
         ensures fault { Fails result (side_fault (kind_of oriented) face (side_view side) (filter (has_ends (side_view side)) (sides_view self.old.sides))) }
     {

@@ -4,7 +4,7 @@ ghost use Rattle.map_defs.specs.MeshMap.{sides_of, face_sides, sides_fault, face
 ghost use Rattle.off_text.specs.Meanings.{mesh_view};
 ghost use Rattle.mesh_build.specs.Sides.{sides_view, Fails};
 ghost use Rattle.mesh_laws.specs.Sides.{kind_of, IsSewn};
-ghost use Rattle.mesh_build.specs.Kept.{IsKept};
+ghost use Rattle.mesh_build.specs.Books.{KeepsBook};
 
 use crate::MeshFault;
 use crate::book::Book;
@@ -54,9 +54,9 @@ pub fn sew_faces(
 
 /// Adds the sides of a face.
 fn add_face(book: &mut Book, oriented: bool, face: u32, corners: &[u32]) -> Result<(), MeshFault>
-    requires kept { IsKept oriented book.old }
+    requires kept { KeepsBook oriented book.old }
     requires few { length book.old.sides.items + length corners.now < 2 ^ 32 }
-    ensures kept { OnOk result (IsKept oriented book.new) }
+    ensures kept { OnOk result (KeepsBook oriented book.new) }
     ensures sides { OnOk result (sides_view book.new.sides
         ≡ sides_view book.old.sides ++ face_sides (length book.old.sides.items) corners.now) }
     ensures fault { Fails result (sides_fault (kind_of oriented) face (sides_view book.old.sides)

@@ -5,7 +5,7 @@ use Rattle.std.specs.List.{AllPairs}
 use Rattle.std.proofs.lemmas.List.{get_or_default}
 use Rattle.map_defs.specs.Kind.{alpha}
 use Rattle.map_defs.specs.Links.{Links, HasDimension}
-use Rattle.map_defs.specs.Words.{Word, one_link, through, inverse_word, IsCellWord}
+use Rattle.map_defs.specs.LinkWords.{LinkWord, one_link, through, inverse_word, IsCellWord}
 use Rattle.map_defs.specs.Cells.{here, onward, Leads, InCell}
 use Rattle.map_defs.specs.MeshMap.{Side, start, finish, has_ends, AreJoined, AreAlong, AreSewn, IsBorder, AreMeshLinks, LiesAt, first, second}
 use Rattle.mesh_laws.specs.Sides.{no_side, side_of, IsSewn}
@@ -136,11 +136,11 @@ module _ (sides : List Side) (partners : List (Option ℕ)) (sewn : IsSewn false
 
   step-stays : (x y : ℕ) → Leads L (IsCellWord alpha 0) x y → V y ≡ V x
   step-stays x y (w, inl (j, up, along), leads, some) =
-      let to : L j x ≡ y = ap (λ (w : Word). through L w x) (sym along) ∙ leads in
+      let to : L j x ≡ y = ap (λ (w : LinkWord). through L w x) (sym along) ∙ leads in
       ap V (sym to) ∙ stays j x up (λ e. some (sym to ∙ e))
   step-stays x y (w, inr (v, (j, up, along), turned), leads, some) =
       let one : w ≡ one_link j = turned ∙ ap (inverse_word alpha) along in
-      let to : L j x ≡ y = ap (λ (w : Word). through L w x) (sym one) ∙ leads in
+      let to : L j x ≡ y = ap (λ (w : LinkWord). through L w x) (sym one) ∙ leads in
       ap V (sym to) ∙ stays j x up (λ e. some (sym to ∙ e))
 
   -- all darts of a 0-cell lie at one point

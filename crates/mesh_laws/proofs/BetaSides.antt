@@ -7,7 +7,7 @@ use Rattle.std.proofs.lemmas.List.{get_or_default}
 use Rattle.map_defs.specs.Kind.{Kind, alpha, beta, inverse, place, IsDistant}
 use Rattle.map_defs.specs.Links.{Links, HasDimension}
 use Rattle.map_defs.specs.Laws.{Laws}
-use Rattle.map_defs.specs.Words.{Word, two_links, through, inverse_word, IsCellWord}
+use Rattle.map_defs.specs.LinkWords.{LinkWord, two_links, through, inverse_word, IsCellWord}
 use Rattle.map_defs.specs.Cells.{here, onward, Leads, InCell}
 use Rattle.map_defs.specs.MeshMap.{Side, start, has_ends, AreJoined, AreAlong, AreSewn, IsBorder, AreMeshLinks, LiesAt, first, second}
 use Rattle.mesh_laws.specs.Sides.{no_side, side_of, partner_of, IsAlone, IsPair, HasPartner, IsSewn}
@@ -196,10 +196,10 @@ module _ (sides : List Side) (partners : List (Option ℕ)) (sewn : IsSewn true 
   back i (suc (suc (suc j))) x y low lt leads some = absurd (some (sym leads ∙ flat_beta j (L (inverse beta i) x)))
 
   step-stays : (x y : ℕ) → Leads L (IsCellWord beta 0) x y → V y ≡ V x
-  step-stays x y (w, inl (i, j, low, lt, along), leads, some) = forth i j x y low lt (ap (λ (w : Word). through L w x) (sym along) ∙ leads) some
+  step-stays x y (w, inl (i, j, low, lt, along), leads, some) = forth i j x y low lt (ap (λ (w : LinkWord). through L w x) (sym along) ∙ leads) some
   step-stays x y (w, inr (v, (i, j, low, lt, along), turned), leads, some) =
       let two : w ≡ two_links (inverse beta i) (inverse beta j) = turned ∙ ap (inverse_word beta) along in
-      back i j x y low lt (ap (λ (w : Word). through L w x) (sym two) ∙ leads) some
+      back i j x y low lt (ap (λ (w : LinkWord). through L w x) (sym two) ∙ leads) some
 
   -- all darts of a 0-cell lie at one point
   pub cell_beta : (d e : ℕ) → InCell beta L 0 d e → V e ≡ V d

@@ -4,7 +4,7 @@ use Rattle.std.specs.List.{range_with_len}
 use Rattle.std.proofs.lemmas.List.{length-append, length-map}
 use Rattle.std.proofs.lemmas.List.FromFn.{length-range_with_len}
 use Rattle.map_defs.specs.Kind.{Kind}
-use Rattle.map_defs.specs.MeshMap.{Side, Fault, Repeated, repeats, side_at, face_sides, sides_from, has_ends, side_fault, sides_fault, faces_fault}
+use Rattle.map_defs.specs.MeshMap.{Side, MapFault, Repeated, repeats, side_at, face_sides, sides_from, has_ends, side_fault, sides_fault, faces_fault}
 
 pub length-face_sides : (base : ℕ) (corners : List ℕ) → length (face_sides base corners) ≡ length corners
 length-face_sides base corners = length-map (range_with_len 0 (length corners)) (side_at base corners) ∙ length-range_with_len 0 (length corners)
@@ -20,7 +20,7 @@ sides_fault-on k face f earlier n place lt none =
     rw (m, none) refl
 
 -- a face without a fault, and the faces behind it
-pub faces_fault-on : (k : Kind) (face n : ℕ) (earlier next : List Side) (corners : List ℕ) (faces all : List (List ℕ)) (total : Option Fault) → n ≡ length earlier → next ≡ earlier ++ face_sides n corners
+pub faces_fault-on : (k : Kind) (face n : ℕ) (earlier next : List Side) (corners : List ℕ) (faces all : List (List ℕ)) (total : Option MapFault) → n ≡ length earlier → next ≡ earlier ++ face_sides n corners
     → all ≡ corners ∷ faces → repeats [] corners ≡ false → sides_fault k face earlier (face_sides n corners) ≡ None
     → faces_fault k face earlier all ≡ total → faces_fault k (face + 1) next faces ≡ total
 faces_fault-on k face n earlier next corners faces all total long more split once none whole =
@@ -29,7 +29,7 @@ faces_fault-on k face n earlier next corners faces all total long more split onc
     let step : faces_fault k face earlier (corners ∷ faces) ≡ faces_fault k (face + 1) (earlier ++ face_sides (length earlier) corners) faces = rw (once, none') refl in
     ap (λ (sides : List Side). faces_fault k (face + 1) sides faces) next' ∙ (sym step ∙ (ap (faces_fault k face earlier) (sym split) ∙ whole))
 
-pub faces_fault-repeated : (k : Kind) (face : ℕ) (earlier : List Side) (corners : List ℕ) (faces all : List (List ℕ)) (total : Option Fault) → all ≡ corners ∷ faces → repeats [] corners ≡ true
+pub faces_fault-repeated : (k : Kind) (face : ℕ) (earlier : List Side) (corners : List ℕ) (faces all : List (List ℕ)) (total : Option MapFault) → all ≡ corners ∷ faces → repeats [] corners ≡ true
     → faces_fault k face earlier all ≡ total → total ≡ Some (Repeated face)
 faces_fault-repeated k face earlier corners faces all total split twice whole =
     let step : faces_fault k face earlier (corners ∷ faces) ≡ Some (Repeated face) = rw twice refl in

@@ -8,7 +8,7 @@ use Rattle.map_defs.specs.Kind.{Kind}
 use Rattle.map_defs.specs.Polygon.{per_side}
 use Rattle.map_defs.specs.Rows.{made_max}
 use Rattle.map_defs.specs.Off.{Mesh}
-use Rattle.map_defs.specs.MeshMap.{Side, Fault, Full, Repeated, Turned, side_at, face_sides, sides_from, sides_of, is_between, has_ends, is_oriented, or_else, repeats, side_fault, sides_fault, face_fault, faces_fault, mesh_fault}
+use Rattle.map_defs.specs.MeshMap.{Side, MapFault, Full, Repeated, Turned, side_at, face_sides, sides_from, sides_of, is_between, has_ends, is_oriented, or_else, repeats, side_fault, sides_fault, face_fault, faces_fault, mesh_fault}
 use Rattle.mesh_laws.specs.Sides.{no_side, side_of, kind_of}
 use Rattle.mesh_laws.proofs.FaceSides.{length-face_sides}
 use Rattle.mesh_laws.proofs.Filtered.{found_at, oriented-is, numbered-on, filter-more, filter-same, ends-of}
@@ -25,11 +25,11 @@ pub record IsFaultless (oriented : Bool) (sides : List Side) : Type 0 where
   pub numbers : (s : ℕ) → s < length sides → (side_of sides s).number ≡ s
   pub edges : (low high : ℕ) → AreFew oriented (filter (is_between low high) sides)
 
-none-first : (a b : Option Fault) → or_else a b ≡ None → (a ≡ None) × (b ≡ None)
+none-first : (a b : Option MapFault) → or_else a b ≡ None → (a ≡ None) × (b ≡ None)
 none-first None b e = (refl, e)
 none-first (Some x) b e = absurd (cc (e))
 
-none-else : (b : Bool) (f : Fault) (x : Option Fault) → cond b (Some f) x ≡ None → (b ≡ false) × (x ≡ None)
+none-else : (b : Bool) (f : MapFault) (x : Option MapFault) → cond b (Some f) x ≡ None → (b ≡ false) × (x ≡ None)
 none-else true f x e = absurd (cc (e))
 none-else false f x e = (refl, e)
 

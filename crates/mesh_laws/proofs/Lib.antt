@@ -2,7 +2,6 @@ pub mod Filtered
 pub mod FaceSides
 pub mod Rings
 pub mod Partners
-pub mod Listed
 pub mod SideFacts
 pub mod AlphaSides
 pub mod BetaSides
@@ -10,7 +9,6 @@ pub mod MadeMesh
 pub mod SidePoints
 pub mod LiveDarts
 pub mod MeshLinks
-pub mod MeshOne
 pub mod Faultless
 pub mod Paired
-pub mod MeshContent
+pub mod ListedLinks

@@ -4,10 +4,10 @@ use Rattle.std.proofs.lemmas.Bool.{false≢true}
 use Rattle.map_defs.specs.Kind.{Kind}
 use Rattle.map_defs.specs.Rows.{row_at, links_of, IsLive, IsSound}
 use Rattle.map_defs.specs.Edits.{Edit, Fits, with_births, with_changes, after_edit}
-use Rattle.link_rows.proofs.RowWrites.{live-within}
-use Rattle.link_rows.proofs.EditSteps.{linked-nothing, buried-none}
-use Rattle.link_rows.proofs.EditSound.{length-after}
-use Rattle.link_rows.proofs.EditBack.{born-live}
+use Rattle.edit_laws.proofs.RowWrites.{live-within}
+use Rattle.edit_laws.proofs.EditSteps.{linked-nothing, buried-none}
+use Rattle.edit_laws.proofs.EditSound.{length-after}
+use Rattle.edit_laws.proofs.EditBack.{born-live}
 
 nothing-made : (n : ℕ) (e : Edit) → row_at (after_edit n e (None ∷ [])) 0 ≡ None
 nothing-made n e = buried-none e.deaths (with_changes n e (None ∷ [])) 0 (linked-nothing e.changes (with_births n e.births (None ∷ [])) refl)

@@ -15,7 +15,7 @@ use Rattle.map_defs.specs.Values.{Value, Place}
 use Rattle.map_defs.specs.MeshMap.{Side, sides_of, AreMeshLinks, LiesAt, MakesMesh}
 use Rattle.mesh_laws.specs.Sides.{kind_of, IsSewn}
 use Rattle.mesh_laws.specs.SideLinks.{dart_entries, dart_count, mesh_links, mesh_edit, point_of}
-use Rattle.mesh_laws.proofs.Listed.{AreEntries, same, listed-fits}
+use Rattle.mesh_laws.proofs.ListedLinks.{AreEntries, same, listed-fits}
 use Rattle.mesh_laws.proofs.SideFacts.{reads, none-outside, back_alpha, laws_alpha}
 use Rattle.mesh_laws.proofs.AlphaSides.{links_alpha, cell_alpha, lies_alpha}
 use Rattle.mesh_laws.proofs.BetaSides.{back_beta, laws_beta, links_beta, cell_beta, lies_beta}

@@ -3,7 +3,7 @@ use Rattle.std.proofs.Common.{◌≡◌, ℕ, zero, suc, ◌-◌, ◌+◌, ◌�
 use Rattle.std.specs.List.{list_all}
 use Rattle.std.proofs.lemmas.Bool.Decides.{nat_tests}
 use Rattle.std.proofs.lemmas.List.{append-nil}
-use Rattle.map_defs.specs.Script.{value_of}
+use Rattle.map_defs.specs.TextWords.{value_of}
 use Rattle.map_defs.specs.Off.{What, Short, BadIndex, ◌>>=◌, is_below, corners}
 use Rattle.off_text.specs.Reading.{corner_of}
 

@@ -5,7 +5,7 @@ use Rattle.std.specs.Char.{is_ascii_graphic}
 use Rattle.std.proofs.lemmas.Bool.Decides.{nat_tests}
 use Rattle.std.proofs.lemmas.Bool.{eqb-true}
 use Rattle.std.proofs.lemmas.List.{length-take, nil_from_length}
-use Rattle.map_defs.specs.Script.{is_blank, is_word, is_text}
+use Rattle.map_defs.specs.TextWords.{is_blank, is_word, is_text}
 use Rattle.map_defs.specs.Off.{lines_of}
 use Rattle.off_text.specs.Reading.{words_in, is_line_feed, is_text_byte}
 use Rattle.off_text.proofs.FirstPlaces.{position_or_len-within}

@@ -7,8 +7,8 @@ use Rattle.std.proofs.lemmas.Bool.{and_parts, ltb-true, ltb-false, leb-true}
 use Rattle.std.proofs.lemmas.List.{length-map, length-take}
 use Rattle.std.proofs.lemmas.List.Elements.{All-nil, All-cons}
 use Rattle.map_defs.specs.Values.{Value}
-use Rattle.map_defs.specs.Script.{value_of}
-use Rattle.map_defs.specs.Off.{What, Fault, Short, BadIndex, BadFace, BadCounts, ◌>>=◌, Left, Row, Mesh, Counts, next, on_line, bad, line_read, is_natural, is_below, three, counts, counts_of, counts_behind, header, corners, is_side_count, face, point, many, ended, checked, mesh_left, mesh_of, left_of, lines_of, NoHeader, HasFaces}
+use Rattle.map_defs.specs.TextWords.{value_of}
+use Rattle.map_defs.specs.Off.{What, TextFault, Short, BadIndex, BadFace, BadCounts, ◌>>=◌, Left, Row, Mesh, Counts, next, on_line, bad, line_read, is_natural, is_below, three, counts, counts_of, counts_behind, header, corners, is_side_count, face, point, many, ended, checked, mesh_left, mesh_of, left_of, lines_of, NoHeader, HasFaces}
 use Rattle.off_text.specs.declared.mesh.Mesh as told
 use Rattle.off_text.specs.declared.fault.OffFault.{OffFault}
 use Rattle.off_text.specs.Meanings.{mesh_view, Gives}
@@ -48,14 +48,14 @@ line_ok read left x rest e =
     (row.0.0.first, row.0.0.others, on_line_ok row.0.0.line (read row.0.0.first row.0.0.others) x (told.1 ∙ ap (λ (z : _). Ok z) same))
 
 -- as many things are read as are told, each by its reader
-many_ok : {A : Type 0} (one : Left → Result (A × Left) Fault) (n : ℕ) (left : Left) (xs : List A) (rest : Left) → many one n left ≡ Ok (xs, rest) → length xs ≡ n
+many_ok : {A : Type 0} (one : Left → Result (A × Left) TextFault) (n : ℕ) (left : Left) (xs : List A) (rest : Left) → many one n left ≡ Ok (xs, rest) → length xs ≡ n
 many_ok one zero left xs rest e = ap (λ (p : List _ × Left). length p.0) (sym (ok_is ([], left) (xs, rest) e))
 many_ok one (suc n) left xs rest e =
     let first = bind_ok (one left) (λ x. many one n x.1 >>= λ ys. Ok (x.0 ∷ ys.0, ys.1)) (xs, rest) e in
     let more = bind_ok (many one n first.0.1) (λ ys. Ok (first.0.0 ∷ ys.0, ys.1)) (xs, rest) first.2 in
     ap (λ (p : List _ × Left). length p.0) (sym (ok_is (first.0.0 ∷ more.0.0, more.0.1) (xs, rest) more.2)) ∙ ap suc (many_ok one n first.0.1 more.0.0 more.0.1 more.1)
 
-many_all : {A : Type 0} (P : A → Type 0) (one : Left → Result (A × Left) Fault) → ((left : Left) (x : A) (rest : Left) → one left ≡ Ok (x, rest) → P x)
+many_all : {A : Type 0} (P : A → Type 0) (one : Left → Result (A × Left) TextFault) → ((left : Left) (x : A) (rest : Left) → one left ≡ Ok (x, rest) → P x)
     → (n : ℕ) (left : Left) (xs : List A) (rest : Left) → many one n left ≡ Ok (xs, rest) → All P xs
 many_all P one each zero left xs rest e = subst (All P) (ap (λ (p : List _ × Left). p.0) (ok_is ([], left) (xs, rest) e)) (All-nil P)
 many_all P one each (suc n) left xs rest e =

@@ -31,12 +31,12 @@ abbrev pub mesh_view : Mesh → off.Mesh
 mesh_view mesh = record { points = mesh.points.items; faces = faces_view mesh.faces.items }
 
 -- Want of memory is free.
-abbrev pub IsFault : {Y : Type 0} → OffFault → Result Y off.Fault → Type 0
+abbrev pub IsFault : {Y : Type 0} → OffFault → Result Y off.TextFault → Type 0
 IsFault (outcome.Bad line what) read = read ≡ off.bad line (meaning what)
 IsFault outcome.NoMemory read = Unit {0}
 
 -- what a call returned, seen by view, is what reading gives
-abbrev pub Gives : {X Y : Type 0} → (X → Y) → Result X OffFault → Result Y off.Fault → Type 0
+abbrev pub Gives : {X Y : Type 0} → (X → Y) → Result X OffFault → Result Y off.TextFault → Type 0
 Gives view (Ok x) read = read ≡ Ok (view x)
 Gives view (Err fault) read = IsFault fault read
 

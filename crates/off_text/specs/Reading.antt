@@ -3,8 +3,8 @@ use Rattle.std.specs.Prelude.{ℕ, ◌≡◌, ◌-◌, ◌==◌, nat_lt, ◌||�
 use Rattle.std.specs.List.{slice_split}
 use Rattle.std.specs.Char.{is_ascii_graphic}
 use Rattle.std.specs.Borrow.{Bor}
-use Rattle.map_defs.specs.Script.{is_blank, is_word, value_of}
-use Rattle.map_defs.specs.Off.{What, Fault, Left, Short, BadIndex, is_below, ◌>>=◌}
+use Rattle.map_defs.specs.TextWords.{is_blank, is_word, value_of}
+use Rattle.map_defs.specs.Off.{What, TextFault, Left, Short, BadIndex, is_below, ◌>>=◌}
 
 abbrev pub is_line_feed : ℕ → Bool
 is_line_feed b = b == 10
@@ -29,5 +29,5 @@ corner_of points owed (word ∷ words) =
     else (if nat_lt (length words) (owed - 1) then Err Short else Err BadIndex)
 
 -- a thing that is read stands behind those before it
-abbrev pub pushed : {A : Type 0} → List A → Result (A × Left) Fault → Result (List A × Left) Fault
+abbrev pub pushed : {A : Type 0} → List A → Result (A × Left) TextFault → Result (List A × Left) TextFault
 pushed front read = read >>= λ x. Ok (front ++ x.0 ∷ [], x.1)

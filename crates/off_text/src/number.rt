@@ -2,7 +2,7 @@
 ghost use Rattle.std.specs.Prelude.{◌≡◌, ◌==◌, ℕ, pos, neg_ℤ, ◌+◌, ◌*◌, ◌^◌, ◌<◌, ◌≤◌, min, Some, None, option_map, IsTrue, length, if◌then◌else◌};
 ghost use Rattle.std.specs.List.{list_all, position_or_len};
 ghost use Rattle.std.specs.Char.{is_ascii_digit};
-ghost use Rattle.map_defs.specs.Script.{value_of};
+ghost use Rattle.map_defs.specs.TextWords.{value_of};
 ghost use Rattle.map_defs.specs.Off.{is_natural, is_below, is_point, magnitude, coordinate, held};
 ghost use Rattle.off_text.specs.Meanings.{Finds};
 

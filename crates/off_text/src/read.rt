@@ -1,7 +1,7 @@
 //! The mesh that a text tells.
 ghost use Rattle.std.specs.Prelude.{◌≡◌, ℕ, ◌+◌, ◌-◌, ◌≤◌, ◌<◌, ◌^◌, length, nat_lt, Ok, Some, None, option_map, IfOk, if◌then◌else◌};
 ghost use Rattle.map_defs.specs.Off.{three, counts, counts_behind, header, on_line, line_read, point, face, corners, many, ended, mesh_left, mesh_of, HasFaces, is_side_count, Short, BadIndex};
-ghost use Rattle.map_defs.specs.Script.{value_of};
+ghost use Rattle.map_defs.specs.TextWords.{value_of};
 ghost use Rattle.off_text.specs.Meanings.{meaning, mesh_view, items_of, faces_view, Gives, Finds};
 ghost use Rattle.off_text.specs.Reading.{words_in, corner_of, pushed};
 ghost use Rattle.off_text.specs.Views.{row_view, cursor_view, counts_view, words_view};

@@ -1,7 +1,7 @@
 //! The words of a line.
 ghost use Rattle.std.specs.Prelude.{◌≡◌, ℕ, ◌≤◌, length, not, position, drop, IfSome};
 ghost use Rattle.std.specs.List.{list_all, position_or_len};
-ghost use Rattle.map_defs.specs.Script.{is_blank, is_text, uncommented, is_comment_sign};
+ghost use Rattle.map_defs.specs.TextWords.{is_blank, is_text, uncommented, is_comment_sign};
 ghost use Rattle.off_text.specs.Reading.{words_in, TakesWord};
 
 /// What stands before the first number sign.

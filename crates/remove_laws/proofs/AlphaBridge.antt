@@ -6,7 +6,7 @@ use Rattle.map_defs.specs.Links.{Links}
 use Rattle.map_defs.specs.Walks.{Walk, stop, go}
 use Rattle.link_laws.proofs.Basics.{same_or_not, by_cases, IsDistant-turned, IsDistant-apart}
 use Rattle.link_laws.proofs.Walking.{by_not_not, walk_outside, leaves, found}
-use Rattle.remove_laws.proofs.Steps.{AreSteps}
+use Rattle.remove_laws.proofs.TotalSteps.{AreSteps}
 
 -- S are the steps of the old links L; the set C is closed under all of them but those at i
 pub record IsCrossed (i a made : ℕ) (C : ℕ → Type 0) (L S : Links) : Type 0 where

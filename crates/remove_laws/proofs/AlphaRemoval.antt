@@ -9,7 +9,7 @@ use Rattle.map_defs.specs.Removal.{IsBridged, Lands, CommutesAt, IsRemovable, Is
 use Rattle.map_defs.specs.Contraction.{IsContractible, IsContracted}
 use Rattle.link_laws.proofs.Basics.{same_or_not}
 use Rattle.link_laws.proofs.Walking.{walk_one}
-use Rattle.remove_laws.proofs.Steps.{IsStep, step_free, step_there, step_case, AreSteps, from_laws, to_laws}
+use Rattle.remove_laws.proofs.TotalSteps.{IsStep, step_free, step_there, step_case, AreSteps, from_laws, to_laws}
 use Rattle.remove_laws.proofs.AlphaBridge.{IsCrossed, IsDrawn, ends, ends_where, drawn_steps}
 use Rattle.link_laws.proofs.CellFacts.{orbit_nonzero, orbit_bounded, alpha_closed}
 

@@ -9,7 +9,7 @@ use Rattle.map_defs.specs.Removal.{CommutesAt}
 use Rattle.link_laws.proofs.Basics.{inverse_twice, inverse_own, IsDistant-inverse_right}
 use Rattle.link_laws.proofs.Relink.{IsEither}
 use Rattle.link_laws.proofs.CellFacts.{orbit_nonzero, orbit_bounded}
-use Rattle.remove_laws.proofs.Steps.{step_case, links_commute}
+use Rattle.remove_laws.proofs.TotalSteps.{step_case, links_commute}
 use Rattle.remove_laws.proofs.Walked.{CanBeWalked}
 
 module _ (L : Links) (w : Laws beta L) where

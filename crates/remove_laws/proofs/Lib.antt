@@ -1,4 +1,4 @@
-pub mod Steps
+pub mod TotalSteps
 pub mod AlphaBridge
 pub mod AlphaRemoval
 pub mod Walked

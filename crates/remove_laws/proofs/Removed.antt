@@ -3,7 +3,7 @@ use Rattle.std.proofs.Common.{◌≢◌, ◌+◌, ℕ, zero, suc, inl, inr, refl
 use Rattle.map_defs.specs.Kind.{Kind, alpha, beta}
 use Rattle.map_defs.specs.Links.{Links, IsMadeUpTo}
 use Rattle.map_defs.specs.Laws.{Laws}
-use Rattle.map_defs.specs.Words.{two_links}
+use Rattle.map_defs.specs.LinkWords.{two_links}
 use Rattle.map_defs.specs.Cells.{InCell}
 use Rattle.map_defs.specs.Removal.{IsRemovable, IsRemoved}
 use Rattle.map_defs.specs.Contraction.{IsContractible, IsContracted}

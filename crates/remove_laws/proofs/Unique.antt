@@ -8,7 +8,7 @@ use Rattle.map_defs.specs.Walks.{Walk}
 use Rattle.map_defs.specs.Removal.{Lands, RunsTo, IsBridged, IsSmoothed, IsRemovable, IsRemoved}
 use Rattle.map_defs.specs.Contraction.{IsContractible, IsContracted}
 use Rattle.link_laws.proofs.Basics.{same_or_not, by_cases}
-use Rattle.link_laws.proofs.Turned.{turned_one}
+use Rattle.link_laws.proofs.InverseLinks.{turned_one}
 use Rattle.link_laws.proofs.Walking.{by_not_not}
 use Rattle.remove_laws.proofs.Smoothed.{run_ends}
 use Rattle.remove_laws.proofs.Removed.{vertex_smoothed}

@@ -9,7 +9,7 @@ use Rattle.std.specs.Char.{is_ascii_graphic}
 use Rattle.std.proofs.lemmas.Str.{IsUtf8-from_ascii}
 use Rattle.std.proofs.lemmas.Bool.{and_parts}
 use Rattle.std.proofs.lemmas.Bool.Decides.{nat_tests}
-use Rattle.map_defs.specs.Script.{is_name_byte}
+use Rattle.machine_defs.specs.Script.{is_name_byte}
 
 -- a word is ASCII if all its bytes pass a test that only ASCII passes
 IsAscii-all : (p : ℕ → Bool) → ((b : ℕ) → p b ≡ true → b < 128) → (word : List ℕ) → list_all p word ≡ true → IsAscii word

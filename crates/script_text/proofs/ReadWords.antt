@@ -2,7 +2,7 @@
 use Rattle.std.proofs.Common.{◌≡◌, ◌≢◌, ℕ, List, [], ◌∷◌, ◌++◌, map, length, Option, None, refl}
 use Rattle.std.specs.Option.{option_map}
 use Rattle.std.specs.Borrow.{Bor}
-use Rattle.map_defs.specs.Script.{value}
+use Rattle.machine_defs.specs.Script.{value}
 use Rattle.script_text.specs.Reading.{now_of}
 
 -- the numbers of words whose first ones write these numbers

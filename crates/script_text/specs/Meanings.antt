@@ -5,8 +5,8 @@ use Rattle.map_kind.specs.declared.refusal.Refused.{Refused}
 use Rattle.map_kind.specs.declared.refusal.Refused.TheVariants as outcome
 use Rattle.map_kind.specs.declared.refusal.Refusal.TheVariants as why
 use Rattle.map_kind.specs.Refusals.{meaning}
-use Rattle.map_defs.specs.Script as machine
-use Rattle.map_defs.specs.Text as text
+use Rattle.machine_defs.specs.Script as machine
+use Rattle.machine_defs.specs.Text as text
 use Rattle.script_text.specs.declared.line.Line.{Line}
 use Rattle.script_text.specs.declared.line.Line.TheVariants as told
 use Rattle.script_text.specs.declared.reply.Reply.{Reply}
@@ -59,5 +59,5 @@ reply_meaning (given.Done births) = text.Done births.first births.count
 reply_meaning (given.Truth answer) = text.Truth answer
 reply_meaning (given.Cell darts) = text.Darts darts.items
 reply_meaning (given.Count counts) = text.Counts counts.items
-reply_meaning (given.Value value) = text.Worth value
+reply_meaning (given.Value value) = text.CellValue value
 reply_meaning (given.No refusal) = text.Refused (meaning refusal)

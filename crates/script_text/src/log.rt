@@ -2,8 +2,8 @@
 ghost use Rattle.std.specs.Prelude.{◌≡◌, ◌++◌, ◌∷◌, IfOk, OnOk, Some, codes};
 ghost use Rattle.std.specs.Fmt.{signed_decimal};
 ghost use Rattle.std.specs.List.{flat_map};
-ghost use Rattle.map_defs.specs.Text.{ended, spaced};
-ghost use Rattle.map_defs.specs.LogText.{logged_value, logged_rule, born_text, dead_text, link_change_text, value_change_text, rule_change_text, step_text, steps_text, log_text};
+ghost use Rattle.machine_defs.specs.Text.{ended, spaced};
+ghost use Rattle.machine_defs.specs.LogText.{logged_value, logged_rule, born_text, dead_text, link_change_text, value_change_text, rule_change_text, step_text, steps_text, log_text};
 
 use attr_rules::TableRule;
 use link_rows::Change;

@@ -3,7 +3,8 @@ ghost use Rattle.std.specs.Prelude.{◌≡◌, ℕ, List, [], ◌∷◌, map, fi
 ghost use Rattle.std.specs.String.{string_bytes};
 ghost use Rattle.std.specs.Option.{option_map};
 ghost use Rattle.std.specs.List.{list_all, position_or_len, slice_split};
-ghost use Rattle.map_defs.specs.Script.{words_of, line_of, is_blank, is_word, is_text, is_comment_sign, uncommented, numerals, name, line_with, numbers_line, face_line, rule_line, set_line, value, only_name, found, alone, with_one, with_two, with_three};
+ghost use Rattle.machine_defs.specs.Script.{line_of, numerals, name, line_with, numbers_line, face_line, rule_line, set_line, value, only_name, found, alone, with_one, with_two, with_three};
+ghost use Rattle.map_defs.specs.TextWords.{words_of, is_blank, is_word, is_text, is_comment_sign, uncommented};
 ghost use Rattle.script_text.specs.Meanings.{line_meaning, Tell, IsSyntax};
 ghost use Rattle.script_text.specs.Reading.{Reads, now_of, items_of};
 

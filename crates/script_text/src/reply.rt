@@ -1,6 +1,6 @@
 //! The reply to a line, and its text.
 ghost use Rattle.std.specs.Prelude.{◌≡◌, ◌++◌, IfOk, OnOk, Some, codes};
-ghost use Rattle.map_defs.specs.Text.{is_refused, reply_text, done_text, truth_text, numbers_text, worth_text, refusal_text};
+ghost use Rattle.machine_defs.specs.Text.{is_refused, reply_text, done_text, truth_text, numbers_text, cell_value_text, refusal_text};
 ghost use Rattle.map_kind.specs.Refusals.{meaning};
 ghost use Rattle.script_text.specs.Meanings.{reply_meaning};
 
@@ -110,7 +110,7 @@ fn append_count(text: &mut Vec<u8>, counts: &[u64]) -> Result<(), AllocError>
 
 /// The reply to a question for a value: `value`, and its three numbers, or `none`.
 fn append_worth(text: &mut Vec<u8>, value: Option<Value>) -> Result<(), AllocError>
-    ensures { OnOk result (text.new.items ≡ text.old.items ++ worth_text value) }
+    ensures { OnOk result (text.new.items ≡ text.old.items ++ cell_value_text value) }
 {
     match value {
         Some(Value { a, b, c }) => append_numbers(text, a, b, c),
@@ -120,7 +120,7 @@ fn append_worth(text: &mut Vec<u8>, value: Option<Value>) -> Result<(), AllocErr
 
 /// The reply where there is a value: `value`, and its three numbers.
 fn append_numbers(text: &mut Vec<u8>, a: i64, b: i64, c: i64) -> Result<(), AllocError>
-    ensures { OnOk result (text.new.items ≡ text.old.items ++ worth_text (Some (record { a = a; b = b; c = c }))) }
+    ensures { OnOk result (text.new.items ≡ text.old.items ++ cell_value_text (Some (record { a = a; b = b; c = c }))) }
 {
     text.extend_from_slice(b"value")?;
     append_spaced(text, a)?;

@@ -3,7 +3,8 @@ ghost use Rattle.std.specs.Prelude.{◌≡◌, ℕ, ◌+◌, ◌*◌, ◌^◌, �
 ghost use Rattle.std.specs.Char.{is_ascii_digit};
 ghost use Rattle.std.specs.List.{list_all};
 ghost use Rattle.std.specs.Option.{option_copied};
-ghost use Rattle.map_defs.specs.Script.{is_text, is_numeral, numeral, positive, negative, integer, is_name_byte, is_name, name};
+ghost use Rattle.machine_defs.specs.Script.{is_numeral, numeral, positive, negative, integer, is_name_byte, is_name, name};
+ghost use Rattle.map_defs.specs.TextWords.{is_text};
 
 /// Whether all bytes of a word are printed characters of ASCII, 33 to 126.
 pub fn is_text(word: &[u8]) -> bool

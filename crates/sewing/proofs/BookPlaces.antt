@@ -12,7 +12,7 @@ use Rattle.std.specs.declared.cmp.Ordering.{Ordering}
 use Rattle.std.specs.declared.cmp.Ordering.TheVariants.{Less, Equal, Greater}
 use Rattle.std.specs.BTreeMap.{BTreeMap, is_at, get, Updates, IsOrdered, keys}
 use Rattle.sewing.specs.Triples.{Triple, Lists, IsAscending}
-use Rattle.sewing.specs.Steps.{Tells}
+use Rattle.sewing.specs.PairSteps.{TellsTriples}
 
 -- by the dart, then by the link
 abbrev pub by_place : ℕ × ℕ → ℕ × ℕ → Ordering
@@ -24,18 +24,18 @@ by_place-total = then_total (on_total (λ (p : ℕ × ℕ). p.0) nat_cmp_total) 
 by_place-exact : CmpEqualImpliesEq by_place
 by_place-exact = exact_pairs nat_cmp nat_cmp exact_unsigned exact_unsigned
 
-pub tells-none : (partner : ℕ × ℕ → Option ℕ) → ((p : ℕ × ℕ) → partner p ≡ None) → Tells partner []
+pub tells-none : (partner : ℕ × ℕ → Option ℕ) → ((p : ℕ × ℕ) → partner p ≡ None) → TellsTriples partner []
 tells-none partner none x y t = (λ is. absurd (let e : None ≡ Some y = sym (none (x, t)) ∙ is in cc), λ has. absurd (omega (arith, has.1)))
 
 -- at a link a dart has one partner at most
-pub tells-one : (partner : ℕ × ℕ → Option ℕ) (triples : List Triple) → Tells partner triples → (x y z t : ℕ) → Lists triples x y t → Lists triples x z t → y ≡ z
+pub tells-one : (partner : ℕ × ℕ → Option ℕ) (triples : List Triple) → TellsTriples partner triples → (x y z t : ℕ) → Lists triples x y t → Lists triples x z t → y ≡ z
 tells-one partner triples tells x y z t p q =
     let a : partner (x, t) ≡ Some y = (tells x y t).1 p in
     let b : partner (x, t) ≡ Some z = (tells x z t).1 q in cc
 
 -- a partner is told for the first time
-pub tells-more : (m n : BTreeMap (ℕ × ℕ) ℕ) (old : List Triple) (p : Triple) → Tells (get by_place m) old → get by_place m (p.x, p.t) ≡ None
-    → Updates by_place m n (p.x, p.t) (Some p.y) → Tells (get by_place n) (old ++ p ∷ [])
+pub tells-more : (m n : BTreeMap (ℕ × ℕ) ℕ) (old : List Triple) (p : Triple) → TellsTriples (get by_place m) old → get by_place m (p.x, p.t) ≡ None
+    → Updates by_place m n (p.x, p.t) (Some p.y) → TellsTriples (get by_place n) (old ++ p ∷ [])
 tells-more m n old p tells fresh updates x y t = (λ is. to is (is_at (by_place (p.x, p.t)) (x, t)) refl, λ has. from (Contains-push_cases old p (record { x = x; y = y; t = t }) has))
   where
     Has : Triple → Type 0
@@ -90,7 +90,7 @@ has-triple entries x y t = (to, from)
       get_or-map triple_of entries has.0 ((x, t), y) (record { x = x; y = y; t = t }) has.1 ∙ ap triple_of has.2,
     )
 
-pub listed-places : (m : BTreeMap (ℕ × ℕ) ℕ) (found : List Triple) → IsOrdered by_place m → Tells (get by_place m) found
+pub listed-places : (m : BTreeMap (ℕ × ℕ) ℕ) (found : List Triple) → IsOrdered by_place m → TellsTriples (get by_place m) found
     → (x y t : ℕ) → Lists (map triple_of m.entries) x y t ↔ Lists found x y t
 listed-places m found ordered tells x y t =
     let at = btree_map_get_iff by_place-total by_place-exact m ordered (x, t) y in
@@ -119,7 +119,7 @@ places-ascending m ordered = λ i j d first last.
     before-then p q (nat_cmp p.0 q.0) (nat_cmp p.1 q.1) (ranked p.0 q.0 (nat_cmp p.0 q.0) refl) (ranked p.1 q.1 (nat_cmp p.1 q.1) refl) (rw (at_i, at_j) at less) in
     rw (get_or-map triple_of m.entries i e d (omega arith), get_or-map triple_of m.entries j e d low) before
 
-pub tells-same : (m n : BTreeMap (ℕ × ℕ) ℕ) (found : List Triple) → n.entries ≡ m.entries → Tells (get by_place m) found → Tells (get by_place n) found
+pub tells-same : (m n : BTreeMap (ℕ × ℕ) ℕ) (found : List Triple) → n.entries ≡ m.entries → TellsTriples (get by_place m) found → TellsTriples (get by_place n) found
 tells-same m n found same tells = rw same tells
 
 pub none-unless : (o : Option ℕ) → ((x : ℕ) → o ≡ Some x → ⊥) → o ≡ None

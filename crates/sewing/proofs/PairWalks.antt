@@ -7,7 +7,7 @@ use Rattle.map_defs.specs.Kind.{Kind, inverse}
 use Rattle.map_defs.specs.Links.{Links}
 use Rattle.map_defs.specs.Pairs.{InPairs, seed, turned, across, IsGood}
 use Rattle.sewing.specs.Triples.{Triple, Lists}
-use Rattle.sewing.specs.Steps.{IsAdded, HasOther, IsCrossed, FailsAcross, IsDone, IsVisited, IsStepped}
+use Rattle.sewing.specs.PairSteps.{IsTripleAdded, HasOther, IsCrossed, FailsAcross, IsDone, IsVisited, IsStepped}
 use Rattle.sewing.proofs.PairFacts.{IsClosed, pairs-least, pairs-within, good-same}
 
 -- what stood in the list stays there
@@ -21,15 +21,15 @@ before-before a b c first then =
     let longer : length a ≤ length b = omega (arith, length-take (length a) b, ap length first) in
     sym (take-take (length a) (length b) c longer) ∙ ap (take (length a)) then ∙ first
 
-added-before : (old new : List Triple) (p : Triple) → IsAdded old new p → take (length old) new ≡ old
+added-before : (old new : List Triple) (p : Triple) → IsTripleAdded old new p → take (length old) new ≡ old
 added-before old new p (inl known) = rw known.1 (take_all (length old) old (omega arith))
 added-before old new p (inr fresh) = rw fresh (take_at old (p ∷ []) (length old) refl)
 
-added-has : (old new : List Triple) (p : Triple) → IsAdded old new p → Contains new p
+added-has : (old new : List Triple) (p : Triple) → IsTripleAdded old new p → Contains new p
 added-has old new p (inl known) = subst (λ ps. Contains ps p) (sym known.1) known.0
 added-has old new p (inr fresh) = subst (λ ps. Contains ps p) (sym fresh) (Contains-push old p)
 
-added-only : (old new : List Triple) (p q : Triple) → IsAdded old new p → Contains new q → Contains old q ⊎ (p ≡ q)
+added-only : (old new : List Triple) (p q : Triple) → IsTripleAdded old new p → Contains new q → Contains old q ⊎ (p ≡ q)
 added-only old new p q (inl known) has = inl (subst (λ ps. Contains ps q) known.1 has)
 added-only old new p q (inr fresh) has = Contains-push_cases old p q (subst (λ ps. Contains ps q) fresh has)
 
@@ -46,7 +46,7 @@ module _ (k : Kind) (L : Links) where
 
   -- ---- the triple across a link
   pub stepped-linked : (j : ℕ) (p q : Triple) (old new : List Triple) → q.x ≡ L j p.x → q.y ≡ L (inverse k j) p.y → q.t ≡ inverse k p.t → q.x ≢ 0 → q.y ≢ 0
-      → IsAdded old new q → IsStepped k L j p old new
+      → IsTripleAdded old new q → IsStepped k L j p old new
   stepped-linked j p q old new at_x at_y at_t hx hy added = record {
     before = added-before old new q added;
     only = λ u v t has. only u v t (added-only old new q (record { x = u; y = v; t = t }) added has);
@@ -76,7 +76,7 @@ module _ (k : Kind) (L : Links) where
     pub done : IsDone k L Past (Lists new) p.x p.y p.t
 
   pub visiting-begun : (J : ℕ → Type 0) (p : Triple) (old new : List Triple) → Contains old p → (inverse k p.t ≡ p.t → p.x ≢ p.y)
-      → IsAdded old new (record { x = p.y; y = p.x; t = inverse k p.t }) → IsVisiting J (Contains []) p old new
+      → IsTripleAdded old new (record { x = p.y; y = p.x; t = inverse k p.t }) → IsVisiting J (Contains []) p old new
   visiting-begun J p old new found moves added = record {
     before = added-before old new (record { x = p.y; y = p.x; t = inverse k p.t }) added;
     only = λ x y t has. only x y t (added-only old new (record { x = p.y; y = p.x; t = inverse k p.t }) (record { x = x; y = y; t = t }) added has);
@@ -213,7 +213,7 @@ Contains-take n xs x has =
     (has.0, omega (arith, has.1), sym (get_or-take n xs has.0 x (omega (arith, has.1))) ∙ has.2)
 
 pub listed-more : (triples : List Triple) (n : ℕ) (p : Triple) (old new : List Triple) → n < length triples → p ≡ get_or triples n p
-    → ((x y t : ℕ) → Lists old x y t ↔ Lists (take n triples) x y t) → IsAdded old new p → (x y t : ℕ) → Lists new x y t ↔ Lists (take (n + 1) triples) x y t
+    → ((x y t : ℕ) → Lists old x y t ↔ Lists (take n triples) x y t) → IsTripleAdded old new p → (x y t : ℕ) → Lists new x y t ↔ Lists (take (n + 1) triples) x y t
 listed-more triples n p old new within at same added x y t = (λ has. to (added-only old new p (record { x = x; y = y; t = t }) added has), λ has. from (Contains-push_cases (take n triples) p (record { x = x; y = y; t = t }) (subst (λ ps. Contains ps (record { x = x; y = y; t = t })) longer has)))
   where
     longer : take (n + 1) triples ≡ take n triples ++ p ∷ []

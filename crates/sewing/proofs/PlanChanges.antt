@@ -8,8 +8,8 @@ use Rattle.map_defs.specs.Kind.{Kind}
 use Rattle.map_defs.specs.Laws.{Laws}
 use Rattle.map_defs.specs.Rows.{Rows, links_of, IsLive, IsSound}
 use Rattle.map_defs.specs.Edits.{Change, Edit, with_births, after_edit, Fits}
-use Rattle.link_rows.proofs.RowWrites.{births-links, births-wide, births-old, live-within}
-use Rattle.link_rows.proofs.EditLinks.{touched, untouched}
+use Rattle.edit_laws.proofs.RowWrites.{births-links, births-wide, births-old, live-within}
+use Rattle.edit_laws.proofs.EditLinks.{touched, untouched}
 use Rattle.sewing.specs.Triples.{Triple, Lists, ComesBefore, IsAscending}
 
 -- changes of links, and nothing else

@@ -5,8 +5,8 @@ use Rattle.map_defs.specs.Laws.{Laws}
 use Rattle.map_defs.specs.Links.{Links}
 use Rattle.map_defs.specs.Rows.{row_at, links_of, IsSound}
 use Rattle.map_defs.specs.Edits.{after_edit}
-use Rattle.link_rows.proofs.EditPlain.{births_edit}
-use Rattle.link_rows.proofs.RowWrites.{births-links}
+use Rattle.edit_laws.proofs.EditPlain.{births_edit}
+use Rattle.edit_laws.proofs.RowWrites.{births-links}
 
 no-links : (i x : ℕ) → links_of (None ∷ []) i x ≡ 0
 no-links i zero = refl

@@ -1,2 +1,2 @@
 pub mod Triples
-pub mod Steps
+pub mod PairSteps

@@ -2,7 +2,7 @@ ghost use Rattle.std.specs.Prelude.{◌≡◌, ℕ, ◌<◌, ◌↔◌, [], leng
 ghost use Rattle.std.specs.Ordering.{nat_cmp, ordering_then};
 ghost use Rattle.std.specs.BTreeMap as tree;
 ghost use Rattle.sewing.specs.Triples.{Lists, IsAscending};
-ghost use Rattle.sewing.specs.Steps.{IsAdded, HasOther};
+ghost use Rattle.sewing.specs.PairSteps.{IsTripleAdded, HasOther};
 
 use crate::pairing::PairFault;
 use crate::triple::Triple;
@@ -25,13 +25,13 @@ impl Model for Book {
     ghost use Rattle.std.specs.Ordering.{nat_cmp, ordering_then};
     ghost use Rattle.std.specs.BTreeMap as tree;
     ghost use Rattle.sewing.specs.Triples.{Triple};
-    ghost use Rattle.sewing.specs.Steps.{Tells};
+    ghost use Rattle.sewing.specs.PairSteps.{TellsTriples};
 
     ghost Value = { List Triple };
 
     ghost view = { λ book. book.triples.items };
 
-    ghost invariant = { λ book. Tells
+    ghost invariant = { λ book. TellsTriples
         (tree.get (λ (p q : ℕ × ℕ). ordering_then (nat_cmp p.0 q.0) (nat_cmp p.1 q.1)) book.partners) book.triples.items };
 }
 
@@ -64,7 +64,7 @@ impl Book {
     /// Adds a triple, unless it was found before. `Unpaired` comes only where its dart `x` has another partner at link
     /// `t`.
     pub(crate) fn add(&mut self, triple: Triple) -> Result<(), PairFault>
-        ensures added { OnOk result (IsAdded self.old self.new triple) }
+        ensures added { OnOk result (IsTripleAdded self.old self.new triple) }
         ensures unpaired { IsErrOf result PairFault.Unpaired → HasOther self.old triple.x triple.y triple.t }
     {
         if let Some(partner) = self.partners.get(&(triple.x, triple.t)).copied() {

@@ -3,7 +3,7 @@ ghost use Rattle.map_defs.specs.Kind.{inverse};
 ghost use Rattle.map_defs.specs.Rows.{links_of};
 ghost use Rattle.map_defs.specs.Pairs.{InPairs, IsGood};
 ghost use Rattle.sewing.specs.Triples.{Lists, IsAscending};
-ghost use Rattle.sewing.specs.Steps.{HasOther, IsVisited, IsStepped, FailsAcross};
+ghost use Rattle.sewing.specs.PairSteps.{HasOther, IsVisited, IsStepped, FailsAcross};
 ghost use Rattle.sewing.specs.declared.pairing.PairFault.TheVariants.{NoMemory};
 
 use crate::book::Book;

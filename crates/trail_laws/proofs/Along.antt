@@ -1,7 +1,7 @@
 -- The contents that steps lead through, and many steps put forward and taken back.
 use Rattle.std.proofs.Common.{◌≡◌, ℕ, zero, suc, ◌+◌, ◌<◌, ◌≤◌, List, [], ◌∷◌, ◌++◌, length, get_or, take, drop, refl, sym, ap, subst, arith}
-use Rattle.map_defs.specs.State.{Content}
-use Rattle.map_defs.specs.Difference.{Difference, IsDifference, AreDifferences, put_forward, taken_back}
+use Rattle.machine_defs.specs.State.{Content}
+use Rattle.machine_defs.specs.Difference.{Difference, IsDifference, AreDifferences, put_forward, taken_back}
 use Rattle.journal_laws.specs.Following.{Follows, AllFollow, all_put_forward, all_taken_back}
 use Rattle.trail_laws.specs.Told.{contents_along}
 

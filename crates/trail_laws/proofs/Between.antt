@@ -3,13 +3,13 @@ use Rattle.std.proofs.Common.{◌≡◌, ℕ, suc, ◌+◌, ◌<◌, ◌≤◌, 
 use Rattle.std.proofs.lemmas.List.{get_or-take, get_or-drop, drop-drop, drop_more, length-drop, length-take-le, length-append}
 use Rattle.std.proofs.lemmas.Option.{slice_get-get_or}
 use Rattle.map_defs.specs.Edits.{IsLed}
-use Rattle.map_defs.specs.State.{Content}
-use Rattle.map_defs.specs.Difference.{Difference, IsDifference, taken_back}
-use Rattle.map_defs.specs.Kept.{IsKept}
+use Rattle.machine_defs.specs.State.{Content}
+use Rattle.machine_defs.specs.Difference.{Difference, IsDifference, taken_back}
+use Rattle.machine_defs.specs.Kept.{IsLawfulContent}
 use Rattle.journal_laws.specs.Following.{Follows, all_taken_back}
 use Rattle.journal_laws.proofs.Leading.{difference-led}
-use Rattle.undo_journal.specs.Trails.{Trail, standing_steps, steps_since, place_of, IsOrdered}
-use Rattle.undo_journal.proofs.TrailFacts.{place_within}
+use Rattle.trail_laws.specs.Trails.{Trail, standing_steps, steps_since, place_of, IsOrdered}
+use Rattle.trail_laws.proofs.TrailFacts.{place_within}
 use Rattle.trail_laws.specs.Told.{contents_of, past_of, told, IsTraced}
 use Rattle.trail_laws.proofs.Along.{follow-at, differ-at}
 use Rattle.trail_laws.proofs.Reading.{within, past-and-now, past-long, taken-to}
@@ -31,8 +31,8 @@ module _ (now : Content) (t : Trail) (k : ℕ) (h : IsTraced now t) (o : IsOrder
     pub between-is : all_taken_back (drop j (steps_since t k)) now ≡ get_or (contents_of now t) (place_of t k + j) d
     between-is = ap (λ (ss : List Difference). all_taken_back ss now) (drop-drop j (place_of t k) (standing_steps t)) ∙ taken-to now t h o (place_of t k + j) d low
 
-    pub between-kept : IsKept (all_taken_back (drop j (steps_since t k)) now)
-    between-kept = subst (λ (c : Content). IsKept c) (sym between-is) (h.kept (place_of t k + j) d (within now t h o (place_of t k + j) low))
+    pub between-kept : IsLawfulContent (all_taken_back (drop j (steps_since t k)) now)
+    between-kept = subst (λ (c : Content). IsLawfulContent c) (sym between-is) (h.kept (place_of t k + j) d (within now t h o (place_of t k + j) low))
 
     pub between-there : slice_get ((told now t).past ++ now ∷ []) (place_of t k + j) ≡ Some (all_taken_back (drop j (steps_since t k)) now)
     between-there =

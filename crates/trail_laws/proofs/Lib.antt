@@ -1,3 +1,4 @@
+pub mod TrailFacts
 pub mod Along
 pub mod Reading
 pub mod Noting

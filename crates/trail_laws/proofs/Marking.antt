@@ -2,13 +2,13 @@
 use Rattle.std.proofs.Common.{◌≡◌, ℕ, ◌+◌, ◌≤◌, List, [], ◌∷◌, ◌++◌, length, take, map, All, sym, ap, ap₂, ◌∙◌, subst, arith}
 use Rattle.std.proofs.lemmas.List.{take_all, take_at, take-take, length-append, map_push}
 use Rattle.std.proofs.lemmas.List.Elements.{All-push, All-weaker}
-use Rattle.map_defs.specs.State.{Content, Mark}
-use Rattle.map_defs.specs.Marking.{with_mark}
-use Rattle.map_defs.specs.Difference.{Difference, AreDifferences}
-use Rattle.map_defs.specs.Kept.{IsKept}
+use Rattle.machine_defs.specs.State.{Content, Mark}
+use Rattle.machine_defs.specs.Marking.{with_mark}
+use Rattle.machine_defs.specs.Difference.{Difference, AreDifferences}
+use Rattle.machine_defs.specs.Kept.{IsLawfulContent}
 use Rattle.journal_laws.specs.Following.{AllFollow, all_put_forward, all_taken_back}
-use Rattle.undo_journal.specs.Trails.{Placed, Trail, standing_steps, standing_marks, marked, IsOrdered}
-use Rattle.undo_journal.proofs.TrailFacts.{standing_length}
+use Rattle.trail_laws.specs.Trails.{Placed, Trail, standing_steps, standing_marks, marked, IsOrdered}
+use Rattle.trail_laws.proofs.TrailFacts.{standing_length}
 use Rattle.trail_laws.specs.Told.{origin, contents_along, contents_of, past_of, mark_of, told, IsTraced}
 use Rattle.trail_laws.proofs.Reading.{along-standing, past-long, past-kept, past-follow, past-differ, now-kept}
 use Rattle.trail_laws.proofs.Noting.{map-same}
@@ -63,8 +63,8 @@ module _ (now : Content) (t : Trail) (name : List ℕ) (h : IsTraced now t) (o :
   traced-marked = record {
     here = ap₂ (λ (ss : List Difference) (c : Content). all_put_forward ss c) standing-marked origin-marked ∙ h.here;
     kept =
-        subst (λ (cs : List Content). All IsKept cs) (sym contents-marked)
-        (All-push IsKept (past_of now t) now (past-kept now t h o) (now-kept now t h o));
+        subst (λ (cs : List Content). All IsLawfulContent cs) (sym contents-marked)
+        (All-push IsLawfulContent (past_of now t) now (past-kept now t h o) (now-kept now t h o));
     follow = subst (λ (cs : List Content). AllFollow cs) (sym contents-marked) (past-follow now t h o);
     steps = subst (λ (cs : List Content). AreDifferences cs (standing_steps t)) (sym contents-marked) (past-differ now t h o);
     unmarked = λ none. absurd (omega arith);

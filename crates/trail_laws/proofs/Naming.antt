@@ -3,14 +3,14 @@ use Rattle.std.proofs.Common.{◌≡◌, ◌≢◌, ◌↔◌, ℕ, suc, ◌<◌
 use Rattle.std.proofs.lemmas.List.{get_or-take, get_or-map, length-map, length-append}
 use Rattle.std.proofs.lemmas.List.Elements.{All-map, All-nil, All-weaker}
 use Rattle.std.proofs.lemmas.Option.{slice_get-get_or, slice_get_within, same_Some}
-use Rattle.map_defs.specs.State.{Content, Mark}
-use Rattle.map_defs.specs.Marking.{IsMark, HasMark}
-use Rattle.map_defs.specs.Difference.{Difference}
-use Rattle.map_defs.specs.Kept.{IsKept, AreKept}
+use Rattle.machine_defs.specs.State.{Content, Mark}
+use Rattle.machine_defs.specs.Marking.{IsMark, HasMark}
+use Rattle.machine_defs.specs.Difference.{Difference}
+use Rattle.machine_defs.specs.Kept.{IsLawfulContent, IsLawfulState}
 use Rattle.journal_laws.specs.Following.{all_put_forward}
-use Rattle.undo_journal.specs.Trails as trails
-use Rattle.undo_journal.specs.Trails.{Placed, Trail, standing_marks, place_of, IsOrdered}
-use Rattle.undo_journal.proofs.TrailFacts.{standing_length, mark_within, name_is_mark, place_read}
+use Rattle.trail_laws.specs.Trails as trails
+use Rattle.trail_laws.specs.Trails.{Placed, Trail, standing_marks, place_of, IsOrdered}
+use Rattle.trail_laws.proofs.TrailFacts.{standing_length, mark_within, name_is_mark, place_read}
 use Rattle.trail_laws.specs.Told.{origin, contents_of, past_of, mark_of, told, IsTraced}
 use Rattle.trail_laws.proofs.Along.{along-at}
 use Rattle.trail_laws.proofs.Reading.{within, past-and-now, past-long, now-kept, past-kept}
@@ -111,18 +111,18 @@ module _ (now : Content) (t : Trail) (o : IsOrdered t) where
             ∙ ap (λ (c : Content). Some c) (front ∙ along-at t.steps (origin now t) m.place now (omega arith))
 
     -- every content that is told is lawful
-    pub all-kept : AreKept (told now t)
+    pub all-kept : IsLawfulState (told now t)
     all-kept = record {
       present = now-kept now t h o;
       past = past-kept now t h o;
-      marks = each-told (λ (m : Mark). IsKept m.content) copy;
+      marks = each-told (λ (m : Mark). IsLawfulContent m.content) copy;
       marked = record { named = names-differ; rising = places-ascend; within = places-within; nothing = nothing; copies = copies-there };
       undone = All-nil _;
     }
       where
-        copy : (m : Placed) → m.place ≤ t.at → IsKept (all_put_forward (take m.place t.steps) (origin now t))
+        copy : (m : Placed) → m.place ≤ t.at → IsLawfulContent (all_put_forward (take m.place t.steps) (origin now t))
         copy m low =
-            subst (λ (c : Content). IsKept c) (along-at t.steps (origin now t) m.place now (let at = o.at in omega arith))
+            subst (λ (c : Content). IsLawfulContent c) (along-at t.steps (origin now t) m.place now (let at = o.at in omega arith))
             (h.kept m.place now (within now t h o m.place low))
 
         nothing : (told now t).marks ≡ [] → (told now t).past ≡ []

@@ -2,14 +2,14 @@
 use Rattle.std.proofs.Common.{◌≡◌, ◌≢◌, ℕ, ◌+◌, ◌≤◌, List, [], ◌∷◌, ◌++◌, length, take, map, All, refl, sym, ap, ap₂, ◌∙◌, subst, arith, append_assoc}
 use Rattle.std.proofs.lemmas.List.{take_all, take_at, take-take, take-append-le, length-take-le, length-append, length-map}
 use Rattle.std.proofs.lemmas.List.Elements.{All-head, All-tail, All-nil, All-cons, All-push, All-weaker}
-use Rattle.map_defs.specs.State.{Content, Mark, kept_past, steps_to}
-use Rattle.map_defs.specs.Difference.{Difference, IsDifference, AreDifferences, put_forward}
-use Rattle.map_defs.specs.Kept.{IsKept}
+use Rattle.machine_defs.specs.State.{Content, Mark, kept_past, steps_to}
+use Rattle.machine_defs.specs.Difference.{Difference, IsDifference, AreDifferences, put_forward}
+use Rattle.machine_defs.specs.Kept.{IsLawfulContent}
 use Rattle.journal_laws.specs.Following.{Follows, AllFollow, all_put_forward, all_taken_back}
 use Rattle.journal_laws.proofs.Leading.{leads-on, leads-back}
 use Rattle.journal_laws.proofs.Chains.{follow-more, differences-more}
-use Rattle.undo_journal.specs.Trails.{Placed, Trail, empty_trail, standing_steps, standing_marks, noted, IsOrdered}
-use Rattle.undo_journal.proofs.TrailFacts.{standing_length}
+use Rattle.trail_laws.specs.Trails.{Placed, Trail, empty_trail, standing_steps, standing_marks, noted, IsOrdered}
+use Rattle.trail_laws.proofs.TrailFacts.{standing_length}
 use Rattle.trail_laws.specs.Told.{origin, contents_along, contents_of, past_of, mark_of, told, IsTraced}
 use Rattle.trail_laws.proofs.Along.{along-push, forward-push, back-append}
 use Rattle.trail_laws.proofs.Reading.{along-standing, past-long, past-kept, past-follow, past-differ, now-kept}
@@ -28,10 +28,10 @@ past-more (m ∷ ms) past c some = refl
 pub told-begun : (now : Content) → told now empty_trail ≡ record { present = now; past = []; marks = []; undone = [] }
 told-begun now = refl
 
-pub traced-begun : (now : Content) → IsKept now → IsTraced now empty_trail
+pub traced-begun : (now : Content) → IsLawfulContent now → IsTraced now empty_trail
 traced-begun now kept = record {
   here = refl;
-  kept = All-cons IsKept now [] kept (All-nil IsKept);
+  kept = All-cons IsLawfulContent now [] kept (All-nil IsLawfulContent);
   follow = tt;
   steps = refl;
   unmarked = λ none. refl;
@@ -40,7 +40,7 @@ traced-begun now kept = record {
 pub no-steps : (now : Content) (t : Trail) → IsTraced now t → IsOrdered t → t.standing ≡ 0 → t.at ≡ 0
 no-steps now t h o none = let e = ap (λ (ss : List Difference). length ss) (h.unmarked none) in let at = o.at in omega arith
 
-module _ (now next : Content) (t : Trail) (h : IsTraced now t) (o : IsOrdered t) (none : t.standing ≡ 0) (kept : IsKept next) where
+module _ (now next : Content) (t : Trail) (h : IsTraced now t) (o : IsOrdered t) (none : t.standing ≡ 0) (kept : IsLawfulContent next) where
   at-begin : t.at ≡ 0
   at-begin = no-steps now t h o none
 
@@ -67,13 +67,13 @@ module _ (now next : Content) (t : Trail) (h : IsTraced now t) (o : IsOrdered t)
   pub traced-unmarked : IsTraced next t
   traced-unmarked = record {
     here = ap (λ (n : ℕ). all_put_forward (take n t.steps) (origin next t)) at-begin ∙ origin-unmarked;
-    kept = subst (λ (cs : List Content). All IsKept cs) (sym contents-unmarked) (All-cons IsKept next [] kept (All-nil IsKept));
+    kept = subst (λ (cs : List Content). All IsLawfulContent cs) (sym contents-unmarked) (All-cons IsLawfulContent next [] kept (All-nil IsLawfulContent));
     follow = subst (λ (cs : List Content). AllFollow cs) (sym contents-unmarked) tt;
     steps = subst (λ (cs : List Content). AreDifferences cs t.steps) (sym contents-unmarked) (h.unmarked none);
     unmarked = h.unmarked;
   }
 
-module _ (now next : Content) (t : Trail) (s : Difference) (h : IsTraced now t) (o : IsOrdered t) (kept : IsKept next) (f : Follows now next)
+module _ (now next : Content) (t : Trail) (s : Difference) (h : IsTraced now t) (o : IsOrdered t) (kept : IsLawfulContent next) (f : Follows now next)
     (is : IsDifference now next s) (some : t.standing ≢ 0) where
   standing-long : length (standing_steps t) ≡ t.at
   standing-long = length-take-le t.at t.steps o.at
@@ -134,8 +134,8 @@ module _ (now next : Content) (t : Trail) (s : Difference) (h : IsTraced now t) 
   traced-noted = record {
     here = ap₂ (λ (ss : List Difference) (c : Content). all_put_forward ss c) standing-noted origin-noted ∙ forward-push (standing_steps t) s (origin now t) ∙ put-next;
     kept =
-        subst (λ (cs : List Content). All IsKept cs) (sym contents-noted)
-        (All-push IsKept (past_of now t ++ now ∷ []) next (All-push IsKept (past_of now t) now (past-kept now t h o) (now-kept now t h o)) kept);
+        subst (λ (cs : List Content). All IsLawfulContent cs) (sym contents-noted)
+        (All-push IsLawfulContent (past_of now t ++ now ∷ []) next (All-push IsLawfulContent (past_of now t) now (past-kept now t h o) (now-kept now t h o)) kept);
     follow = subst (λ (cs : List Content). AllFollow cs) (sym contents-row) (follow-more (past_of now t) now next (past-follow now t h o) f);
     steps =
         subst (λ (cs : List Content). AreDifferences cs (standing_steps t ++ s ∷ [])) (sym contents-row)

@@ -2,12 +2,12 @@
 use Rattle.std.proofs.Common.{◌≡◌, ℕ, suc, ◌<◌, ◌≤◌, List, [], ◌∷◌, ◌++◌, length, get_or, take, drop, All, sym, ap, ◌∙◌, subst, arith, add-one}
 use Rattle.std.proofs.lemmas.List.{take_more, length-take-le}
 use Rattle.std.proofs.lemmas.List.Elements.{All-take}
-use Rattle.map_defs.specs.State.{Content}
-use Rattle.map_defs.specs.Difference.{AreDifferences}
-use Rattle.map_defs.specs.Kept.{IsKept}
+use Rattle.machine_defs.specs.State.{Content}
+use Rattle.machine_defs.specs.Difference.{AreDifferences}
+use Rattle.machine_defs.specs.Kept.{IsLawfulContent}
 use Rattle.journal_laws.specs.Following.{AllFollow, all_put_forward, all_taken_back}
 use Rattle.journal_laws.proofs.Chains.{back-between, follow-front, differences-front}
-use Rattle.undo_journal.specs.Trails.{Trail, standing_steps, IsOrdered}
+use Rattle.trail_laws.specs.Trails.{Trail, standing_steps, IsOrdered}
 use Rattle.trail_laws.specs.Told.{origin, contents_along, contents_of, past_of, IsTraced}
 use Rattle.trail_laws.proofs.Along.{along-long, along-at, along-front}
 
@@ -33,11 +33,11 @@ module _ (now : Content) (t : Trail) (h : IsTraced now t) (o : IsOrdered t) wher
   past-long = length-take-le t.at (contents_of now t) (let inside = within t.at (omega arith) in omega arith)
 
   -- lawful, and in a row
-  pub now-kept : IsKept now
-  now-kept = subst (λ (c : Content). IsKept c) (now-read now) (h.kept t.at now (within t.at (omega arith)))
+  pub now-kept : IsLawfulContent now
+  now-kept = subst (λ (c : Content). IsLawfulContent c) (now-read now) (h.kept t.at now (within t.at (omega arith)))
 
-  pub past-kept : All IsKept (past_of now t)
-  past-kept = All-take IsKept t.at (contents_of now t) h.kept
+  pub past-kept : All IsLawfulContent (past_of now t)
+  past-kept = All-take IsLawfulContent t.at (contents_of now t) h.kept
 
   pub past-follow : AllFollow (past_of now t ++ now ∷ [])
   past-follow = subst (λ (cs : List Content). AllFollow cs) past-and-now (follow-front (suc t.at) (contents_of now t) h.follow)

@@ -1,14 +1,14 @@
 -- Going back to a mark.
 use Rattle.std.proofs.Common.{◌≡◌, ℕ, ◌+◌, ◌<◌, ◌≤◌, List, [], ◌∷◌, ◌++◌, get_or, take, drop, map, All, sym, ap, ◌∙◌, subst, arith}
 use Rattle.std.proofs.lemmas.List.{take-take, take-append-drop, take-map, drop-append-le}
-use Rattle.map_defs.specs.State.{Content, Mark}
-use Rattle.map_defs.specs.Marking.{IsMark, back_to, since}
-use Rattle.map_defs.specs.Difference.{Difference, AreDifferences}
-use Rattle.map_defs.specs.Kept.{IsKept}
+use Rattle.machine_defs.specs.State.{Content, Mark}
+use Rattle.machine_defs.specs.Marking.{IsMark, back_to, since}
+use Rattle.machine_defs.specs.Difference.{Difference, AreDifferences}
+use Rattle.machine_defs.specs.Kept.{IsLawfulContent}
 use Rattle.journal_laws.specs.Following.{AllFollow, all_put_forward, all_taken_back}
-use Rattle.undo_journal.specs.Trails as trails
-use Rattle.undo_journal.specs.Trails.{Placed, Trail, standing_steps, standing_marks, mark_names, steps_since, place_of, back, IsOrdered}
-use Rattle.undo_journal.proofs.TrailFacts.{mark_within, place_within}
+use Rattle.trail_laws.specs.Trails as trails
+use Rattle.trail_laws.specs.Trails.{Placed, Trail, standing_steps, standing_marks, mark_names, steps_since, place_of, back, IsOrdered}
+use Rattle.trail_laws.proofs.TrailFacts.{mark_within, place_within}
 use Rattle.trail_laws.specs.Told.{origin, contents_along, contents_of, past_of, mark_of, told, before_steps, IsTraced}
 use Rattle.trail_laws.proofs.Along.{back-append, differences-rest}
 use Rattle.trail_laws.proofs.Reading.{past-long, past-differ, taken-is}
@@ -52,7 +52,7 @@ module _ (now : Content) (t : Trail) (name : List ℕ) (k : ℕ) (h : IsTraced n
   pub traced-back : IsTraced (before_steps now t k) (back t k)
   traced-back = record {
     here = ap (λ (c : Content). all_put_forward (take (place_of t k) t.steps) c) origin-back ∙ sym before-is;
-    kept = subst (λ (cs : List Content). All IsKept cs) (sym contents-back) h.kept;
+    kept = subst (λ (cs : List Content). All IsLawfulContent cs) (sym contents-back) h.kept;
     follow = subst (λ (cs : List Content). AllFollow cs) (sym contents-back) h.follow;
     steps = subst (λ (cs : List Content). AreDifferences cs t.steps) (sym contents-back) h.steps;
     unmarked = λ none. absurd (omega arith);

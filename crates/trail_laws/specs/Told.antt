@@ -1,10 +1,10 @@
 -- The state that a present content and a trail tell: whole copies of the past and of the marks, all told from the steps.
 use Rattle.std.specs.Prelude.{ℕ, ◌≡◌, List, [], ◌∷◌, take, map, All}
-use Rattle.map_defs.specs.Difference.{Difference, put_forward, AreDifferences}
-use Rattle.map_defs.specs.State.{Content, Mark, State}
-use Rattle.map_defs.specs.Kept.{IsKept}
+use Rattle.machine_defs.specs.Difference.{Difference, put_forward, AreDifferences}
+use Rattle.machine_defs.specs.State.{Content, Mark, State}
+use Rattle.machine_defs.specs.Kept.{IsLawfulContent}
 use Rattle.journal_laws.specs.Following.{AllFollow, all_put_forward, all_taken_back}
-use Rattle.undo_journal.specs.Trails.{Placed, Trail, standing_steps, standing_marks, steps_since}
+use Rattle.trail_laws.specs.Trails.{Placed, Trail, standing_steps, standing_marks, steps_since}
 
 -- the content before all standing steps
 abbrev pub origin : Content → Trail → Content
@@ -40,7 +40,7 @@ pub record IsTraced (now : Content) (t : Trail) : Type 0 where
   -- the standing steps lead to the present content
   pub here : all_put_forward (standing_steps t) (origin now t) ≡ now
   -- each content is lawful, and each follows the one before it, those ahead too
-  pub kept : All IsKept (contents_of now t)
+  pub kept : All IsLawfulContent (contents_of now t)
   pub follow : AllFollow (contents_of now t)
   -- the steps are what these differ by
   pub steps : AreDifferences (contents_of now t) t.steps

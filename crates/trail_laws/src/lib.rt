@@ -8,12 +8,12 @@
 
 ghost use Rattle.std.specs.Prelude.{◌≡◌, ◌≢◌, ◌↔◌, ℕ, ◌+◌, ◌≤◌, ◌<◌, List, [], ◌∷◌, ◌++◌, length, drop, Some, All, AllPairs, slice_get, slice_index_or};
 ghost use Rattle.map_defs.specs.Edits.{IsLed};
-ghost use Rattle.map_defs.specs.State.{Content, Mark, steps_to};
-ghost use Rattle.map_defs.specs.Marking.{IsMark as IsToldMark, HasMark as HasToldMark, with_mark, back_to, since};
-ghost use Rattle.map_defs.specs.Difference.{Difference, IsDifference, AreDifferences, taken_back};
-ghost use Rattle.map_defs.specs.Kept.{IsKept, AreKept};
+ghost use Rattle.machine_defs.specs.State.{Content, Mark, steps_to};
+ghost use Rattle.machine_defs.specs.Marking.{IsMark as IsToldMark, HasMark as HasToldMark, with_mark, back_to, since};
+ghost use Rattle.machine_defs.specs.Difference.{Difference, IsDifference, AreDifferences, taken_back};
+ghost use Rattle.machine_defs.specs.Kept.{IsLawfulContent, IsLawfulState};
 ghost use Rattle.journal_laws.specs.Following.{Follows, all_taken_back};
-ghost use Rattle.undo_journal.specs.Trails.{Trail, empty_trail, noted, marked, back, IsMark, HasMark, place_of, steps_since, IsOrdered};
+ghost use Rattle.trail_laws.specs.Trails.{Trail, empty_trail, noted, marked, back, IsMark, HasMark, place_of, steps_since, IsOrdered};
 ghost use Rattle.trail_laws.specs.Told.{told, before_steps, IsTraced};
 
 /// The trail without steps and marks tells a state without past and marks.
@@ -21,7 +21,7 @@ ghost use Rattle.trail_laws.specs.Told.{told, before_steps, IsTraced};
 /// For whoever makes a map: its first state.
 pub fn trail_begins()
     ensures told { (now : Content) → told now empty_trail ≡ record { present = now; past = []; marks = []; undone = [] } }
-    ensures kept { (now : Content) → IsKept now → IsTraced now empty_trail }
+    ensures kept { (now : Content) → IsLawfulContent now → IsTraced now empty_trail }
 {}
 
 /// Where a mark stands, a step to a content that follows the present one, noted as their difference, is told as the state
@@ -29,9 +29,9 @@ pub fn trail_begins()
 ///
 /// For whoever changes a map while a mark stands, with what `journal_laws` says of the difference.
 pub fn step_is_noted()
-    ensures told { (now next : Content) (t : Trail) (s : Difference) → IsTraced now t → IsOrdered t → IsKept next
+    ensures told { (now next : Content) (t : Trail) (s : Difference) → IsTraced now t → IsOrdered t → IsLawfulContent next
         → Follows now next → IsDifference now next s → t.standing ≢ 0 → told next (noted t s) ≡ steps_to (told now t) next }
-    ensures kept { (now next : Content) (t : Trail) (s : Difference) → IsTraced now t → IsOrdered t → IsKept next
+    ensures kept { (now next : Content) (t : Trail) (s : Difference) → IsTraced now t → IsOrdered t → IsLawfulContent next
         → Follows now next → IsDifference now next s → t.standing ≢ 0 → IsTraced next (noted t s) }
 {}
 
@@ -39,9 +39,9 @@ pub fn step_is_noted()
 ///
 /// For whoever changes a map while no mark stands: any lawful content may come next.
 pub fn step_without_mark()
-    ensures told { (now next : Content) (t : Trail) → IsTraced now t → IsOrdered t → t.standing ≡ 0 → IsKept next
+    ensures told { (now next : Content) (t : Trail) → IsTraced now t → IsOrdered t → t.standing ≡ 0 → IsLawfulContent next
         → told next t ≡ steps_to (told now t) next }
-    ensures kept { (now next : Content) (t : Trail) → IsTraced now t → IsOrdered t → t.standing ≡ 0 → IsKept next
+    ensures kept { (now next : Content) (t : Trail) → IsTraced now t → IsOrdered t → t.standing ≡ 0 → IsLawfulContent next
         → IsTraced next t }
 {}
 
@@ -98,7 +98,7 @@ pub fn marks_are_told()
 ///
 /// For whoever claims that the laws of a map hold in each state.
 pub fn contents_are_kept()
-    ensures kept { (now : Content) (t : Trail) → IsTraced now t → IsOrdered t → AreKept (told now t) }
+    ensures kept { (now : Content) (t : Trail) → IsTraced now t → IsOrdered t → IsLawfulState (told now t) }
     ensures long { (now : Content) (t : Trail) → IsTraced now t → IsOrdered t → length (told now t).past ≡ t.at }
     ensures places { (now : Content) (t : Trail) → IsTraced now t → IsOrdered t
         → All (λ m. m.place ≤ length (told now t).past) (told now t).marks }
@@ -113,7 +113,7 @@ pub fn contents_are_kept()
 /// For whoever undoes a step at a time in place: each edit fits the rows that it is taken back from.
 pub fn steps_are_taken_back()
     ensures kept { (now : Content) (t : Trail) (name : List ℕ) (k j : ℕ) → IsTraced now t → IsOrdered t → IsMark t name k
-        → j ≤ length (steps_since t k) → IsKept (all_taken_back (drop j (steps_since t k)) now) }
+        → j ≤ length (steps_since t k) → IsLawfulContent (all_taken_back (drop j (steps_since t k)) now) }
     ensures there { (now : Content) (t : Trail) (name : List ℕ) (k j : ℕ) → IsTraced now t → IsOrdered t → IsMark t name k
         → j ≤ length (steps_since t k) → slice_get ((told now t).past ++ now ∷ []) (place_of t k + j)
         ≡ Some (all_taken_back (drop j (steps_since t k)) now) }

@@ -2,7 +2,7 @@
 use Rattle.std.proofs.Common.{◌≡◌, ◌⊎◌, inl, inr, ℕ, zero, suc, ◌-◌, ◌<◌, ◌≤◌, List, [], ◌∷◌, length, slice_index, get_or, true, Option, Some, None, Contains, refl, sym, ◌∙◌, ap, subst, arith}
 use Rattle.std.proofs.lemmas.Bool.{false≢true}
 use Rattle.map_defs.specs.Kind.{Kind}
-use Rattle.map_defs.specs.Words.{through_second}
+use Rattle.map_defs.specs.LinkWords.{through_second}
 use Rattle.map_defs.specs.Rows.{Rows, links_of, IsLive, IsSound}
 use Rattle.map_defs.specs.Cells.{InCell, here, onward}
 use Rattle.dart_arena.proofs.RowLemmas.{some-within}
@@ -10,8 +10,8 @@ use Rattle.map_defs.specs.Values.{Meaning}
 use Rattle.map_defs.specs.Touched.{IsAlike, IsWhole}
 use Rattle.map_defs.specs.Carry.{known, NamesPiece, ArePieces, Gets, IsCarried}
 use Rattle.value_laws.proofs.Rising.{held_case, held_first, held_later, held_none}
-use Rattle.attr_pool.specs.Stores.{Store, value_of}
-use Rattle.transport.specs.Groups.{Group, group_at, least_of, labelled_value, worth_of}
+use Rattle.store_defs.specs.Stores.{Store, value_of}
+use Rattle.store_defs.specs.Groups.{Group, group_at, least_of, labelled_value, known_value}
 use Rattle.transport.specs.Pieces.{piece_at, picked, count_below, has_id, lies_in, part_at, merged_before, IsPiece, AreBareCells, AreAllPieces}
 use Rattle.transport.specs.Gathered.{AreApart}
 use Rattle.transport.specs.declared.pieces.Piece.{Piece}
@@ -234,7 +234,7 @@ module _ (Cell : ℕ → ℕ → Type 0) (classes : AreClasses Cell) (i : ℕ) (
             (picked_has (has_id pieces (piece_at pieces k).id) (λ j. (piece_at pieces j).dart) (length pieces) r.0 r.1 (with_id_back (piece_at pieces k).id r.0 r.3))
 
     module _ (rule : Meaning) (pool : Store) where
-      gets : (k : ℕ) → k < length pieces → Gets rule (worth_of pool label) Live (IsAlike label) Cell (piece_at pieces k).dart (part_at rule pool pieces k)
+      gets : (k : ℕ) → k < length pieces → Gets rule (known_value pool label) Live (IsAlike label) Cell (piece_at pieces k).dart (part_at rule pool pieces k)
       gets k h = record {
         pieces = picked (has_id pieces (piece_at pieces k).id) (λ j. (piece_at pieces j).dart) (length pieces);
         are = pieces_in_old k h;
@@ -243,7 +243,7 @@ module _ (Cell : ℕ → ℕ → Type 0) (classes : AreClasses Cell) (i : ℕ) (
         named = picked_at (has_id pieces (piece_at pieces k).id) (λ j. (piece_at pieces j).dart) 0 (length pieces) k h own;
         is =
             ap (λ v. rule.share v (count_below (has_id pieces (piece_at pieces k).id) (length pieces)) (count_below (has_id pieces (piece_at pieces k).id) k)) (sym worth)
-            ∙ ap (λ n. rule.share (worth_of pool label (piece_at pieces k).dart) n (count_below (has_id pieces (piece_at pieces k).id) k)) (sym size);
+            ∙ ap (λ n. rule.share (known_value pool label (piece_at pieces k).dart) n (count_below (has_id pieces (piece_at pieces k).id) k)) (sym size);
       }
         where
           own : has_id pieces (piece_at pieces k).id k ≡ true
@@ -252,10 +252,10 @@ module _ (Cell : ℕ → ℕ → Type 0) (classes : AreClasses Cell) (i : ℕ) (
           size : length (picked (has_id pieces (piece_at pieces k).id) (λ j. (piece_at pieces j).dart) (length pieces)) ≡ count_below (has_id pieces (piece_at pieces k).id) (length pieces)
           size = picked_size (has_id pieces (piece_at pieces k).id) (λ j. (piece_at pieces j).dart) 0 (length pieces)
 
-          worth : worth_of pool label (piece_at pieces k).dart ≡ known (value_of pool (piece_at pieces k).id)
+          worth : known_value pool label (piece_at pieces k).dart ≡ known (value_of pool (piece_at pieces k).id)
           worth = ap (λ o. known (labelled_value pool o)) (all.sound k h).labelled
 
-      pub is_carried : (n d : ℕ) → n < length cells → Contains (group_at cells n).darts d → IsCarried rule (worth_of pool label) Live (IsAlike label) Cell d (merged_before rule pool pieces (length pieces) n)
+      pub is_carried : (n d : ℕ) → n < length cells → Contains (group_at cells n).darts d → IsCarried rule (known_value pool label) Live (IsAlike label) Cell d (merged_before rule pool pieces (length pieces) n)
       is_carried n d h c = record {
         pieces = picked (lies_in pieces n) (λ k. (piece_at pieces k).dart) (length pieces);
         are = pieces_in_new n d h c;
@@ -266,15 +266,15 @@ module _ (Cell : ℕ → ℕ → Type 0) (classes : AreClasses Cell) (i : ℕ) (
       }
         where
           each : (at : ℕ) → at < length (picked (lies_in pieces n) (λ k. (piece_at pieces k).dart) (length pieces))
-              → Gets rule (worth_of pool label) Live (IsAlike label) Cell (slice_index (picked (lies_in pieces n) (λ k. (piece_at pieces k).dart) (length pieces)) at) (get_or (picked (lies_in pieces n) (part_at rule pool pieces) (length pieces)) at None)
+              → Gets rule (known_value pool label) Live (IsAlike label) Cell (slice_index (picked (lies_in pieces n) (λ k. (piece_at pieces k).dart) (length pieces)) at) (get_or (picked (lies_in pieces n) (part_at rule pool pieces) (length pieces)) at None)
           each at l = go (place_counted (lies_in pieces n) (length pieces) at (let s = picked_size (lies_in pieces n) (λ k. (piece_at pieces k).dart) 0 (length pieces) in omega arith))
             where
               go : (k : ℕ) × (k < length pieces) × (lies_in pieces n k ≡ true) × (count_below (lies_in pieces n) k ≡ at)
-                  → Gets rule (worth_of pool label) Live (IsAlike label) Cell (slice_index (picked (lies_in pieces n) (λ k. (piece_at pieces k).dart) (length pieces)) at) (get_or (picked (lies_in pieces n) (part_at rule pool pieces) (length pieces)) at None)
+                  → Gets rule (known_value pool label) Live (IsAlike label) Cell (slice_index (picked (lies_in pieces n) (λ k. (piece_at pieces k).dart) (length pieces)) at) (get_or (picked (lies_in pieces n) (part_at rule pool pieces) (length pieces)) at None)
               go (k, w, e, f) =
                   let a : (piece_at pieces k).dart ≡ slice_index (picked (lies_in pieces n) (λ k. (piece_at pieces k).dart) (length pieces)) at =
                   sym (picked_at (lies_in pieces n) (λ k. (piece_at pieces k).dart) 0 (length pieces) k w e) ∙ ap (slice_index (picked (lies_in pieces n) (λ k. (piece_at pieces k).dart) (length pieces))) f in
                   let b : part_at rule pool pieces k ≡ get_or (picked (lies_in pieces n) (part_at rule pool pieces) (length pieces)) at None =
                   sym (picked_at (lies_in pieces n) (part_at rule pool pieces) None (length pieces) k w e) ∙ ap (λ j. get_or (picked (lies_in pieces n) (part_at rule pool pieces) (length pieces)) j None) f in
-                  subst (λ v. Gets rule (worth_of pool label) Live (IsAlike label) Cell (slice_index (picked (lies_in pieces n) (λ k. (piece_at pieces k).dart) (length pieces)) at) v) b
-                  (subst (λ x. Gets rule (worth_of pool label) Live (IsAlike label) Cell x (part_at rule pool pieces k)) a (gets k w))
+                  subst (λ v. Gets rule (known_value pool label) Live (IsAlike label) Cell (slice_index (picked (lies_in pieces n) (λ k. (piece_at pieces k).dart) (length pieces)) at) v) b
+                  (subst (λ x. Gets rule (known_value pool label) Live (IsAlike label) Cell x (part_at rule pool pieces k)) a (gets k w))

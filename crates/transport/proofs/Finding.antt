@@ -4,12 +4,12 @@ use Rattle.std.proofs.lemmas.List.{take_more}
 use Rattle.std.proofs.lemmas.List.Elements.{Contains-append_left, Contains-push, Contains-push_cases}
 use Rattle.std.specs.List.Sorted.{IsNonDecreasingBy}
 use Rattle.map_defs.specs.Kind.{Kind}
-use Rattle.map_defs.specs.Words.{IsCellWord}
+use Rattle.map_defs.specs.LinkWords.{IsCellWord}
 use Rattle.map_defs.specs.Rows.{Rows, entry_of, links_of, IsSound}
 use Rattle.map_defs.specs.Cells.{here, Leads, InCell}
 use Rattle.link_laws.proofs.CellTurns.{cell_turns}
 use Rattle.link_laws.proofs.Orbits.{orbit_trans}
-use Rattle.transport.specs.Groups.{Group, no_group, group_at, least_of}
+use Rattle.store_defs.specs.Groups.{Group, no_group, group_at, least_of}
 use Rattle.transport.specs.Pieces.{IsBareCell, AreBareCells}
 use Rattle.transport.specs.Found.{AreFound, IsCellAdded}
 use Rattle.transport.proofs.Lists.{at_front, at_back, one_more, back_or_front, each_pushed, each_moved, some_moved, rising_by_key, distinct_by_key, held_at, place_of}

@@ -2,7 +2,7 @@
 use Rattle.std.proofs.Common.{◌≡◌, ◌≢◌, ◌⊎◌, inl, inr, ℕ, ◌+◌, ◌<◌, ◌≤◌, List, [], ◌∷◌, ◌++◌, length, get_or, slice_index, true, false, Option, Some, None, Contains, nat_eq, IsPermutation, refl, sym, ◌∙◌, ap, subst, arith}
 use Rattle.std.specs.List.Sorted.{IsNonDecreasingBy}
 use Rattle.std.proofs.lemmas.List.{get_or_default}
-use Rattle.transport.specs.Groups.{Group, no_group, group_at}
+use Rattle.store_defs.specs.Groups.{Group, no_group, group_at}
 use Rattle.transport.specs.Pieces.{no_piece, piece_at, IsPiece, AreAllPieces}
 use Rattle.transport.specs.Gathered.{AreApart, HasPiece, AreGathered, IsMet, IsPieceAdded}
 use Rattle.transport.specs.declared.pieces.Piece.{Piece}

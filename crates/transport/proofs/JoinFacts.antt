@@ -9,8 +9,8 @@ use Rattle.map_defs.specs.Cells.{InCell}
 use Rattle.map_defs.specs.Values.{Rule, Meaning, meaning_of}
 use Rattle.map_defs.specs.Touched.{IsAlike, Covers}
 use Rattle.map_defs.specs.Carry.{IsCarried}
-use Rattle.attr_pool.specs.Stores.{Store}
-use Rattle.transport.specs.Groups.{Group, no_group, group_at, rule_at, worth_of, IsBefore, IsTouchedCell, AreTouchedCells, HasCarriedValue}
+use Rattle.store_defs.specs.Stores.{Store}
+use Rattle.store_defs.specs.Groups.{Group, no_group, group_at, rule_at, known_value, IsBefore, IsTouchedCell, AreTouchedCells, HasCarriedValue}
 use Rattle.transport.specs.Pieces.{merged_before, AreBareCells, AreAllPieces, AreMerged}
 use Rattle.transport.specs.Joined.{IsCarriedCell, IsWanted, AreAllOf}
 use Rattle.transport.specs.declared.pieces.Piece.{Piece}
@@ -114,13 +114,13 @@ module _ (k : Kind) (L : Links) (Live : ℕ → Type 0) (label : ℕ → ℕ →
       }
 
       value : (n : ℕ) → n < length cells → HasCarriedValue k L Live label pool hook rules (group_at new n)
-      value n h = subst (λ j. (r : Rule) (d : ℕ) → rule_at rules j ≡ Some r → Contains (group_at new n).darts d → IsCarried (meaning_of hook r) (worth_of pool (label j)) Live (IsAlike (label j)) (InCell k L j) d (group_at new n).value) (sym (dim n h)) here
+      value n h = subst (λ j. (r : Rule) (d : ℕ) → rule_at rules j ≡ Some r → Contains (group_at new n).darts d → IsCarried (meaning_of hook r) (known_value pool (label j)) Live (IsAlike (label j)) (InCell k L j) d (group_at new n).value) (sym (dim n h)) here
         where
-          here : (r : Rule) (d : ℕ) → rule_at rules i ≡ Some r → Contains (group_at new n).darts d → IsCarried (meaning_of hook r) (worth_of pool (label i)) Live (IsAlike (label i)) (InCell k L i) d (group_at new n).value
+          here : (r : Rule) (d : ℕ) → rule_at rules i ≡ Some r → Contains (group_at new n).darts d → IsCarried (meaning_of hook r) (known_value pool (label i)) Live (IsAlike (label i)) (InCell k L i) d (group_at new n).value
           here r d e c =
               let same : rule ≡ r = cc in
-              subst (λ v. IsCarried (meaning_of hook r) (worth_of pool (label i)) Live (IsAlike (label i)) (InCell k L i) d v) (sym (merged.values n h))
-              (subst (λ s. IsCarried (meaning_of hook s) (worth_of pool (label i)) Live (IsAlike (label i)) (InCell k L i) d (merged_before (meaning_of hook rule) pool pieces (length pieces) n)) same
+              subst (λ v. IsCarried (meaning_of hook r) (known_value pool (label i)) Live (IsAlike (label i)) (InCell k L i) d v) (sym (merged.values n h))
+              (subst (λ s. IsCarried (meaning_of hook s) (known_value pool (label i)) Live (IsAlike (label i)) (InCell k L i) d (merged_before (meaning_of hook rule) pool pieces (length pieces) n)) same
               (is_carried (InCell k L i) classes i touched cells bare Live (label i) pieces all live covers (meaning_of hook rule) pool n d h (subst (λ ds. Contains ds d) (merged.darts n) c)))
 
       hold : (j t : ℕ) → j ≡ i → IsWanted rules touched j t → (n : ℕ) × (n < length new) × ((group_at new n).dim ≡ j) × Contains (group_at new n).darts t

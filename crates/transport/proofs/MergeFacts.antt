@@ -3,8 +3,8 @@ use Rattle.std.proofs.Common.{◌≡◌, ◌≢◌, ◌⊎◌, inl, inr, ℕ, su
 use Rattle.std.proofs.lemmas.List.{get_or_default}
 use Rattle.map_defs.specs.Values.{Value, Meaning}
 use Rattle.map_defs.specs.Carry.{merged_with, merged_all, known}
-use Rattle.attr_pool.specs.Stores.{Store, value_of}
-use Rattle.transport.specs.Groups.{Group, no_group, group_at}
+use Rattle.store_defs.specs.Stores.{Store, value_of}
+use Rattle.store_defs.specs.Groups.{Group, no_group, group_at}
 use Rattle.transport.specs.Pieces.{no_piece, piece_at, picked, count_below, has_id, lies_in, part_at, merged_before, AreMerged}
 use Rattle.transport.specs.declared.pieces.Piece.{Piece}
 use Rattle.transport.proofs.Gathering.{told_eq}

@@ -9,8 +9,8 @@ use Rattle.map_defs.specs.Carry.{known, NamesPiece, ArePieces, IsCarried}
 use Rattle.value_laws.proofs.Rising.{find_least}
 use Rattle.value_laws.proofs.Keeping.{IsKeptCell, without_is_carried, with_is_carried}
 use Rattle.value_laws.proofs.OfRows.{told_live}
-use Rattle.attr_pool.specs.Stores.{Store, value_of, IsHeld}
-use Rattle.transport.specs.Groups.{labelled_value, worth_of}
+use Rattle.store_defs.specs.Stores.{Store, value_of, IsHeld}
+use Rattle.store_defs.specs.Groups.{labelled_value, known_value}
 use Rattle.transport.proofs.Finding.{AreClasses, sound_classes}
 use Rattle.transport.proofs.Gathering.{told_eq}
 use Rattle.transport.proofs.CarryFacts.{cell_live}
@@ -28,9 +28,9 @@ module _ (Cell : ℕ → ℕ → Type 0) (classes : AreClasses Cell) (Live : ℕ
     among = λ m x s. ((λ t. classes.join d m x s t), (λ t. classes.join m d x (classes.turn d m s) t));
   }
 
-  no_value : ((x : ℕ) → Cell d x → label x ≡ None) → (o : Option ℕ) → label d ≡ o → IsCarried rule (worth_of pool label) Live (IsAlike label) Cell d (labelled_value pool o)
+  no_value : ((x : ℕ) → Cell d x → label x ≡ None) → (o : Option ℕ) → label d ≡ o → IsCarried rule (known_value pool label) Live (IsAlike label) Cell d (labelled_value pool o)
   no_value none (Some id) e = absurd (let f = none d (classes.own d) in cc (e, f))
-  no_value none None e = without_is_carried rule (worth_of pool label) Live (IsAlike label) Cell d kept (λ x s a. let f = none x s in let g = a.1 in cc (f, g))
+  no_value none None e = without_is_carried rule (known_value pool label) Live (IsAlike label) Cell d kept (λ x s a. let f = none x s in let g = a.1 in cc (f, g))
 
   module _ (c : ℕ) (w : IsWhole Live (Cell d) label c) where
     -- the darts of the cell are the live ones with its id
@@ -46,34 +46,34 @@ module _ (Cell : ℕ → ℕ → Type 0) (classes : AreClasses Cell) (Live : ℕ
       λ t. (c, w.inside m s, w.inside x t),
     )
 
-    constant : (m : ℕ) → Cell d m → worth_of pool label m ≡ worth_of pool label d
+    constant : (m : ℕ) → Cell d m → known_value pool label m ≡ known_value pool label d
     constant m s = ap (λ o. known (labelled_value pool o)) (w.inside m s ∙ sym (w.inside d (classes.own d)))
 
     some_known : (o : Option Value) → IsSome o → Some (known o) ≡ o
     some_known (Some v) h = refl
     some_known None h = absurd (cc (h))
 
-    the_value : (o : Option ℕ) → label d ≡ o → Some (worth_of pool label d) ≡ labelled_value pool o
+    the_value : (o : Option ℕ) → label d ≡ o → Some (known_value pool label d) ≡ labelled_value pool o
     the_value None e = absurd (let f = w.inside d (classes.own d) in cc (e, f))
     the_value (Some id) e = ap (λ o. Some (known (labelled_value pool o))) e ∙ some_known (value_of pool id) (held d id live e)
 
-    one_value : (o : Option ℕ) → label d ≡ o → IsCarried rule (worth_of pool label) Live (IsAlike label) Cell d (labelled_value pool o)
+    one_value : (o : Option ℕ) → label d ≡ o → IsCarried rule (known_value pool label) Live (IsAlike label) Cell d (labelled_value pool o)
     one_value o e = go (find_least (Cell d) inside_told (suc d))
       where
-        go : ((m : ℕ) × Cell d m × ((y : ℕ) → Cell d y → m ≤ y)) ⊎ ((y : ℕ) → y < suc d → Cell d y → ⊥) → IsCarried rule (worth_of pool label) Live (IsAlike label) Cell d (labelled_value pool o)
+        go : ((m : ℕ) × Cell d m × ((y : ℕ) → Cell d y → m ≤ y)) ⊎ ((y : ℕ) → y < suc d → Cell d y → ⊥) → IsCarried rule (known_value pool label) Live (IsAlike label) Cell d (labelled_value pool o)
         go (inr none) = absurd (none d (omega arith) (classes.own d))
         go (inl (m, s, least)) =
-            subst (λ v. IsCarried rule (worth_of pool label) Live (IsAlike label) Cell d v) (the_value o e)
-            (with_is_carried rule (worth_of pool label) Live (IsAlike label) Cell d kept valued whole constant m s least)
+            subst (λ v. IsCarried rule (known_value pool label) Live (IsAlike label) Cell d v) (the_value o e)
+            (with_is_carried rule (known_value pool label) Live (IsAlike label) Cell d kept valued whole constant m s least)
 
-  pub other_carried : ((x : ℕ) → Cell d x → label x ≡ None) ⊎ ((c : ℕ) × IsWhole Live (Cell d) label c) → IsCarried rule (worth_of pool label) Live (IsAlike label) Cell d (labelled_value pool (label d))
+  pub other_carried : ((x : ℕ) → Cell d x → label x ≡ None) ⊎ ((c : ℕ) × IsWhole Live (Cell d) label c) → IsCarried rule (known_value pool label) Live (IsAlike label) Cell d (labelled_value pool (label d))
   other_carried (inl none) = no_value none (label d) refl
   other_carried (inr (c, w)) = one_value c w (label d) refl
 
 -- the cells of rows without a touched dart
 pub other_cells : (k : Kind) (n : ℕ) (rows : Rows) → IsSound k n rows → (i : ℕ) (label : ℕ → Option ℕ) (pool : Store) (touched : List ℕ) (rule : Meaning) → KeepsWhole rule
     → ((d id : ℕ) → IsLive rows d → label d ≡ Some id → IsHeld pool id) → Covers k i (links_of rows) (IsLive rows) label (Contains touched) → (d : ℕ) → IsLive rows d
-    → ((x : ℕ) → InCell k (links_of rows) i d x → Contains touched x → ⊥) → IsCarried rule (worth_of pool label) (IsLive rows) (IsAlike label) (InCell k (links_of rows) i) d (labelled_value pool (label d))
+    → ((x : ℕ) → InCell k (links_of rows) i d x → Contains touched x → ⊥) → IsCarried rule (known_value pool label) (IsLive rows) (IsAlike label) (InCell k (links_of rows) i) d (labelled_value pool (label d))
 other_cells k n rows sound i label pool touched rule whole held covers d live untouched =
     other_carried (InCell k (links_of rows) i) (sound_classes k n i rows sound) (IsLive rows) (told_live rows) (λ e x. cell_live k n rows sound i e x) label pool rule whole held d live (covers d live untouched)
 

@@ -6,8 +6,8 @@ use Rattle.map_defs.specs.Cells.{InCell}
 use Rattle.map_defs.specs.Values.{Value, Rule, Meaning, meaning_of}
 use Rattle.map_defs.specs.Touched.{IsAlike}
 use Rattle.map_defs.specs.Carry.{IsCarried, AreCarriedByLabel}
-use Rattle.attr_pool.specs.Stores.{Store}
-use Rattle.transport.specs.Groups.{Group, group_at, rule_at, labelled_value, worth_of, AreTouchedCells, HasCarriedValue}
+use Rattle.store_defs.specs.Stores.{Store}
+use Rattle.store_defs.specs.Groups.{Group, group_at, rule_at, labelled_value, known_value, AreTouchedCells, HasCarriedValue}
 use Rattle.transport.proofs.Finding.{sound_classes}
 use Rattle.transport.proofs.Gathering.{told_eq}
 use Rattle.transport.proofs.CarryFacts.{told_in, find_below}
@@ -18,7 +18,7 @@ module _ (k : Kind) (n : ℕ) (rows : Rows) (sound : IsSound k n rows) (label : 
     (values : (m : ℕ) → m < length groups → HasCarriedValue k (links_of rows) (IsLive rows) label pool hook rules (group_at groups m))
     (i : ℕ) (rule : Rule) (ruled : rule_at rules i ≡ Some rule)
     (others : (d : ℕ) → IsLive rows d → ((x : ℕ) → InCell k (links_of rows) i d x → Contains touched x → ⊥)
-    → IsCarried (meaning_of hook rule) (worth_of pool (label i)) (IsLive rows) (IsAlike (label i)) (InCell k (links_of rows) i) d (labelled_value pool (label i d))) where
+    → IsCarried (meaning_of hook rule) (known_value pool (label i)) (IsLive rows) (IsAlike (label i)) (InCell k (links_of rows) i) d (labelled_value pool (label i d))) where
   abbrev Holds : ℕ → ℕ → Type 0
   Holds d m = ((group_at groups m).dim ≡ i) × Contains (group_at groups m).darts d
 
@@ -36,27 +36,27 @@ module _ (k : Kind) (n : ℕ) (rows : Rows) (sound : IsSound k n rows) (label : 
       none q.0 q.1 (q.2, ((cells.cells q.0 q.1).whole x d q.3).1 back)
 
   -- the value of a group, carried from the darts that lived
-  group_value : (d m : ℕ) → m < length groups → Holds d m → IsCarried (meaning_of hook rule) (worth_of pool (label i)) (IsLive rows) (IsAlike (label i)) (InCell k (links_of rows) i) d (group_at groups m).value
+  group_value : (d m : ℕ) → m < length groups → Holds d m → IsCarried (meaning_of hook rule) (known_value pool (label i)) (IsLive rows) (IsAlike (label i)) (InCell k (links_of rows) i) d (group_at groups m).value
   group_value d m h (e, c) =
-      subst (λ j. IsCarried (meaning_of hook rule) (worth_of pool (label j)) (IsLive rows) (IsAlike (label j)) (InCell k (links_of rows) j) d (group_at groups m).value) e
+      subst (λ j. IsCarried (meaning_of hook rule) (known_value pool (label j)) (IsLive rows) (IsAlike (label j)) (InCell k (links_of rows) j) d (group_at groups m).value) e
       (values m h rule d (ap (rule_at rules) e ∙ ruled) c)
 
   -- Before says which darts lived before the change: each live dart with a label did.
   pub whole_map : (Before : ℕ → Type 0) (after : ℕ → Option Value) → ((x c : ℕ) → IsLive rows x → label i x ≡ Some c → Before x)
       → ((m d : ℕ) → m < length groups → (group_at groups m).dim ≡ i → Contains (group_at groups m).darts d → after d ≡ (group_at groups m).value)
       → ((d : ℕ) → IsLive rows d → ((m : ℕ) → m < length groups → (group_at groups m).dim ≡ i → Contains (group_at groups m).darts d → ⊥) → after d ≡ labelled_value pool (label i d))
-      → AreCarriedByLabel k i (meaning_of hook rule) Before (label i) (worth_of pool (label i)) (links_of rows) (IsLive rows) after
+      → AreCarriedByLabel k i (meaning_of hook rule) Before (label i) (known_value pool (label i)) (links_of rows) (IsLive rows) after
   whole_map Before after lived given kept d live = go (find_below (Holds d) (told_holds d) (length groups))
     where
-      both : (r : Option Value) → IsCarried (meaning_of hook rule) (worth_of pool (label i)) (IsLive rows) (IsAlike (label i)) (InCell k (links_of rows) i) d r
-          → IsCarried (meaning_of hook rule) (worth_of pool (label i)) (λ x. Before x × IsLive rows x) (IsAlike (label i)) (InCell k (links_of rows) i) d r
-      both r c = carried_lived (meaning_of hook rule) (worth_of pool (label i)) Before (IsLive rows) (IsAlike (label i)) (InCell k (links_of rows) i) (λ m x a o. lived x o.0 a o.2) d r c
+      both : (r : Option Value) → IsCarried (meaning_of hook rule) (known_value pool (label i)) (IsLive rows) (IsAlike (label i)) (InCell k (links_of rows) i) d r
+          → IsCarried (meaning_of hook rule) (known_value pool (label i)) (λ x. Before x × IsLive rows x) (IsAlike (label i)) (InCell k (links_of rows) i) d r
+      both r c = carried_lived (meaning_of hook rule) (known_value pool (label i)) Before (IsLive rows) (IsAlike (label i)) (InCell k (links_of rows) i) (λ m x a o. lived x o.0 a o.2) d r c
 
       go : ((m : ℕ) × (m < length groups) × Holds d m) ⊎ ((m : ℕ) → m < length groups → Holds d m → ⊥)
-          → IsCarried (meaning_of hook rule) (worth_of pool (label i)) (λ x. Before x × IsLive rows x) (IsAlike (label i)) (InCell k (links_of rows) i) d (after d)
+          → IsCarried (meaning_of hook rule) (known_value pool (label i)) (λ x. Before x × IsLive rows x) (IsAlike (label i)) (InCell k (links_of rows) i) d (after d)
       go (inl (m, h, p)) =
-          subst (λ r. IsCarried (meaning_of hook rule) (worth_of pool (label i)) (λ x. Before x × IsLive rows x) (IsAlike (label i)) (InCell k (links_of rows) i) d r) (sym (given m d h p.0 p.1))
+          subst (λ r. IsCarried (meaning_of hook rule) (known_value pool (label i)) (λ x. Before x × IsLive rows x) (IsAlike (label i)) (InCell k (links_of rows) i) d r) (sym (given m d h p.0 p.1))
           (both (group_at groups m).value (group_value d m h p))
       go (inr none) =
-          subst (λ r. IsCarried (meaning_of hook rule) (worth_of pool (label i)) (λ x. Before x × IsLive rows x) (IsAlike (label i)) (InCell k (links_of rows) i) d r) (sym (kept d live (λ m h e c. none m h (e, c))))
+          subst (λ r. IsCarried (meaning_of hook rule) (known_value pool (label i)) (λ x. Before x × IsLive rows x) (IsAlike (label i)) (InCell k (links_of rows) i) d r) (sym (kept d live (λ m h e c. none m h (e, c))))
           (both (labelled_value pool (label i d)) (others d live (untouched d none)))

@@ -1,7 +1,7 @@
 -- What is found while the touched darts are looked at one after the other.
 use Rattle.std.specs.Prelude.{ℕ, ◌≡◌, ◌≢◌, ◌<◌, ◌↔◌, ◌⊎◌, List, [], ◌∷◌, ◌++◌, length, None, slice_index, Contains}
 use Rattle.std.specs.List.Sorted.{IsStrictlyIncreasing}
-use Rattle.transport.specs.Groups.{Group, group_at, least_of}
+use Rattle.store_defs.specs.Groups.{Group, group_at, least_of}
 use Rattle.transport.specs.Pieces.{IsBareCell}
 
 -- The cells of the first so many touched darts are found, each once, and just their darts are seen.

@@ -1,7 +1,7 @@
 -- What is gathered while the darts of the cells are looked at one after the other.
 use Rattle.std.specs.Prelude.{ℕ, ◌≡◌, ◌≢◌, ◌≤◌, ◌<◌, ◌⊎◌, cond, nat_eq, List, [], ◌∷◌, ◌++◌, length, Option, Some, None, slice_index, Contains}
 use Rattle.std.specs.List.Sorted.{IsStrictlyIncreasing}
-use Rattle.transport.specs.Groups.{Group, group_at}
+use Rattle.store_defs.specs.Groups.{Group, group_at}
 use Rattle.transport.specs.Pieces.{piece_at, IsPiece}
 use Rattle.transport.specs.declared.pieces.Piece.{Piece}
 

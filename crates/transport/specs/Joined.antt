@@ -3,8 +3,8 @@ use Rattle.std.specs.Prelude.{ℕ, ◌≡◌, ◌<◌, List, length, Option, IsS
 use Rattle.map_defs.specs.Kind.{Kind}
 use Rattle.map_defs.specs.Links.{Links}
 use Rattle.map_defs.specs.Values.{Rule, Meaning}
-use Rattle.attr_pool.specs.Stores.{Store}
-use Rattle.transport.specs.Groups.{Group, group_at, rule_at, IsBefore, IsTouchedCell, HasCarriedValue}
+use Rattle.store_defs.specs.Stores.{Store}
+use Rattle.store_defs.specs.Groups.{Group, group_at, rule_at, IsBefore, IsTouchedCell, HasCarriedValue}
 
 -- a touched cell with the value that is carried to it
 pub record IsCarriedCell (k : Kind) (L : Links) (Live : ℕ → Type 0) (label : ℕ → ℕ → Option ℕ) (pool : Store) (hook : Meaning) (rules : List (Option Rule)) (touched : List ℕ) (g : Group) : Type 0 where

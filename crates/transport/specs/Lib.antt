@@ -1,4 +1,3 @@
-pub mod Groups
 pub mod Tallies
 pub mod Pieces
 pub mod Found

@@ -3,8 +3,8 @@ use Rattle.std.specs.Prelude.{ℕ, zero, suc, ◌≡◌, ◌+◌, ◌≤◌, ◌
 use Rattle.std.specs.List.Sorted.{IsStrictlyIncreasing}
 use Rattle.map_defs.specs.Values.{Value, Meaning}
 use Rattle.map_defs.specs.Carry.{merged_all, known}
-use Rattle.attr_pool.specs.Stores.{Store, value_of}
-use Rattle.transport.specs.Groups.{Group, group_at, least_of}
+use Rattle.store_defs.specs.Stores.{Store, value_of}
+use Rattle.store_defs.specs.Groups.{Group, group_at, least_of}
 use Rattle.transport.specs.declared.pieces.Piece.{Piece}
 
 abbrev pub no_piece : Piece

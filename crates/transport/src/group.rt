@@ -1,5 +1,5 @@
 ghost use Rattle.std.specs.Prelude.{◌≡◌};
-ghost use Rattle.transport.specs.Groups.{least_of};
+ghost use Rattle.store_defs.specs.Groups.{least_of};
 
 use attr_rules::TableRule;
 use map_kind::{Dart, Value};
@@ -14,7 +14,7 @@ pub struct Group {
 }
 
 impl Model for Group {
-    ghost use Rattle.transport.specs.Groups as groups;
+    ghost use Rattle.store_defs.specs.Groups as groups;
 
     ghost Value = { groups.Group };
 

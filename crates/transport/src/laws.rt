@@ -5,8 +5,8 @@ ghost use Rattle.map_defs.specs.Cells.{InCell};
 ghost use Rattle.map_defs.specs.Touched.{IsAlike};
 ghost use Rattle.map_defs.specs.Values.{Value, Rule, Meaning, meaning_of};
 ghost use Rattle.map_defs.specs.Carry.{IsCarried, AreCarriedByLabel};
-ghost use Rattle.attr_pool.specs.Stores.{Store};
-ghost use Rattle.transport.specs.Groups.{Group, group_at, rule_at, labelled_value, worth_of, AreTouchedCells, HasCarriedValue};
+ghost use Rattle.store_defs.specs.Stores.{Store};
+ghost use Rattle.store_defs.specs.Groups.{Group, group_at, rule_at, labelled_value, known_value, AreTouchedCells, HasCarriedValue};
 
 /// Where each cell of a dimension with a rule is given the value of the group that holds it, and every other cell keeps
 /// the value of its one label, the values are those that are carried over the whole map: all that `carry` says of its
@@ -22,7 +22,7 @@ pub fn groups_carry_the_whole_map()
         → HasCarriedValue k (links_of new) (IsLive new) label pool hook rules (group_at groups n))
         → rule_at rules i ≡ Some rule
         → ((d : ℕ) → IsLive new d → ((x : ℕ) → InCell k (links_of new) i d x → Contains touched x → ⊥)
-        → IsCarried (meaning_of hook rule) (worth_of pool (label i)) (IsLive new) (IsAlike (label i))
+        → IsCarried (meaning_of hook rule) (known_value pool (label i)) (IsLive new) (IsAlike (label i))
         (InCell k (links_of new) i) d (labelled_value pool (label i d)))
         → ((x id : ℕ) → IsLive new x → label i x ≡ Some id → IsLive old x)
         → ((n d : ℕ) → n < length groups → (group_at groups n).dim ≡ i → Contains (group_at groups n).darts d
@@ -30,6 +30,6 @@ pub fn groups_carry_the_whole_map()
         → ((d : ℕ) → IsLive new d
         → ((n : ℕ) → n < length groups → (group_at groups n).dim ≡ i → Contains (group_at groups n).darts d → ⊥)
         → after d ≡ labelled_value pool (label i d))
-        → AreCarriedByLabel k i (meaning_of hook rule) (IsLive old) (label i) (worth_of pool (label i)) (links_of new)
+        → AreCarriedByLabel k i (meaning_of hook rule) (IsLive old) (label i) (known_value pool (label i)) (links_of new)
         (IsLive new) after }
 {}

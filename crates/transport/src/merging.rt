@@ -1,7 +1,7 @@
 ghost use Rattle.std.specs.Prelude.{◌≡◌, ℕ, ◌<◌, ◌^◌, None, length, IfOk, OnOk};
 ghost use Rattle.map_defs.specs.Carry.{merged_with};
-ghost use Rattle.attr_pool.specs.Stores.{IsHeld};
-ghost use Rattle.transport.specs.Groups.{group_at};
+ghost use Rattle.store_defs.specs.Stores.{IsHeld};
+ghost use Rattle.store_defs.specs.Groups.{group_at};
 ghost use Rattle.transport.specs.Tallies.{count_of};
 ghost use Rattle.transport.specs.Pieces.{piece_at, has_id, count_below, AreMerged};
 

@@ -1,5 +1,5 @@
 ghost use Rattle.std.specs.Prelude.{◌≡◌, ◌+◌, ◌<◌, length, IfOk, OnOk};
-ghost use Rattle.attr_pool.specs.Labelings.{id_of};
+ghost use Rattle.store_defs.specs.Labelings.{id_of};
 ghost use Rattle.transport.specs.Tallies.{met_in};
 ghost use Rattle.transport.specs.Pieces.{AreAllPieces};
 ghost use Rattle.transport.specs.Gathered.{AreApart, AreGathered, IsPieceAdded};

@@ -1,7 +1,7 @@
 ghost use Rattle.std.specs.Prelude.{◌≡◌, ℕ, ◌≤◌, ◌↔◌, ◌⊎◌, Some, length, Contains, IfOk, OnOk};
 ghost use Rattle.map_defs.specs.Rows.{IsLive};
-ghost use Rattle.attr_pool.specs.Stores.{IsHeld};
-ghost use Rattle.attr_pool.specs.Labelings.{id_of, HasPlaces};
+ghost use Rattle.store_defs.specs.Stores.{IsHeld};
+ghost use Rattle.store_defs.specs.Labelings.{id_of, HasPlaces};
 
 use crate::{Group, RuleRow, carry};
 use attr_pool::{AttrId, Labels, Pool};

@@ -12,8 +12,8 @@ use Rattle.std.proofs.lemmas.Option.{slice_get-get_or, slice_get_within, get_or_
 use Rattle.std.proofs.lemmas.Slice.Eq.{bytes_eq-Decides}
 use Rattle.indexmap.specs.IndexMap.{IndexMap, insert_entry}
 use Rattle.indexmap.proofs.CallerLemmas.{insert_entry-new}
-use Rattle.map_defs.specs.Difference.{Difference}
-use Rattle.undo_journal.specs.Trails.{Placed, mark_names, IsMark, HasMark, noted, marked}
+use Rattle.machine_defs.specs.Difference.{Difference}
+use Rattle.trail_laws.specs.Trails.{Placed, mark_names, IsMark, HasMark, noted, marked}
 use Rattle.undo_journal.specs.Entries.{placed_marks, trail_of}
 
 -- the names of the marks, as bytes

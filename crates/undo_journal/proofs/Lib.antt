@@ -1,2 +1,1 @@
-pub mod TrailFacts
 pub mod EntryFacts

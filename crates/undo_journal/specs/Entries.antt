@@ -1,8 +1,8 @@
 -- How a journal keeps its trail.
 use Rattle.std.specs.Prelude.{ℕ, List, map, String, string_bytes}
 use Rattle.std.specs.declared.alloc.Global.{Global}
-use Rattle.map_defs.specs.Difference.{Difference}
-use Rattle.undo_journal.specs.Trails.{Placed, Trail}
+use Rattle.machine_defs.specs.Difference.{Difference}
+use Rattle.trail_laws.specs.Trails.{Placed, Trail}
 
 -- the marks that stand in a table of places by names
 abbrev pub placed_marks : List (String Global × ℕ) → List Placed

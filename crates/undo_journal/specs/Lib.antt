@@ -1,3 +1,2 @@
-pub use Rattle.map_defs.specs.Difference
-pub mod Trails
+pub use Rattle.machine_defs.specs.Difference
 pub mod Entries

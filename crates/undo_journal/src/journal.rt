@@ -1,6 +1,6 @@
 ghost use Rattle.std.specs.Prelude.{◌≡◌, ℕ, ◌+◌, ◌≤◌, ◌<◌, ◌↔◌, Some, length, slice_get, IsTrue, IsOk, IsErr, IfOk, IfErr, OnOk, OnErr, IfSome, IsNone, IsErrOf};
 ghost use Rattle.std.specs.Option.{option_map};
-ghost use Rattle.undo_journal.specs.Trails.{Book, empty_trail, standing_marks, mark_names, IsMark, HasMark, place_of, steps_since, noted, marked, back, IsOrdered};
+ghost use Rattle.trail_laws.specs.Trails.{Book, empty_trail, standing_marks, mark_names, IsMark, HasMark, place_of, steps_since, noted, marked, back, IsOrdered};
 
 use crate::step::Step;
 use indexmap::IndexMap;
@@ -24,7 +24,7 @@ pub struct Journal {
 
 impl Model for Journal {
     ghost use Rattle.std.specs.Prelude.{◌-◌, vec_capacity};
-    ghost use Rattle.undo_journal.specs.Trails.{Book, IsOrdered};
+    ghost use Rattle.trail_laws.specs.Trails.{Book, IsOrdered};
     ghost use Rattle.undo_journal.specs.Entries.{trail_of};
 
     ghost Value = { Book };

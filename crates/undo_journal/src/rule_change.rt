@@ -13,7 +13,7 @@ pub struct RuleChange {
 }
 
 impl Model for RuleChange {
-    ghost use Rattle.map_defs.specs.Difference as differences;
+    ghost use Rattle.machine_defs.specs.Difference as differences;
 
     ghost Value = { differences.RuleChange };
 

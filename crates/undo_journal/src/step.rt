@@ -14,7 +14,7 @@ pub struct Step {
 }
 
 impl Model for Step {
-    ghost use Rattle.map_defs.specs.Difference.{Difference};
+    ghost use Rattle.machine_defs.specs.Difference.{Difference};
 
     ghost Value = { Difference };
 

@@ -14,7 +14,7 @@ pub struct ValueChange {
 }
 
 impl Model for ValueChange {
-    ghost use Rattle.map_defs.specs.Difference as differences;
+    ghost use Rattle.machine_defs.specs.Difference as differences;
 
     ghost Value = { differences.ValueChange };
 

@@ -12,5 +12,3 @@ pub mod Adding
 pub mod Grouping
 pub mod Summing
 pub mod Totalling
-pub mod Listed
-pub mod ValueFacts

@@ -3,7 +3,7 @@ use Rattle.std.proofs.Common.{ℕ, suc, ◌≡◌, ◌⊎◌, ◌↔◌, ◌≤�
 use Rattle.map_defs.specs.Kind.{Kind}
 use Rattle.map_defs.specs.Links.{Links, LeadsToLive}
 use Rattle.map_defs.specs.Laws.{Laws}
-use Rattle.map_defs.specs.Words.{IsCellWord}
+use Rattle.map_defs.specs.LinkWords.{IsCellWord}
 use Rattle.map_defs.specs.Cells.{here, Leads, InCell}
 use Rattle.map_defs.specs.Walks.{IsTold}
 use Rattle.map_defs.specs.Touched.{IsOldCell, IsAlike}

@@ -3,7 +3,7 @@ use Rattle.std.proofs.Common.{ℕ, ◌≡◌, ◌≢◌, ◌⊎◌, inl, inr, re
 use Rattle.map_defs.specs.Kind.{Kind, alpha, beta, inverse}
 use Rattle.map_defs.specs.Links.{Links, LeadsToLive}
 use Rattle.map_defs.specs.Laws.{Laws}
-use Rattle.map_defs.specs.Words.{Word, through, through_second, inverse_word, IsCellWord}
+use Rattle.map_defs.specs.LinkWords.{LinkWord, through, through_second, inverse_word, IsCellWord}
 use Rattle.map_defs.specs.Cells.{InOrbit, here, onward, Leads, InCell}
 use Rattle.map_defs.specs.Touched.{IsReached, IsTouched, Touches}
 use Rattle.link_laws.proofs.Basics.{stable}
@@ -28,7 +28,7 @@ still k Live L N x decided n = record {
     lived (inr m) = absurd (n (inl m))
 
 -- in a generalized map the words are single links
-alpha_second : (i : ℕ) (v : Word) → IsCellWord alpha i v → v.second ≡ None
+alpha_second : (i : ℕ) (v : LinkWord) → IsCellWord alpha i v → v.second ≡ None
 alpha_second i v (inl r) = ap (λ u. u.second) r.2
 alpha_second i v (inr r) = ap (λ u. u.second) (r.2 ∙ ap (inverse_word alpha) r.1.2)
 
@@ -50,21 +50,21 @@ module _ (k : Kind) (Live : ℕ → Type 0) (L N : Links) (w : Laws k L) (wn : L
       cc (s.around b (L f x) (inverse k f) j (inl back), s.same f, e)
 
   -- along a word from a still dart the old and the new links lead alike
-  word_on : (v : Word) → (k ≡ alpha → v.second ≡ None) → (x y : ℕ) → IsStill k Live L N x → y ≢ 0 → through N v x ≡ y → through L v x ≡ y
+  word_on : (v : LinkWord) → (k ≡ alpha → v.second ≡ None) → (x y : ℕ) → IsStill k Live L N x → y ≢ 0 → through N v x ≡ y → through L v x ≡ y
   word_on v one x y s m = go v.first v.second one
     where
       go : (f : ℕ) (j : Option ℕ) → (k ≡ alpha → j ≡ None) → through_second N j (N f x) ≡ y → through_second L j (L f x) ≡ y
       go f None o e = sym (s.same f) ∙ e
       go f (Some j) o e = elim (kind_case k) [ inl a ↦ cc (o a) | inr b ↦ second_on x y f j s b m e ]
 
-  word_off : (v : Word) → (k ≡ alpha → v.second ≡ None) → (x y : ℕ) → IsStill k Live L N x → y ≢ 0 → through L v x ≡ y → through N v x ≡ y
+  word_off : (v : LinkWord) → (k ≡ alpha → v.second ≡ None) → (x y : ℕ) → IsStill k Live L N x → y ≢ 0 → through L v x ≡ y → through N v x ≡ y
   word_off v one x y s m = go v.first v.second one
     where
       go : (f : ℕ) (j : Option ℕ) → (k ≡ alpha → j ≡ None) → through_second L j (L f x) ≡ y → through_second N j (N f x) ≡ y
       go f None o e = s.same f ∙ e
       go f (Some j) o e = elim (kind_case k) [ inl a ↦ cc (o a) | inr b ↦ second_off x y f j s b m e ]
 
-  one_word : (i : ℕ) (v : Word) → IsCellWord k i v → k ≡ alpha → v.second ≡ None
+  one_word : (i : ℕ) (v : LinkWord) → IsCellWord k i v → k ≡ alpha → v.second ≡ None
   one_word i v c a = alpha_second i v (subst (λ q. IsCellWord q i v) a c)
 
   module _ (i d : ℕ) (all : (x : ℕ) → InCell k N i d x → IsStill k Live L N x) where

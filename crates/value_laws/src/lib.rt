@@ -32,9 +32,7 @@ ghost use Rattle.map_defs.specs.Walks.{IsTold};
 ghost use Rattle.map_defs.specs.Touched.{IsTouched, IsOldCell, Touches, IsAlike, IsLabelled, Covers};
 ghost use Rattle.map_defs.specs.Values.{Value, Rule, Meaning, meaning_of, KeepsWhole, dealt, total};
 ghost use Rattle.map_defs.specs.Carry.{IsCarried, AreCarried, AreCarriedByLabel, IsValuedWith, AreEqualOnCells, known};
-ghost use Rattle.map_defs.specs.Totals.{sum_share, ListsValuedCells, total_value, NoSumLeaves, listed_total};
-ghost use Rattle.map_defs.specs.State.{Content, value_at};
-ghost use Rattle.map_defs.specs.Listing.{ListValue, ListsValues};
+ghost use Rattle.map_defs.specs.Totals.{sum_share, ListsValuedCells, total_value, NoSumLeaves};
 
 /// The touched darts touch every dimension: each new cell without one of them is an old cell.
 ///
@@ -137,8 +135,7 @@ pub fn dealt_numbers_add_up()
 
 /// Under the rule `sum share` the total of a dimension stays: the values of its cells, each of the three numbers by itself,
 /// add up to the same before and after a change of links by which no dart dies, if no sum of parts leaves 64 bits. The
-/// cells are told by their least darts, each cell that has a value once. So the values that a listing shows in that
-/// dimension add up to the same, where only live darts have values.
+/// cells are told by their least darts, each cell that has a value once.
 ///
 /// For whoever keeps amounts in cells, as lengths on edges: to make polygons and darts, to sew and unsew and to insert
 /// neither makes nor loses anything. Where all darts of a cell die, its value is lost.
@@ -152,15 +149,4 @@ pub fn sum_share_keeps_totals()
         → ListsValuedCells k i (links_of old) (IsLive old) values cells
         → ListsValuedCells k i (links_of new) (IsLive new) after cells_after
         → total_value values cells ≡ total_value after cells_after }
-    ensures listed { (i : ℕ) (hook : Meaning) (old new : Content) (values after : List ListValue)
-        → old.kind ≡ new.kind → Laws old.kind (links_of old.rows) → Laws new.kind (links_of new.rows)
-        → ((x : ℕ) → IsLive old.rows x → IsLive new.rows x)
-        → ((x : ℕ) → IsSome (value_at old i x) → IsLive old.rows x)
-        → ((x : ℕ) → IsSome (value_at new i x) → IsLive new.rows x)
-        → AreEqualOnCells old.kind i (links_of old.rows) (IsLive old.rows) (value_at old i)
-        → AreCarried old.kind i (sum_share hook) (links_of old.rows) (IsLive old.rows) (value_at old i)
-        (links_of new.rows) (IsLive new.rows) (value_at new i)
-        → NoSumLeaves old.kind i (sum_share hook) (links_of old.rows) (IsLive old.rows) (value_at old i)
-        (links_of new.rows) (IsLive new.rows)
-        → ListsValues old values → ListsValues new after → listed_total i values ≡ listed_total i after }
 {}

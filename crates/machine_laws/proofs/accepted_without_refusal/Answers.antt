@@ -1,4 +1,4 @@
-use Rattle.map_defs.specs.Machine.{Effect, checks}
+use Rattle.machine_defs.specs.Machine.{Effect, checks}
 use Rattle.machine_laws.proofs.Judging.{ordered, judged-accepted}
 use Rattle.machine_laws.proofs.accepted_without_refusal.Goals as goal
 

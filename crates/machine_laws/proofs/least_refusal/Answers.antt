@@ -1,6 +1,6 @@
-use Rattle.map_defs.specs.Machine.{Effect, checks}
+use Rattle.machine_defs.specs.Machine.{Effect, checks}
 use Rattle.machine_laws.proofs.Judging.{ordered, judged-fails, judged-least, judged-unchanged}
-use Rattle.machine_laws.proofs.Steps.{effect-refuses}
+use Rattle.machine_laws.proofs.OneStep.{effect-refuses}
 use Rattle.machine_laws.proofs.least_refusal.Goals as goal
 
 pub returns-clause-holds : goal.returns-clause-holds

@@ -1,4 +1,4 @@
-use Rattle.machine_laws.proofs.Steps.{step-reply, step-state}
+use Rattle.machine_laws.proofs.OneStep.{step-reply, step-state}
 use Rattle.machine_laws.proofs.one_step.Goals as goal
 
 pub returns-clause-reply : goal.returns-clause-reply

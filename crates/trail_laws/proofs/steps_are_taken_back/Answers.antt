@@ -1,4 +1,4 @@
-use Rattle.undo_journal.proofs.TrailFacts.{mark_within}
+use Rattle.trail_laws.proofs.TrailFacts.{mark_within}
 use Rattle.trail_laws.proofs.Between.{between-kept, between-there, between-follows, between-differ, between-led, between-back}
 use Rattle.trail_laws.proofs.steps_are_taken_back.Goals as goal
 

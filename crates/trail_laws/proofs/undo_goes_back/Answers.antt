@@ -1,4 +1,4 @@
-use Rattle.undo_journal.proofs.TrailFacts.{mark_within}
+use Rattle.trail_laws.proofs.TrailFacts.{mark_within}
 use Rattle.trail_laws.proofs.Naming.{mark-told, mark-stands}
 use Rattle.trail_laws.proofs.Returning.{mark-before, told-back, traced-back}
 use Rattle.trail_laws.proofs.undo_goes_back.Goals as goal

@@ -1,7 +1,7 @@
 use Rattle.std.proofs.Common.{◌≡◌, ◌∙◌, map, lit<}
 use Rattle.std.proofs.lemmas.Result.{IfOk-weaker}
 use Rattle.map_defs.specs.Rows.{links_of}
-use Rattle.map_defs.specs.Words.{one_link}
+use Rattle.map_defs.specs.LinkWords.{one_link}
 use Rattle.alpha_edit.proofs.AlongLinks.{one-links-within, words-orbit}
 use Rattle.alpha_edit.proofs.along.leads.Goals as goal
 

@@ -1,6 +1,6 @@
 use Rattle.std.proofs.Common.{◌≡◌, sym, ◌∙◌, subst, All, Contains, lit<}
 use Rattle.std.proofs.lemmas.Result.{IfOk-weaker}
-use Rattle.map_defs.specs.Words.{IsWithin}
+use Rattle.map_defs.specs.LinkWords.{IsWithin}
 use Rattle.map_defs.specs.Cells.{Leads}
 use Rattle.map_defs.specs.Rows.{links_of}
 use Rattle.cell_walk.specs.Surveys.{TurnsBack, IsLeast}

@@ -1,6 +1,6 @@
 use Rattle.std.proofs.Common.{◌≡◌, ℕ, ◌+◌, length, refl, arith}
 use Rattle.map_defs.specs.Rows.{Rows, made}
-use Rattle.link_rows.proofs.PolygonEdit.{changes-more, polygon-fits, polygon-after, polygon-lawful}
+use Rattle.edit_laws.proofs.PolygonEdit.{changes-more, polygon-fits, polygon-after, polygon-lawful}
 use Rattle.link_rows.proofs.polygon.polygon_edit.Goals as goal
 
 pub loop-side-preserved : goal.loop-side-preserved

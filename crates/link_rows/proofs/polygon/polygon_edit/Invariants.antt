@@ -1,7 +1,7 @@
 use Rattle.std.proofs.Common.{◌≡◌}
 use Rattle.std.specs.List.{flat_map, range_with_len}
 use Rattle.map_defs.specs.Polygon.{side_rows}
-use Rattle.link_rows.specs.BirthChanges.{birth_changes}
+use Rattle.edit_laws.specs.BirthChanges.{birth_changes}
 use Rattle.link_rows.proofs.polygon.polygon_edit.Given as goal
 
 abbrev pub invariant-loop-side : goal.invariant-loop-side

@@ -2,7 +2,7 @@ use Rattle.std.proofs.Common.{◌≡◌, ◌≢◌, ℕ, ◌+◌, ◌-◌, ◌<�
 use Rattle.std.proofs.lemmas.List.{drop_more, get_or_read, get_or-set_other}
 use Rattle.map_defs.specs.Rows.{Rows, row_at}
 use Rattle.map_defs.specs.Edits.{revived, free_row}
-use Rattle.link_rows.proofs.EditSteps.{revived-length}
+use Rattle.edit_laws.proofs.EditSteps.{revived-length}
 use Rattle.link_rows.proofs.steps.revive.Goals as goal
 
 pub revive-requires : goal.revive-requires

@@ -1,5 +1,5 @@
 use Rattle.std.proofs.Common.{[], ◌∷◌, codes}
-use Rattle.map_defs.specs.Text.{spaced}
+use Rattle.machine_defs.specs.Text.{spaced}
 use Rattle.list_text.proofs.Gathered.{six}
 use Rattle.list_text.proofs.write.append_header.Goals as goal
 

@@ -1,7 +1,7 @@
 use Rattle.std.proofs.Common.{◌≡◌, ◌∷◌, [], ◌++◌, take}
 use Rattle.std.specs.Fmt.{decimal}
 use Rattle.std.specs.List.{flat_map}
-use Rattle.map_defs.specs.Text.{spaced}
+use Rattle.machine_defs.specs.Text.{spaced}
 use Rattle.list_text.proofs.write.append_row.Given as goal
 
 abbrev pub invariant-loop-link : goal.invariant-loop-link

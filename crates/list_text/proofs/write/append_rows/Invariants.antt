@@ -1,6 +1,6 @@
 use Rattle.std.proofs.Common.{◌≡◌, ◌++◌, take}
 use Rattle.std.specs.List.{flat_map}
-use Rattle.map_defs.specs.Text.{row_text}
+use Rattle.machine_defs.specs.Text.{row_text}
 use Rattle.list_text.proofs.write.append_rows.Given as goal
 
 abbrev pub invariant-loop-row : goal.invariant-loop-row

@@ -1,6 +1,6 @@
 use Rattle.std.proofs.Common.{[], ◌∷◌, codes, rules, SFits, w64}
 use Rattle.std.proofs.lemmas.Int.{to_z-of_z}
-use Rattle.map_defs.specs.Text.{spaced, spaced_signed}
+use Rattle.machine_defs.specs.Text.{spaced, spaced_signed}
 use Rattle.list_text.proofs.Gathered.{seven}
 use Rattle.list_text.proofs.write.append_value.Goals as goal
 

@@ -1,6 +1,6 @@
 use Rattle.std.proofs.Common.{◌≡◌, ◌++◌, take}
 use Rattle.std.specs.List.{flat_map}
-use Rattle.map_defs.specs.Text.{value_text}
+use Rattle.machine_defs.specs.Text.{value_text}
 use Rattle.list_text.proofs.write.append_values.Given as goal
 
 abbrev pub invariant-loop-value : goal.invariant-loop-value

@@ -1,19 +1,19 @@
 use Rattle.std.proofs.Common.{◌≡◌, ℕ, ◌+◌, Option, arith}
 use Rattle.map_defs.specs.Values.{Value}
-use Rattle.label_laws.specs.Stored.{worth}
-use Rattle.map_core.specs.Noted.{IsPlaceBelow, turned_worth}
+use Rattle.label_laws.specs.Stored.{stored_value}
+use Rattle.map_core.specs.Noted.{IsPlaceBelow, turned_value}
 use Rattle.map_core.proofs.ListedValues.{IsTurnedPlace, differing-as, differing-more, turned-none, turned-more, turned-before, turned-all}
 use Rattle.map_core.proofs.dual.add_turned_values.Goals as goal
 
 pub loop-number-init : goal.loop-number-init
 loop-number-init g c =
-    differing-as (IsPlaceBelow c.args.dim c.args.made) (IsTurnedPlace c.args.dim c.args.made 0) (worth c.args.pool.now c.args.labels.now) (turned_worth g.row.DIM c.args.labels.now c.args.pool.now) c.args.values.now.items
+    differing-as (IsPlaceBelow c.args.dim c.args.made) (IsTurnedPlace c.args.dim c.args.made 0) (stored_value c.args.pool.now c.args.labels.now) (turned_value g.row.DIM c.args.labels.now c.args.pool.now) c.args.values.now.items
     (turned-none c.args.dim c.args.made) c.requires.values
 
 pub loop-number-preserved : goal.loop-number-preserved
 loop-number-preserved g c =
-    let old : ℕ → ℕ → Option Value = worth c.args.pool.now c.args.labels.now in
-    let new : ℕ → ℕ → Option Value = turned_worth g.row.DIM c.args.labels.now c.args.pool.now in
+    let old : ℕ → ℕ → Option Value = stored_value c.args.pool.now c.args.labels.now in
+    let new : ℕ → ℕ → Option Value = turned_value g.row.DIM c.args.labels.now c.args.pool.now in
     let m : ℕ = c.args.dim in
     let number : ℕ = c.loop-number.number in
     let dart : c.unwrap.result ≡ number + 1 = rw c.unwrap.ensures at c.new.ensures.same in
@@ -23,5 +23,5 @@ loop-number-preserved g c =
 
 pub returns : goal.returns
 returns g c =
-    differing-as (IsTurnedPlace c.args.dim c.args.made c.loop-number.number) (IsPlaceBelow (c.args.dim + 1) c.args.made) (worth c.args.pool.now c.args.labels.now) (turned_worth g.row.DIM c.args.labels.now c.args.pool.now) c.loop-number.values.items
+    differing-as (IsTurnedPlace c.args.dim c.args.made c.loop-number.number) (IsPlaceBelow (c.args.dim + 1) c.args.made) (stored_value c.args.pool.now c.args.labels.now) (turned_value g.row.DIM c.args.labels.now c.args.pool.now) c.loop-number.values.items
     (λ i d. turned-all c.args.dim c.args.made c.loop-number.number i d (omega (arith, c.loop-number-test.false))) c.loop-number.invariant

@@ -1,7 +1,7 @@
 use Rattle.std.proofs.Common.{◌≡◌, ◌≤◌, ℕ, ◌-◌, List, length, reverse, Option, None, sym, subst, arith, rules}
 use Rattle.std.proofs.lemmas.List.{get_or-reverse}
 use Rattle.map_defs.specs.Values.{Rule}
-use Rattle.transport.specs.Groups.{rule_at}
+use Rattle.store_defs.specs.Groups.{rule_at}
 use Rattle.map_core.specs.Noted.{AreRuleChanges, IsRuleAdded}
 use Rattle.map_core.proofs.ListedValues.{no-rule-changes, rule-changes-more}
 use Rattle.map_core.proofs.dual.turned_rule_changes.Goals as goal

@@ -1,8 +1,8 @@
 use Rattle.std.proofs.Common.{◌≡◌, ℕ, ◌+◌, List, get_or, take, sym, subst, ap, ◌∙◌, ◌++◌, lit<, arith, take_all}
 use Rattle.map_defs.specs.Rows.{Rows}
-use Rattle.label_laws.specs.Stored.{worth}
+use Rattle.label_laws.specs.Stored.{stored_value}
 use Rattle.label_laws.specs.Lists.{AreListed, listed}
-use Rattle.label_laws.proofs.Listed.{IsSoFar, cells-begun, cells-more, cells-all}
+use Rattle.label_laws.proofs.ListedValues.{IsSoFar, cells-begun, cells-more, cells-all}
 use Rattle.label_laws.proofs.Loops.{item-dart}
 use Rattle.map_core.proofs.list.list_cells.Goals as goal
 
@@ -21,7 +21,7 @@ loop-dart-preserved g c =
     let at : ℕ = c.loop-dart.dart-index in
     let up = rw (← c.deref-dart-items.ensures.value) at c.in_ok-cells.ensures.ascending in
     let item : c.dart-item.result ≡ get_or cells at 0 = item-dart cells at c.dart-item.result c.loop-dart-test.true c.dart-item.is in
-    let is = c.in_ok-list_value.ensures ∙ ap (λ (d : ℕ). c.loop-dart.values.items ++ listed c.args.dim d (worth c.args.pool.now c.args.labels.now c.args.dim d)) item in
+    let is = c.in_ok-list_value.ensures ∙ ap (λ (d : ℕ). c.loop-dart.values.items ++ listed c.args.dim d (stored_value c.args.pool.now c.args.labels.now c.args.dim d)) item in
     subst (λ values. AreListed c.args.labels.now c.args.pool.now (IsSoFar k rows c.args.dim (take (at + 1) cells)) values) (sym is)
     (cells-more k rows c.args.labels.now c.args.pool.now c.args.dim cells at c.loop-dart.values.items up c.loop-dart-test.true c.loop-dart.invariant)
 

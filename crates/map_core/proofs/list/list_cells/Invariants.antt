@@ -1,6 +1,6 @@
 use Rattle.std.proofs.Common.{take}
 use Rattle.label_laws.specs.Lists.{AreListed}
-use Rattle.label_laws.proofs.Listed.{IsSoFar}
+use Rattle.label_laws.proofs.ListedValues.{IsSoFar}
 use Rattle.map_core.proofs.list.list_cells.Given as goal
 
 abbrev pub invariant-loop-dart : goal.invariant-loop-dart

@@ -1,7 +1,7 @@
 use Rattle.std.proofs.Common.{◌≡◌, Option, Some, None, IsSome, refl}
 use Rattle.map_defs.specs.Values.{Rule}
-use Rattle.transport.specs.Groups.{rule_at}
-use Rattle.label_laws.proofs.Listed.{listed-bare}
+use Rattle.store_defs.specs.Groups.{rule_at}
+use Rattle.label_laws.proofs.ListedValues.{listed-bare}
 use Rattle.map_core.proofs.list.list_dimension.Goals as goal
 
 none-unless-some : (o : Option Rule) → (IsSome o → ⊥) → o ≡ None

@@ -1,5 +1,5 @@
 use Rattle.std.proofs.Common.{◌≡◌, ◌+◌, take}
-use Rattle.map_defs.specs.Listing.{live_rows_from}
+use Rattle.machine_defs.specs.Listing.{live_rows_from}
 use Rattle.map_core.proofs.list.list_rows.Given as goal
 
 abbrev pub invariant-loop-number : goal.invariant-loop-number

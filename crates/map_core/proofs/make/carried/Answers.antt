@@ -1,8 +1,8 @@
 use Rattle.std.proofs.Common.{◌≡◌, ◌+◌, ◌<◌, List, [], ◌∷◌, length, Option, refl, ap, sym, subst, ◌∙◌, inl, inr, lit<, arith, rules}
 use Rattle.map_defs.specs.Rows.{Rows}
 use Rattle.map_defs.specs.Values.{Rule}
-use Rattle.link_rows.proofs.EditSound.{length-after}
-use Rattle.transport.specs.Groups.{Group}
+use Rattle.edit_laws.proofs.EditSound.{length-after}
+use Rattle.store_defs.specs.Groups.{Group}
 use Rattle.label_laws.specs.Touching.{AreAllTouched}
 use Rattle.label_laws.proofs.Making.{none-touched, darts-touch, darts-cover}
 use Rattle.map_core.proofs.make.carried.Goals as goal

@@ -1,5 +1,5 @@
 use Rattle.std.proofs.Common.{ℕ, List}
-use Rattle.map_defs.specs.Difference.{ValueChange}
+use Rattle.machine_defs.specs.Difference.{ValueChange}
 use Rattle.label_laws.proofs.Loops.{item-dart}
 use Rattle.map_core.specs.Noted.{old_value}
 use Rattle.map_core.proofs.ListedValues.{map-more, map-all}
@@ -10,7 +10,7 @@ loop-dart-preserved g c =
     let f : ℕ → ValueChange = old_value c.args.labels.now c.args.pool.now c.args.dim in
     let xs : List ℕ = c.args.darts.now in
     let k : ℕ = c.loop-dart.dart-index in
-    rw (c.in_ok-push.ensures.items, c.worth-old.ensures) (map-more f xs k c.dart-item.result c.args.values.now.items c.loop-dart.values.items c.loop-dart-test.true (item-dart xs k c.dart-item.result c.loop-dart-test.true c.dart-item.is) c.loop-dart.invariant)
+    rw (c.in_ok-push.ensures.items, c.stored_value-old.ensures) (map-more f xs k c.dart-item.result c.args.values.now.items c.loop-dart.values.items c.loop-dart-test.true (item-dart xs k c.dart-item.result c.loop-dart-test.true c.dart-item.is) c.loop-dart.invariant)
 
 pub returns : goal.returns
 returns g c =

@@ -1,7 +1,7 @@
 use Rattle.std.proofs.Common.{◌≡◌, ◌≢◌, ◌+◌, List, AllPairs, Contains, rules, arith, subst, sym}
 use Rattle.std.proofs.lemmas.List.Sorted.{Contains-permutation, IsPermutation-sym, answers_always}
 use Rattle.map_defs.specs.Edits.{Change}
-use Rattle.map_defs.specs.Difference.{IsLinkBefore}
+use Rattle.machine_defs.specs.Difference.{IsLinkBefore}
 use Rattle.journal_laws.proofs.Reordered.{AllPairs-permutation}
 use Rattle.map_core.proofs.Retained.{retained-are, retained-ordered, pairs-from-neighbours, pair-after}
 use Rattle.map_core.proofs.SortedEdit.{before-joins}

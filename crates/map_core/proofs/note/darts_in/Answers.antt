@@ -1,7 +1,7 @@
 use Rattle.std.proofs.Common.{◌≡◌, ◌⊎◌, ◌↔◌, ℕ, List, length, Contains, ◌∙◌, subst, sym, arith}
 use Rattle.std.proofs.lemmas.List.{get_or_default}
 use Rattle.std.proofs.lemmas.Result.{IfOk-weaker}
-use Rattle.transport.specs.Groups.{no_group}
+use Rattle.store_defs.specs.Groups.{no_group}
 use Rattle.map_core.proofs.GroupedDarts.{InGroups, in-none, in-more}
 use Rattle.map_core.proofs.note.darts_in.Goals as goal
 

@@ -1,5 +1,5 @@
 use Rattle.std.proofs.Common.{◌≡◌, ℕ, List, length, Contains, sym, subst, ◌∙◌, lit<, arith}
-use Rattle.transport.specs.Groups.{Group, group_at}
+use Rattle.store_defs.specs.Groups.{Group, group_at}
 use Rattle.label_laws.specs.Changing.{AreTaken, IsGroupedBelow}
 use Rattle.label_laws.proofs.Loops.{taken-groups-begun, taken-groups, item-group}
 use Rattle.label_laws.specs.Touching.{CanLabel}

@@ -1,7 +1,7 @@
 use Rattle.std.proofs.Common.{◌≡◌, ◌<◌, ◌≤◌, ℕ, List, [], length, get_or, Contains, sym, ap, subst, ◌∙◌, lit<, arith, ◌+◌, suc}
 use Rattle.std.proofs.lemmas.List.{get_or-map, get_or_default}
 use Rattle.map_defs.specs.Values.{Place, Value}
-use Rattle.transport.specs.Groups.{Group}
+use Rattle.store_defs.specs.Groups.{Group}
 use Rattle.label_laws.specs.Changing.{AreGiven, AreGroupsGiven, IsGroupGiven}
 use Rattle.label_laws.proofs.Giving.{groups-places}
 use Rattle.cell_walk.specs.CellLists.{items_of, lists_of}

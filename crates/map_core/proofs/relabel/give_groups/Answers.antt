@@ -1,5 +1,5 @@
 use Rattle.std.proofs.Common.{◌≡◌, ℕ, List, length, sym, subst, lit<, arith, ◌+◌, suc}
-use Rattle.transport.specs.Groups.{Group, group_at}
+use Rattle.store_defs.specs.Groups.{Group, group_at}
 use Rattle.label_laws.specs.Changing.{AreGroupsGiven, IsGroupGiven}
 use Rattle.label_laws.proofs.Giving.{groups-places}
 use Rattle.label_laws.proofs.Loops.{item-group}

@@ -1,5 +1,5 @@
 use Rattle.std.proofs.Common.{lit<, sym, subst}
-use Rattle.transport.specs.Groups.{Group}
+use Rattle.store_defs.specs.Groups.{Group}
 use Rattle.label_laws.specs.Touching.{CanLabel}
 use Rattle.map_core.proofs.relabel.give_value.Goals as goal
 

@@ -1,5 +1,5 @@
 use Rattle.std.proofs.Common.{ℕ, List, Contains, Some, sym, subst, lit<, arith, take_all}
-use Rattle.attr_pool.specs.Labelings.{IsRelabelled}
+use Rattle.store_defs.specs.Labelings.{IsRelabelled}
 use Rattle.label_laws.specs.Changing.{HaveId}
 use Rattle.label_laws.proofs.Loops.{have-begun, have-more, item-dart}
 use Rattle.map_core.proofs.relabel.put_id.Goals as goal

@@ -1,5 +1,5 @@
 use Rattle.std.proofs.Common.{◌<◌, length, Contains, lit<, arith, ◌+◌}
-use Rattle.transport.specs.Groups.{group_at}
+use Rattle.store_defs.specs.Groups.{group_at}
 use Rattle.label_laws.specs.Changing.{IsGroupedBelow}
 use Rattle.label_laws.proofs.Taking.{taken-then}
 use Rattle.map_core.proofs.Labelling.{can-label-kept}

@@ -1,6 +1,6 @@
 use Rattle.std.proofs.Common.{ℕ, ◌≡◌, ◌⊎◌, ◌+◌, List, inl, inr, sym, take, subst, take_all}
 use Rattle.map_defs.specs.Rows.{Rows}
-use Rattle.map_defs.specs.Difference.{ValueChange}
+use Rattle.machine_defs.specs.Difference.{ValueChange}
 use Rattle.map_core.specs.Changing.{AreAdded}
 use Rattle.map_core.specs.Undoing.{IsValueChanged}
 use Rattle.map_core.proofs.Adding.{added-none, added-then, added-told}

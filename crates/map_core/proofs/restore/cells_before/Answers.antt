@@ -1,9 +1,9 @@
 use Rattle.std.proofs.Common.{◌≡◌, ◌⊎◌, ◌+◌, ◌<◌, List, length, Option, IsSome, Contains, inl, inr, refl, ap, lit<, arith, rules}
 use Rattle.map_defs.specs.Rows.{Rows}
 use Rattle.map_defs.specs.Values.{Rule}
-use Rattle.transport.specs.Groups.{rule_at}
-use Rattle.label_laws.specs.Stored.{worth}
-use Rattle.label_laws.proofs.Same.{worth-alike}
+use Rattle.store_defs.specs.Groups.{rule_at}
+use Rattle.label_laws.specs.Stored.{stored_value}
+use Rattle.label_laws.proofs.Same.{stored_value-alike}
 use Rattle.map_core.specs.Undoing.{IsRevalued, IsStepped, value_before}
 use Rattle.map_core.proofs.RestoredGroups.{restored-as}
 use Rattle.map_core.proofs.restore.cells_before.Goals as goal
@@ -20,9 +20,9 @@ returns-clause-cells g c =
     let cells = rw c.deref.ensures.value at c.in_ok-groups.ensures in
     restored-as g.K.Kind.kind rows (λ j. IsSome (rule_at c.args.rules.now j)) (λ j. IsSome (rule_at c.args.rules.now j))
     (λ j d. Contains c.in_ok-touched.touched.items d ⊎ IsRevalued c.args.steps.now j d) (IsStepped g.K.Kind.kind rows c.args.steps.now)
-    (λ j d. value_before c.args.steps.now j d (worth c.args.pool.now c.open_places.new.labels j d)) (λ j d. value_before c.args.steps.now j d (worth c.args.pool.now c.args.labels.now j d))
+    (λ j d. value_before c.args.steps.now j d (stored_value c.args.pool.now c.open_places.new.labels j d)) (λ j d. value_before c.args.steps.now j d (stored_value c.args.pool.now c.args.labels.now j d))
     c.in_ok-groups.groups.items
     (λ j. (λ h. h, λ h. h))
     (λ j d w live. elim w [ inl near ↦ inl (c.in_ok-touched.ensures.all d near live) | inr changed ↦ inr changed ])
-    (λ j d. ap (value_before c.args.steps.now j d) (worth-alike c.args.labels.now c.open_places.new.labels c.args.pool.now c.args.pool.now c.in_ok-open_places.ensures.ids refl j d))
+    (λ j d. ap (value_before c.args.steps.now j d) (stored_value-alike c.args.labels.now c.open_places.new.labels c.args.pool.now c.args.pool.now c.in_ok-open_places.ensures.ids refl j d))
     cells

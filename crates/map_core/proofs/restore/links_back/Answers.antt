@@ -2,7 +2,7 @@ use Rattle.std.proofs.Common.{ℕ, ◌≡◌, ◌+◌, ◌-◌, ◌<◌, ◌≤�
 use Rattle.std.proofs.lemmas.List.{get_or_default}
 use Rattle.map_defs.specs.Rows.{Rows, made, live_count}
 use Rattle.map_defs.specs.Edits.{Edit, IsLed}
-use Rattle.map_defs.specs.Difference.{Difference}
+use Rattle.machine_defs.specs.Difference.{Difference}
 use Rattle.map_core.specs.Undoing.{no_step, step_at, rows_before}
 use Rattle.map_core.proofs.Reversing.{led-at, room-back, live-back, made-on}
 use Rattle.map_core.proofs.restore.links_back.Goals as goal

@@ -1,6 +1,6 @@
 use Rattle.std.proofs.Common.{ℕ, ◌≡◌, ◌<◌, IsSome}
-use Rattle.attr_pool.specs.Labelings.{HasPlaces, KeepsIds}
-use Rattle.transport.specs.Groups.{rule_at}
+use Rattle.store_defs.specs.Labelings.{HasPlaces, KeepsIds}
+use Rattle.store_defs.specs.Groups.{rule_at}
 use Rattle.map_core.proofs.restore.open_places.Given as goal
 
 abbrev pub invariant-loop-dim : goal.invariant-loop-dim

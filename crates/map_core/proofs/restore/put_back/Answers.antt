@@ -1,6 +1,6 @@
 use Rattle.std.proofs.Common.{ℕ, ◌∙◌, List, length, Option, inr, ap, arith}
 use Rattle.map_defs.specs.Values.{Rule}
-use Rattle.map_defs.specs.Difference.{unruled}
+use Rattle.machine_defs.specs.Difference.{unruled}
 use Rattle.label_laws.specs.Contents.{all_rules}
 use Rattle.map_core.proofs.RulesBack.{placed-long, placed-is, unruled-long, all-is}
 use Rattle.map_core.proofs.restore.put_back.Goals as goal

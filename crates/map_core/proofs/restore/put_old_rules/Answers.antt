@@ -1,6 +1,6 @@
 use Rattle.std.proofs.Common.{ℕ, ◌≡◌, ◌-◌, ◌<◌, ◌∙◌, List, length, drop, Option, sym, ap, arith}
 use Rattle.map_defs.specs.Values.{Rule}
-use Rattle.map_defs.specs.Difference.{RuleChange}
+use Rattle.machine_defs.specs.Difference.{RuleChange}
 use Rattle.map_core.proofs.RulesBack.{unruled-long}
 use Rattle.map_core.proofs.restore.put_old_rules.Goals as goal
 

@@ -1,5 +1,5 @@
 use Rattle.std.proofs.Common.{◌≡◌, drop}
-use Rattle.map_defs.specs.Difference.{unruled}
+use Rattle.machine_defs.specs.Difference.{unruled}
 use Rattle.map_core.proofs.restore.put_old_rules.Given as goal
 
 abbrev pub invariant-loop-index : goal.invariant-loop-index

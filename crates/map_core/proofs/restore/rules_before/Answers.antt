@@ -1,5 +1,5 @@
 use Rattle.std.proofs.Common.{ℕ, ◌-◌, ◌<◌, ◌∙◌, List, length, Contains, sym, ap, subst, arith}
-use Rattle.map_defs.specs.Difference.{Difference, RuleChange}
+use Rattle.machine_defs.specs.Difference.{Difference, RuleChange}
 use Rattle.map_core.proofs.restore.rules_before.Goals as goal
 
 pub put_back-requires-clause-low : goal.put_back-requires-clause-low

@@ -1,7 +1,7 @@
 use Rattle.std.proofs.Common.{ℕ, ◌⊎◌, ◌+◌, List, [], inl, inr, sym, ap, take, subst, take_all}
 use Rattle.map_defs.specs.Rows.{Rows}
 use Rattle.map_defs.specs.Edits.{Edit}
-use Rattle.map_defs.specs.Difference.{Difference}
+use Rattle.machine_defs.specs.Difference.{Difference}
 use Rattle.map_core.specs.Changing.{AreAdded}
 use Rattle.map_core.specs.Undoing.{IsNearEdit, IsNearStep}
 use Rattle.map_core.proofs.Adding.{added-none, added-then, added-told}

@@ -3,9 +3,9 @@ use Rattle.map_defs.specs.Kind.{Kind}
 use Rattle.map_defs.specs.Laws.{Laws}
 use Rattle.map_defs.specs.Rows.{Rows, IsLive, IsSound, links_of}
 use Rattle.map_defs.specs.Values.{Rule}
-use Rattle.map_defs.specs.Difference.{Difference}
-use Rattle.transport.specs.Groups.{Group, rule_at}
-use Rattle.label_laws.specs.Stored.{worth}
+use Rattle.machine_defs.specs.Difference.{Difference}
+use Rattle.store_defs.specs.Groups.{Group, rule_at}
+use Rattle.label_laws.specs.Stored.{stored_value}
 use Rattle.label_laws.specs.Changing.{AreRelabelled, IsGroupedBelow}
 use Rattle.label_laws.specs.Contents.{content_of}
 use Rattle.label_laws.specs.Maps.{IsStoredMap}
@@ -67,7 +67,7 @@ relabel-requires g c =
     let gs : List Group = c.in-Ok.groups.items in
     let long = rw c.dimension.ensures.dimension at c.in_ok-before.ensures.long in
     let back = rw c.dimension.ensures.dimension at c.in_ok-before.ensures.rules in
-    let cells = subst (λ (r : Rows). AreRestored k (links_of r) (IsLive r) (λ i. IsSome (rule_at before i)) (IsStepped k r steps) (λ i d. value_before steps i d (worth c.args.pool.now c.args.labels.now i d)) gs) c.links_back.ensures.rows c.in-Ok.ensures.cells in
+    let cells = subst (λ (r : Rows). AreRestored k (links_of r) (IsLive r) (λ i. IsSome (rule_at before i)) (IsStepped k r steps) (λ i d. value_before steps i d (stored_value c.args.pool.now c.args.labels.now i d)) gs) c.links_back.ensures.rows c.in-Ok.ensures.cells in
     let most = before-made k n rows c.args.labels.now c.args.pool.now c.args.rules.now c.requires.stored steps c.requires.steps _ c.requires.room in
     let fit = groups-fit k n rows c.args.labels.now c.args.pool.now c.args.rules.now c.requires.stored steps c.requires.steps before long back c.cells_before.new.labels c.cells_before.new.pool
     c.in-Ok.ensures.ids c.in-Ok.ensures.slots gs cells c.in-Ok.ensures.made c.in-Ok.ensures.places most c.take_values.new.labels c.take_values.ensures.made c.take_values.ensures.places in
@@ -83,7 +83,7 @@ returns-in-Ok-clause-stored g c =
     let gs : List Group = c.in-Ok.groups.items in
     let long = rw c.dimension.ensures.dimension at c.in_ok-before.ensures.long in
     let back = rw c.dimension.ensures.dimension at c.in_ok-before.ensures.rules in
-    let cells = subst (λ (r : Rows). AreRestored k (links_of r) (IsLive r) (λ i. IsSome (rule_at before i)) (IsStepped k r steps) (λ i d. value_before steps i d (worth c.args.pool.now c.args.labels.now i d)) gs) c.links_back.ensures.rows c.in-Ok.ensures.cells in
+    let cells = subst (λ (r : Rows). AreRestored k (links_of r) (IsLive r) (λ i. IsSome (rule_at before i)) (IsStepped k r steps) (λ i d. value_before steps i d (stored_value c.args.pool.now c.args.labels.now i d)) gs) c.links_back.ensures.rows c.in-Ok.ensures.cells in
     let most = before-made k n rows c.args.labels.now c.args.pool.now c.args.rules.now c.requires.stored steps c.requires.steps _ c.requires.room in
     let given = subst (λ (hs : List Group). AreRelabelled (λ i d. ((i < n + 1) × Contains [] d) ⊎ IsGroupedBelow (length hs) hs i d) hs c.take_values.new.labels c.relabel.new.labels c.take_values.new.pool c.relabel.new.pool) c.deref.ensures.value c.relabel.ensures in
     let stored = back-stored k n rows c.args.labels.now c.args.pool.now c.args.rules.now c.requires.stored steps c.requires.steps before long back c.cells_before.new.labels c.cells_before.new.pool
@@ -101,7 +101,7 @@ returns-in-Ok-clause-back g c =
     let gs : List Group = c.in-Ok.groups.items in
     let long = rw c.dimension.ensures.dimension at c.in_ok-before.ensures.long in
     let back = rw c.dimension.ensures.dimension at c.in_ok-before.ensures.rules in
-    let cells = subst (λ (r : Rows). AreRestored k (links_of r) (IsLive r) (λ i. IsSome (rule_at before i)) (IsStepped k r steps) (λ i d. value_before steps i d (worth c.args.pool.now c.args.labels.now i d)) gs) c.links_back.ensures.rows c.in-Ok.ensures.cells in
+    let cells = subst (λ (r : Rows). AreRestored k (links_of r) (IsLive r) (λ i. IsSome (rule_at before i)) (IsStepped k r steps) (λ i d. value_before steps i d (stored_value c.args.pool.now c.args.labels.now i d)) gs) c.links_back.ensures.rows c.in-Ok.ensures.cells in
     let most = before-made k n rows c.args.labels.now c.args.pool.now c.args.rules.now c.requires.stored steps c.requires.steps _ c.requires.room in
     let given = subst (λ (hs : List Group). AreRelabelled (λ i d. ((i < n + 1) × Contains [] d) ⊎ IsGroupedBelow (length hs) hs i d) hs c.take_values.new.labels c.relabel.new.labels c.take_values.new.pool c.relabel.new.pool) c.deref.ensures.value c.relabel.ensures in
     let content = back-content k n rows c.args.labels.now c.args.pool.now c.args.rules.now c.requires.stored steps c.requires.steps before long back c.cells_before.new.labels c.cells_before.new.pool

@@ -1,5 +1,5 @@
 use Rattle.std.proofs.Common.{ℕ, ◌⊎◌, ◌+◌, ◌≤◌, ◌∙◌, List, Contains, inl, inr, sym, ap, take, subst, take_all, lit<, arith}
-use Rattle.map_defs.specs.Difference.{Difference, ValueChange}
+use Rattle.machine_defs.specs.Difference.{Difference, ValueChange}
 use Rattle.label_laws.specs.Changing.{AreTaken}
 use Rattle.label_laws.proofs.Taking.{taken-none, taken-as, taken-then}
 use Rattle.map_core.specs.Undoing.{IsValueChanged, IsRevalued}

@@ -1,6 +1,6 @@
 -- What is left of the files holds what all of them hold.
 use Rattle.std.proofs.Common.{◌≡◌, drop}
-use Rattle.map_defs.specs.Outside.{held}
+use Rattle.machine_defs.specs.Outside.{held}
 use Rattle.map_io.specs.Held.{files_of}
 use Rattle.map_io.proofs.sure.find.Given as goal
 

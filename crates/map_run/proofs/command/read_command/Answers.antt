@@ -2,7 +2,7 @@ use Rattle.std.proofs.Common.{◌≡◌, ◌≤◌, List, ◌∷◌, [], map, le
 use Rattle.std.specs.declared.alloc.Global.{Global}
 use Rattle.std.proofs.lemmas.Bool.{true≢false}
 use Rattle.map_defs.specs.Kind.{alpha}
-use Rattle.map_defs.specs.Program.{RunScript}
+use Rattle.machine_defs.specs.Program.{RunScript}
 use Rattle.map_run.specs.Commands.{number, mesh_name}
 use Rattle.map_run.specs.declared.command.Dimension.{Dimension}
 use Rattle.map_run.specs.declared.command.Dimension.TheVariants.{Two, Three, Four}

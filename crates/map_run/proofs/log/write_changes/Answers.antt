@@ -2,11 +2,11 @@ use Rattle.std.proofs.Common.{ℕ, List, ◌++◌, Option, Result, Ok, Err, ap, 
 use Rattle.std.specs.List.{flat_map}
 use Rattle.std.proofs.lemmas.Result.{err_from_is_err_and}
 use Rattle.map_io.specs.declared.sink.PutFault.{PutFault}
-use Rattle.map_defs.specs.Difference.{ValueChange, RuleChange, Difference}
+use Rattle.machine_defs.specs.Difference.{ValueChange, RuleChange, Difference}
 use Rattle.map_defs.specs.Edits.{Change}
 use Rattle.undo_journal.specs.contracts.step.Step.{the_view}
-use Rattle.map_defs.specs.LogText.{link_change_text, value_change_text, rule_change_text}
-use Rattle.map_run.specs.Writing.{Writes}
+use Rattle.machine_defs.specs.LogText.{link_change_text, value_change_text, rule_change_text}
+use Rattle.map_run.specs.Writing.{WritesText}
 use Rattle.map_run.specs.LogLines.{changes_text}
 use Rattle.map_run.proofs.RowTexts.{texts-end}
 use Rattle.map_run.proofs.LogTexts.{link_change-ends, value_change-ends}
@@ -33,13 +33,13 @@ rules_text s = flat_map rule_change_text s.rules
 
 -- lines, and what is behind them
 module _ (before middle after : Option (List ℕ)) (result : Result (Unit {0}) PutFault) (s : Difference) where
-  behind-links : (done : Unit {0}) → Writes before middle (Ok done) (links_text s) → Writes middle after result (values_text s ++ rules_text s)
-      → Writes before after result (changes_text s)
+  behind-links : (done : Unit {0}) → WritesText before middle (Ok done) (links_text s) → WritesText middle after result (values_text s ++ rules_text s)
+      → WritesText before after result (changes_text s)
   behind-links done told rest =
       Writes-then before middle after result (links_text s) (values_text s ++ rules_text s) (HasWritten-from before middle done (links_text s) told (texts-end link_change_text link_change-ends s.edit.changes)) rest
 
-  behind-values : (done : Unit {0}) → Writes before middle (Ok done) (values_text s) → Writes middle after result (rules_text s)
-      → Writes before after result (values_text s ++ rules_text s)
+  behind-values : (done : Unit {0}) → WritesText before middle (Ok done) (values_text s) → WritesText middle after result (rules_text s)
+      → WritesText before after result (values_text s ++ rules_text s)
   behind-values done told rest =
       Writes-then before middle after result (values_text s) (rules_text s) (HasWritten-from before middle done (values_text s) told (texts-end value_change_text value_change-ends s.values)) rest
 

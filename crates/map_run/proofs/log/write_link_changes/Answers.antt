@@ -2,7 +2,7 @@ use Rattle.std.proofs.Common.{◌≡◌, ℕ, ◌+◌, ◌<◌, ◌++◌, List, 
 use Rattle.std.proofs.lemmas.Result.{err_from_is_err_and}
 use Rattle.std.specs.List.{flat_map}
 use Rattle.map_defs.specs.Edits.{Change}
-use Rattle.map_defs.specs.LogText.{link_change_text}
+use Rattle.machine_defs.specs.LogText.{link_change_text}
 use Rattle.map_run.proofs.RowTexts.{texts-more, texts-rest}
 use Rattle.map_run.proofs.LogTexts.{link_change-ends}
 use Rattle.map_run.proofs.WritingFacts.{Writes-then, Writes-cut, HasWritten-from, HasWritten-then}

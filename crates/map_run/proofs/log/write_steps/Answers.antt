@@ -1,7 +1,7 @@
 use Rattle.std.proofs.Common.{ℕ, ◌+◌, ◌++◌, List, take, Err, arith}
 use Rattle.std.proofs.lemmas.Result.{err_from_is_err_and}
-use Rattle.map_defs.specs.Difference.{Difference}
-use Rattle.map_defs.specs.LogText.{step_text, steps_text}
+use Rattle.machine_defs.specs.Difference.{Difference}
+use Rattle.machine_defs.specs.LogText.{step_text, steps_text}
 use Rattle.map_run.proofs.LogTexts.{steps_text-more, steps_text-rest, step-ends}
 use Rattle.map_run.proofs.WritingFacts.{Writes-then, Writes-cut, HasWritten-from, HasWritten-then}
 use Rattle.map_run.proofs.log.write_steps.Goals as goal

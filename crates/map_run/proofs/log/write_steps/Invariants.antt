@@ -1,5 +1,5 @@
 use Rattle.std.proofs.Common.{◌≤◌, take}
-use Rattle.map_defs.specs.LogText.{steps_text}
+use Rattle.machine_defs.specs.LogText.{steps_text}
 use Rattle.map_run.specs.Writing.{HasWritten}
 use Rattle.map_run.proofs.log.write_steps.Given as goal
 

@@ -1,6 +1,6 @@
 use Rattle.std.proofs.Common.{◌≤◌, take}
 use Rattle.std.specs.List.{flat_map}
-use Rattle.map_defs.specs.LogText.{value_change_text}
+use Rattle.machine_defs.specs.LogText.{value_change_text}
 use Rattle.map_run.specs.Writing.{HasWritten}
 use Rattle.map_run.proofs.log.write_value_changes.Given as goal
 

@@ -1,5 +1,5 @@
 use Rattle.std.proofs.Common.{◌≡◌, Some, lit<}
-use Rattle.map_defs.specs.Script.{Face, line_of}
+use Rattle.machine_defs.specs.Script.{Face, line_of}
 use Rattle.map_run.specs.Lines.{IsTold}
 use Rattle.map_run.proofs.FacePaths.{path-short}
 use Rattle.map_run.proofs.machine.change.Goals as goal

@@ -1,4 +1,4 @@
-use Rattle.map_defs.specs.Script.{words_of}
+use Rattle.map_defs.specs.TextWords.{words_of}
 use Rattle.script_text.specs.Meanings.{line_meaning}
 use Rattle.std.proofs.Common.{lit<, refl}
 use Rattle.map_run.specs.Lines.{IsTold}

@@ -1,7 +1,7 @@
 use Rattle.std.proofs.Common.{◌≡◌, ℕ, List, ◌∷◌, [], ◌++◌, Option, refl, sym, ap, subst, ◌∙◌, append_assoc, arith, lit<}
 use Rattle.std.specs.Borrow.{Bor}
 use Rattle.std.proofs.lemmas.Result.{err_from_is_err_and}
-use Rattle.map_defs.specs.Script.{lines_of}
+use Rattle.machine_defs.specs.Script.{lines_of}
 use Rattle.map_run.specs.Lines.{lines_after}
 use Rattle.map_run.proofs.WritingFacts.{Appended-nothing}
 use Rattle.map_run.proofs.RunFacts.{Going-more, Going-cut}

@@ -1,5 +1,5 @@
 use Rattle.std.proofs.Common.{◌≡◌, ℕ, ◌≤◌, List, ◌++◌}
-use Rattle.map_defs.specs.Script.{lines_of}
+use Rattle.machine_defs.specs.Script.{lines_of}
 use Rattle.map_run.specs.Lines.{lines_after}
 use Rattle.map_run.specs.Going.{IsGoing}
 use Rattle.map_run.proofs.Rest.{rest_size}

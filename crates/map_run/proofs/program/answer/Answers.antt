@@ -1,6 +1,6 @@
 use Rattle.std.proofs.Common.{map, string_bytes, refl, inl, inr, lit≤}
-use Rattle.map_defs.specs.Outside.{Rose}
-use Rattle.map_defs.specs.Program.{untold, usage}
+use Rattle.machine_defs.specs.Outside.{Rose}
+use Rattle.machine_defs.specs.Program.{untold, usage}
 use Rattle.map_run.specs.Commands.{command_of}
 use Rattle.map_run.proofs.EndingFacts.{Ends-last}
 use Rattle.map_run.proofs.program.answer.Goals as goal

@@ -1,5 +1,5 @@
 use Rattle.std.proofs.Common.{map, string_bytes}
-use Rattle.map_defs.specs.Outside.{Rose}
+use Rattle.machine_defs.specs.Outside.{Rose}
 use Rattle.map_run.proofs.EndingFacts.{EndsWhole-from}
 use Rattle.map_run.proofs.program.run.Goals as goal
 

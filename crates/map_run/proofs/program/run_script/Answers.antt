@@ -1,7 +1,7 @@
 use Rattle.std.proofs.Common.{lit≤}
 use Rattle.map_defs.specs.Kind.{alpha}
-use Rattle.map_defs.specs.Outside.{Rose}
-use Rattle.map_defs.specs.Program.{too_long, told}
+use Rattle.machine_defs.specs.Outside.{Rose}
+use Rattle.machine_defs.specs.Program.{too_long, told}
 use Rattle.map_run.specs.Commands.{number, mesh_name, command_of}
 use Rattle.map_run.specs.Texts.{mesh_bytes}
 use Rattle.map_run.proofs.EndingFacts.{Ends-last, Ends-nothing, Ends-texts}

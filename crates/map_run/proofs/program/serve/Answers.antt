@@ -1,7 +1,7 @@
 use Rattle.std.proofs.Common.{◌≡◌, ℕ, ◌≤◌, map, string_bytes, arith, ◌≢◌, Result, Err}
 use Rattle.map_io.specs.declared.sink.PutFault.{PutFault}
 use Rattle.map_io.specs.declared.sink.PutFault.TheVariants.{Failed, NoMemory}
-use Rattle.map_defs.specs.Outside.{Rose}
+use Rattle.machine_defs.specs.Outside.{Rose}
 use Rattle.map_run.proofs.EndingFacts.{Ends-flushed, Ends-unflushed}
 use Rattle.map_run.proofs.program.serve.Goals as goal
 

@@ -2,10 +2,11 @@ use Rattle.std.proofs.Common.{◌≡◌, ℕ, List, [], ◌++◌, Option, Result
 use Rattle.std.specs.List.{flat_map}
 use Rattle.std.proofs.lemmas.Result.{err_from_is_err_and}
 use Rattle.map_io.specs.declared.sink.PutFault.{PutFault}
-use Rattle.map_defs.specs.Text.{header_text, row_text, value_text, listing_text, ended, letter, spaced}
-use Rattle.map_defs.specs.Listing.{ListRow, ListValue, Listing}
-use Rattle.map_defs.specs.Program.{EndsLine}
-use Rattle.map_run.specs.Writing.{Writes}
+use Rattle.machine_defs.specs.Text.{header_text, row_text, value_text, listing_text, ended, spaced}
+use Rattle.map_defs.specs.Kind.{letter}
+use Rattle.machine_defs.specs.Listing.{ListRow, ListValue, Listing}
+use Rattle.machine_defs.specs.Program.{EndsLine}
+use Rattle.map_run.specs.Writing.{WritesText}
 use Rattle.map_run.proofs.RowTexts.{texts-end, row-ends, value-ends}
 use Rattle.map_run.proofs.WritingFacts.{Writes-then, Writes-cut, Writes-put, HasWritten-from}
 use Rattle.map_run.proofs.reply.write_listing.Goals as goal
@@ -35,24 +36,24 @@ returns-in_err-write_header-clause-written g c =
     let p = err_from_is_err_and c.from_residual.result c.from_residual.ensures.1 in
     let here = rw c.in_err-write_header.was at c.write_header.ensures.written in
     rw (p.1, p.2)
-    (subst (Writes (g.S.Sink.written c.args.out.now) (g.S.Sink.written c.write_header.new.out) (Err c.in_err-write_header.field-0.0)) (sym (parts l))
+    (subst (WritesText (g.S.Sink.written c.args.out.now) (g.S.Sink.written c.write_header.new.out) (Err c.in_err-write_header.field-0.0)) (sym (parts l))
     (Writes-cut (g.S.Sink.written c.args.out.now) (g.S.Sink.written c.write_header.new.out) c.in_err-write_header.field-0.0 (header_text l) (rows_text l ++ (values_text l ++ ended (codes "end"))) here))
 
 -- the first line, and the rows behind it
 module _ (before middle after : Option (List ℕ)) (result : Result (Unit {0}) PutFault) (l : Listing) where
-  behind-header : (done : Unit {0}) → Writes before middle (Ok done) (header_text l) → Writes middle after result (rows_text l ++ (values_text l ++ ended (codes "end")))
-      → Writes before after result (listing_text l)
+  behind-header : (done : Unit {0}) → WritesText before middle (Ok done) (header_text l) → WritesText middle after result (rows_text l ++ (values_text l ++ ended (codes "end")))
+      → WritesText before after result (listing_text l)
   behind-header done head rest =
-      subst (Writes before after result) (sym (parts l))
+      subst (WritesText before after result) (sym (parts l))
       (Writes-then before middle after result (header_text l) (rows_text l ++ (values_text l ++ ended (codes "end"))) (HasWritten-from before middle done (header_text l) head (header_ends l)) rest)
 
-  behind-rows : (done : Unit {0}) → Writes before middle (Ok done) (rows_text l) → Writes middle after result (values_text l ++ ended (codes "end"))
-      → Writes before after result (rows_text l ++ (values_text l ++ ended (codes "end")))
+  behind-rows : (done : Unit {0}) → WritesText before middle (Ok done) (rows_text l) → WritesText middle after result (values_text l ++ ended (codes "end"))
+      → WritesText before after result (rows_text l ++ (values_text l ++ ended (codes "end")))
   behind-rows done rows rest =
       Writes-then before middle after result (rows_text l) (values_text l ++ ended (codes "end")) (HasWritten-from before middle done (rows_text l) rows (texts-end row_text row-ends l.rows)) rest
 
-  behind-values : (done : Unit {0}) → Writes before middle (Ok done) (values_text l) → Writes middle after result (ended (codes "end"))
-      → Writes before after result (values_text l ++ ended (codes "end"))
+  behind-values : (done : Unit {0}) → WritesText before middle (Ok done) (values_text l) → WritesText middle after result (ended (codes "end"))
+      → WritesText before after result (values_text l ++ ended (codes "end"))
   behind-values done values rest =
       Writes-then before middle after result (values_text l) (ended (codes "end")) (HasWritten-from before middle done (values_text l) values (texts-end value_text value-ends l.values)) rest
 

@@ -1,8 +1,8 @@
 use Rattle.std.proofs.Common.{◌≡◌, ℕ, ◌+◌, ◌<◌, ◌++◌, List, length, take, slice_index_or, Err, sym, ap, ◌∙◌, arith}
 use Rattle.std.proofs.lemmas.Result.{err_from_is_err_and}
 use Rattle.std.specs.List.{flat_map}
-use Rattle.map_defs.specs.Listing.{ListRow}
-use Rattle.map_defs.specs.Text.{row_text}
+use Rattle.machine_defs.specs.Listing.{ListRow}
+use Rattle.machine_defs.specs.Text.{row_text}
 use Rattle.map_run.proofs.RowTexts.{texts-more, texts-rest, row-ends}
 use Rattle.map_run.proofs.WritingFacts.{Writes-then, Writes-cut, HasWritten-from, HasWritten-then}
 use Rattle.map_run.proofs.reply.write_rows.Goals as goal

@@ -1,6 +1,6 @@
 use Rattle.std.proofs.Common.{◌≤◌, take}
 use Rattle.std.specs.List.{flat_map}
-use Rattle.map_defs.specs.Text.{row_text}
+use Rattle.machine_defs.specs.Text.{row_text}
 use Rattle.map_run.specs.Writing.{HasWritten}
 use Rattle.map_run.proofs.reply.write_rows.Given as goal
 

@@ -1,6 +1,6 @@
 use Rattle.std.proofs.Common.{ℕ, ◌+◌, List, ◌∷◌, take, sym, ap, ◌∙◌}
 use Rattle.std.proofs.lemmas.List.{take_rest}
-use Rattle.map_defs.specs.Script.{lines_of}
+use Rattle.machine_defs.specs.Script.{lines_of}
 use Rattle.map_run.proofs.FirstLines.{split_at, split_none}
 use Rattle.map_run.proofs.script.next_line.Goals as goal
 

@@ -1,5 +1,5 @@
 use Rattle.std.proofs.Common.{◌≡◌, ◌^◌, ◌-◌, min, take}
-use Rattle.map_defs.specs.Script.{value_of}
+use Rattle.map_defs.specs.TextWords.{value_of}
 use Rattle.off_text.proofs.number.capped_value.Given as goal
 
 abbrev pub invariant-loop-digit : goal.invariant-loop-digit

@@ -1,7 +1,7 @@
 use Rattle.std.proofs.Common.{◌≡◌, ℕ, ◌+◌, ◌<◌, List, [], ◌∷◌, ◌++◌, length, take, get_or, arith, ap, ◌∙◌, sym, append_assoc}
 use Rattle.std.proofs.lemmas.List.{take_more, length-take-le, append-nil}
-use Rattle.map_defs.specs.Difference.{Difference}
-use Rattle.map_defs.specs.LogText.{step_text, steps_text}
+use Rattle.machine_defs.specs.Difference.{Difference}
+use Rattle.machine_defs.specs.LogText.{step_text, steps_text}
 use Rattle.script_text.proofs.log.append_steps.Goals as goal
 
 -- steps behind others are numbered on

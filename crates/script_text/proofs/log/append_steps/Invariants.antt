@@ -1,5 +1,5 @@
 use Rattle.std.proofs.Common.{◌≡◌, ◌++◌, take}
-use Rattle.map_defs.specs.LogText.{steps_text}
+use Rattle.machine_defs.specs.LogText.{steps_text}
 use Rattle.script_text.proofs.log.append_steps.Given as goal
 
 abbrev pub invariant-loop-index : goal.invariant-loop-index

@@ -1,7 +1,7 @@
 use Rattle.std.proofs.Common.{◌≡◌, ℕ, List, ◌++◌, ◌∷◌, w64, append_assoc}
 use Rattle.std.specs.Fmt.{signed_decimal}
 use Rattle.std.proofs.lemmas.Int.{to_z-of_z}
-use Rattle.map_defs.specs.Text.{spaced_signed}
+use Rattle.machine_defs.specs.Text.{spaced_signed}
 use Rattle.script_text.proofs.log.append_triple.Goals as goal
 
 -- the pieces of the text, one behind another

@@ -1,6 +1,6 @@
 use Rattle.std.proofs.Common.{◌≡◌, ◌++◌, take}
 use Rattle.std.specs.List.{flat_map}
-use Rattle.map_defs.specs.LogText.{value_change_text}
+use Rattle.machine_defs.specs.LogText.{value_change_text}
 use Rattle.script_text.proofs.log.append_value_changes.Given as goal
 
 abbrev pub invariant-loop-change : goal.invariant-loop-change

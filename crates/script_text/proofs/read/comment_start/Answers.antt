@@ -1,5 +1,5 @@
 use Rattle.std.proofs.Common.{length, unwrap_or, ◌∙◌, ap}
-use Rattle.map_defs.specs.Script.{is_comment_sign}
+use Rattle.map_defs.specs.TextWords.{is_comment_sign}
 use Rattle.script_text.proofs.FirstSigns.{position-or_end}
 use Rattle.script_text.proofs.read.comment_start.Goals as goal
 

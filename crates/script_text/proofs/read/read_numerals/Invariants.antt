@@ -1,5 +1,5 @@
 use Rattle.std.proofs.Common.{◌≡◌, map, drop}
-use Rattle.map_defs.specs.Script.{numerals}
+use Rattle.machine_defs.specs.Script.{numerals}
 use Rattle.script_text.specs.Reading.{now_of}
 use Rattle.script_text.proofs.ReadWords.{behind}
 use Rattle.script_text.proofs.read.read_numerals.Given as goal

@@ -1,7 +1,7 @@
 use Rattle.std.proofs.Common.{refl, sym, ◌∙◌, rules}
 use Rattle.std.proofs.lemmas.List.Folds.{list_all-map}
 use Rattle.std.proofs.Math.Bool.{and-false}
-use Rattle.map_defs.specs.Script.{is_text}
+use Rattle.map_defs.specs.TextWords.{is_text}
 use Rattle.script_text.specs.Reading.{now_of}
 use Rattle.script_text.proofs.read.read_words.Goals as goal
 

@@ -1,7 +1,7 @@
 use Rattle.std.proofs.Common.{rules, tests}
 use Rattle.std.proofs.lemmas.Iterator.Consumers.{map_from_collect, YieldsList-at, YieldsList-from_filter}
 use Rattle.std.proofs.lemmas.Iterator.Splits.{YieldsList-from_slice_split}
-use Rattle.map_defs.specs.Script.{is_blank, is_word}
+use Rattle.map_defs.specs.TextWords.{is_blank, is_word}
 use Rattle.script_text.proofs.read.split_words.Goals as goal
 
 pub returns : goal.returns

@@ -1,6 +1,6 @@
 use Rattle.std.proofs.Common.{◌≡◌, ◌++◌, take, codes}
 use Rattle.std.specs.List.{flat_map}
-use Rattle.map_defs.specs.Text.{spaced}
+use Rattle.machine_defs.specs.Text.{spaced}
 use Rattle.script_text.proofs.reply.append_cell.Given as goal
 
 abbrev pub invariant-loop-dart : goal.invariant-loop-dart

@@ -1,6 +1,6 @@
 use Rattle.std.proofs.Common.{◌≡◌, ℕ, ◌++◌, ◌∷◌, [], List, codes, w64, append_assoc}
 use Rattle.std.proofs.lemmas.Int.{to_z-of_z}
-use Rattle.map_defs.specs.Text.{spaced_signed}
+use Rattle.machine_defs.specs.Text.{spaced_signed}
 use Rattle.script_text.proofs.reply.append_numbers.Goals as goal
 
 -- the pieces of the reply, one behind another

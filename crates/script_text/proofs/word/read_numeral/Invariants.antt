@@ -1,5 +1,5 @@
 use Rattle.std.proofs.Common.{◌≡◌, ◌^◌, ◌<◌, take}
-use Rattle.map_defs.specs.Script.{value_of}
+use Rattle.map_defs.specs.TextWords.{value_of}
 use Rattle.script_text.proofs.word.read_numeral.Given as goal
 
 abbrev pub invariant-loop-digit : goal.invariant-loop-digit

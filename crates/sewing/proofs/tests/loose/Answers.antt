@@ -2,7 +2,7 @@ use Rattle.std.proofs.Common.{◌≡◌, ◌+◌, ◌≤◌, ◌∷◌, [], None
 use Rattle.std.proofs.lemmas.Bool.{cases_lt}
 use Rattle.map_defs.specs.Kind.{alpha}
 use Rattle.map_defs.specs.Rows.{made_max}
-use Rattle.link_rows.proofs.EditPlain.{births-fit}
+use Rattle.edit_laws.proofs.EditPlain.{births-fit}
 use Rattle.sewing.proofs.TestMaps.{none-sound, born-laws}
 use Rattle.sewing.proofs.tests.loose.Goals as goal
 

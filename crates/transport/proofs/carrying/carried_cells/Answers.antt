@@ -1,10 +1,10 @@
 use Rattle.std.proofs.Common.{◌≡◌, ◌<◌, ℕ, List, length, lit<, sym, refl, subst, Some, IsSome, arith}
 use Rattle.map_defs.specs.Rows.{IsLive, links_of}
 use Rattle.map_defs.specs.Values.{meaning_of}
-use Rattle.attr_pool.specs.Stores.{IsHeld}
-use Rattle.attr_pool.specs.Labelings.{id_of}
+use Rattle.store_defs.specs.Stores.{IsHeld}
+use Rattle.store_defs.specs.Labelings.{id_of}
 use Rattle.transport.specs.declared.pieces.Piece.{Piece}
-use Rattle.transport.specs.Groups.{Group, rule_at}
+use Rattle.store_defs.specs.Groups.{Group, rule_at}
 use Rattle.transport.specs.Pieces.{piece_at, AreAllPieces, AreMerged}
 use Rattle.transport.specs.Gathered.{AreApart}
 use Rattle.transport.proofs.Finding.{sound_classes}

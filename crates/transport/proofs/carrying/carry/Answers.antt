@@ -1,7 +1,7 @@
 use Rattle.std.proofs.Common.{◌<◌, ◌+◌, List, IsSome, refl, sym, subst, arith}
 use Rattle.map_defs.specs.Rows.{IsLive, links_of}
-use Rattle.attr_pool.specs.Labelings.{id_of}
-use Rattle.transport.specs.Groups.{Group}
+use Rattle.store_defs.specs.Labelings.{id_of}
+use Rattle.store_defs.specs.Groups.{Group}
 use Rattle.transport.specs.Joined.{IsCarriedCell, IsWanted, AreAllOf}
 use Rattle.transport.proofs.JoinFacts.{all_joined, all_touched, all_carried}
 use Rattle.map_defs.specs.Values.{meaning_of}

@@ -1,6 +1,6 @@
 use Rattle.std.proofs.Common.{◌<◌}
 use Rattle.map_defs.specs.Rows.{IsLive, links_of}
-use Rattle.attr_pool.specs.Labelings.{id_of}
+use Rattle.store_defs.specs.Labelings.{id_of}
 use Rattle.transport.specs.Joined.{IsCarriedCell, IsWanted, AreAllOf}
 use Rattle.transport.proofs.carrying.carry.Given as goal
 

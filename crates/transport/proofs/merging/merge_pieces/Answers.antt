@@ -1,6 +1,6 @@
 use Rattle.std.proofs.Common.{◌≡◌, ◌<◌, ◌∙◌, length, sym, ap, subst, inl, inr, arith, true}
 use Rattle.std.proofs.lemmas.List.{get_or_default}
-use Rattle.transport.specs.Groups.{Group, no_group, group_at}
+use Rattle.store_defs.specs.Groups.{Group, no_group, group_at}
 use Rattle.transport.specs.Pieces.{piece_at, has_id}
 use Rattle.transport.specs.declared.pieces.Piece.{Piece}
 use Rattle.map_defs.specs.Carry.{merged_with}

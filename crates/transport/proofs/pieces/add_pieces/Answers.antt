@@ -1,5 +1,5 @@
 use Rattle.std.proofs.Common.{◌≡◌, ◌∙◌, ap}
-use Rattle.transport.specs.Groups.{Group}
+use Rattle.store_defs.specs.Groups.{Group}
 use Rattle.transport.proofs.Gathering.{read_dart, gathered_more}
 use Rattle.transport.proofs.pieces.add_pieces.Goals as goal
 

@@ -1,4 +1,4 @@
-use Rattle.attr_pool.specs.Labelings.{id_of}
+use Rattle.store_defs.specs.Labelings.{id_of}
 use Rattle.transport.specs.Tallies.{met_in}
 use Rattle.transport.specs.Gathered.{AreGathered}
 use Rattle.transport.proofs.pieces.add_pieces.Given as goal

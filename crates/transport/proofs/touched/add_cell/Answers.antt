@@ -3,7 +3,7 @@ use Rattle.std.proofs.lemmas.Bool.{false≢true}
 use Rattle.map_defs.specs.Rows.{links_of}
 use Rattle.map_defs.specs.Cells.{InCell}
 use Rattle.cell_walk.proofs.SeenDarts.{seen-has}
-use Rattle.transport.specs.Groups.{Group}
+use Rattle.store_defs.specs.Groups.{Group}
 use Rattle.transport.specs.Found.{IsNewCell}
 use Rattle.transport.proofs.touched.add_cell.Goals as goal
 

@@ -1,7 +1,7 @@
 use Rattle.std.proofs.Common.{rules, ◌∙◌}
 use Rattle.std.proofs.lemmas.List.{get_or_default}
 use Rattle.std.proofs.lemmas.List.Sorted.{IsNonDecreasingBy-from_sort_by_key}
-use Rattle.transport.specs.Groups.{least_of}
+use Rattle.store_defs.specs.Groups.{least_of}
 use Rattle.transport.proofs.Finding.{sound_classes, found_more, found_sorted}
 use Rattle.transport.proofs.touched.touched_cells.Goals as goal
 

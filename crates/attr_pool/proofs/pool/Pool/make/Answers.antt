@@ -1,7 +1,7 @@
 use Rattle.std.proofs.Common.{◌≡◌, ◌<◌, ◌≤◌, ◌∷◌, ◌+◌, true, None, Some, drop, length, sym, ap, ◌∙◌, arith, length-set}
 use Rattle.std.proofs.lemmas.List.{get_or_past, get_or_read}
 use Rattle.dart_arena.proofs.RowLemmas.{count-revived}
-use Rattle.attr_pool.specs.Kept.{slots_of, no_value}
+use Rattle.attr_pool.specs.Pools.{slots_of, no_value}
 use Rattle.attr_pool.proofs.PairedLists.{length-slots, set-slots, slots-push}
 use Rattle.attr_pool.proofs.PoolSteps.{reusable, is_put, is_put_last, kept_reused, kept_pushed, count-pushed, given_id}
 use Rattle.attr_pool.proofs.pool.Pool.make.Goals as goal

@@ -1,6 +1,6 @@
 use Rattle.std.proofs.Common.{[], ◌∷◌, ◌≡◌, List, None, get_or, refl, sym, subst, rules}
 use Rattle.map_defs.specs.Values.{Value}
-use Rattle.attr_pool.specs.Kept.{slots_of}
+use Rattle.attr_pool.specs.Pools.{slots_of}
 use Rattle.attr_pool.proofs.PoolSteps.{kept_none, bare_none}
 use Rattle.attr_pool.proofs.pool.Pool.new.Goals as goal
 

@@ -1,6 +1,6 @@
 use Rattle.std.proofs.Common.{◌∷◌, None, Some, false, sym, ap, ◌∙◌, arith, length-set}
 use Rattle.dart_arena.proofs.RowLemmas.{count-buried}
-use Rattle.attr_pool.specs.Kept.{slots_of}
+use Rattle.attr_pool.specs.Pools.{slots_of}
 use Rattle.attr_pool.proofs.PairedLists.{set-slots}
 use Rattle.attr_pool.proofs.PoolSteps.{held, is_put_at, kept_released}
 use Rattle.attr_pool.proofs.pool.Pool.release.Goals as goal

@@ -1,6 +1,6 @@
 use Rattle.std.proofs.Common.{Some, sym, ap, ◌∙◌, arith, length-set}
 use Rattle.dart_arena.proofs.RowLemmas.{count-replaced}
-use Rattle.attr_pool.specs.Kept.{slots_of}
+use Rattle.attr_pool.specs.Pools.{slots_of}
 use Rattle.attr_pool.proofs.PairedLists.{set-slots_value}
 use Rattle.attr_pool.proofs.PoolSteps.{held, is_put_at, kept_replaced}
 use Rattle.attr_pool.proofs.pool.Pool.replace.Goals as goal

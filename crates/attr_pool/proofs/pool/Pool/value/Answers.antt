@@ -1,5 +1,5 @@
 use Rattle.std.proofs.Common.{true, false, Some, ◌∙◌, ap, sym, arith}
-use Rattle.attr_pool.specs.Kept.{no_value}
+use Rattle.attr_pool.specs.Pools.{no_value}
 use Rattle.attr_pool.proofs.PoolSteps.{told_value}
 use Rattle.attr_pool.proofs.pool.Pool.value.Goals as goal
 

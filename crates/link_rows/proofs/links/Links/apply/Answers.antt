@@ -1,6 +1,6 @@
 use Rattle.std.proofs.Common.{◌≡◌, ◌<◌, length, ap, ◌∙◌, arith, lit<}
 use Rattle.map_defs.specs.Edits.{Edit, with_changes, after_edit}
-use Rattle.link_rows.proofs.EditSound.{after-sound, length-after, living-changes}
+use Rattle.edit_laws.proofs.EditSound.{after-sound, length-after, living-changes}
 use Rattle.link_rows.proofs.links.Links.apply.Goals as goal
 
 pub bury-requires : goal.bury-requires

@@ -1,6 +1,6 @@
 use Rattle.std.proofs.Common.{◌≡◌, ◌+◌, ◌-◌, length, take, ap, ◌∙◌, arith, lit<}
 use Rattle.map_defs.specs.Edits.{Edit}
-use Rattle.link_rows.proofs.EditBack.{after-of, before-led, before-steps}
+use Rattle.edit_laws.proofs.EditBack.{after-of, before-led, before-steps}
 use Rattle.link_rows.proofs.links.Links.reverse.Goals as goal
 
 pub unbear-requires : goal.unbear-requires

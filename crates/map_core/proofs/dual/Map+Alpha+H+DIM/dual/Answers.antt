@@ -1,7 +1,7 @@
 use Rattle.std.proofs.Common.{◌≡◌, ◌∙◌, sym, refl, inl, inr, arith}
 use Rattle.std.proofs.lemmas.Bool.{cases_eq, false≢true}
 use Rattle.map_defs.specs.Kind.{alpha}
-use Rattle.undo_journal.specs.Trails.{Trail}
+use Rattle.trail_laws.specs.Trails.{Trail}
 use Rattle.label_laws.specs.Contents.{content_of}
 use Rattle.map_core.proofs.DualSteps.{dual-stored, dual-obeyed}
 use Rattle.map_core.proofs.Journaled.{unmarked-journaled, unmarked-stepped}

@@ -3,8 +3,8 @@ use Rattle.map_defs.specs.Kind.{alpha}
 use Rattle.map_defs.specs.Rows.{Rows, made}
 use Rattle.map_defs.specs.Edits.{Edit, after_edit}
 use Rattle.map_defs.specs.Values.{Rule}
-use Rattle.map_defs.specs.Difference.{ValueChange, RuleChange}
-use Rattle.undo_journal.specs.Trails.{Trail}
+use Rattle.machine_defs.specs.Difference.{ValueChange, RuleChange}
+use Rattle.trail_laws.specs.Trails.{Trail}
 use Rattle.trail_laws.specs.Told.{told}
 use Rattle.label_laws.specs.Contents.{content_of}
 use Rattle.map_core.specs.Noted.{IsJournaled, advanced, step_of}

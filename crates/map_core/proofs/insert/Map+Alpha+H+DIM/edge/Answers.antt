@@ -1,7 +1,7 @@
 use Rattle.std.proofs.Common.{◌≡◌, ℕ, refl, sym, ap, subst, ◌∙◌, Result, Ok, Err}
 use Rattle.std.proofs.lemmas.Result.{err_from_is_err_and}
 use Rattle.map_kind.specs.declared.refusal.Refused.{Refused}
-use Rattle.map_defs.specs.Script.{Edge}
+use Rattle.machine_defs.specs.Script.{Edge}
 use Rattle.map_core.specs.declared.map.Done.{Done}
 use Rattle.map_core.specs.Calls.{Does}
 use Rattle.map_defs.specs.Kind.{Kind, alpha}

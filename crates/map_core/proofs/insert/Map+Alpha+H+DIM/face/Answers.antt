@@ -3,7 +3,7 @@ use Rattle.std.proofs.lemmas.Result.{err_from_is_err_and}
 use Rattle.map_kind.specs.declared.refusal.Refused.{Refused}
 use Rattle.map_defs.specs.Kind.{Kind, alpha}
 use Rattle.map_defs.specs.Rows.{Rows}
-use Rattle.map_defs.specs.Script.{Face}
+use Rattle.machine_defs.specs.Script.{Face}
 use Rattle.label_laws.specs.Contents.{content_of}
 use Rattle.map_core.specs.declared.map.Done.{Done}
 use Rattle.map_core.specs.Calls.{Does}

@@ -2,8 +2,8 @@ use Rattle.std.proofs.Common.{◌≡◌, ℕ, ◌+◌, [], max, ap, sym, subst, 
 use Rattle.std.proofs.lemmas.Result.{err_from_is_err_and}
 use Rattle.map_defs.specs.Rows.{Rows, made}
 use Rattle.map_defs.specs.Edits.{Edit, after_edit}
-use Rattle.map_defs.specs.State.{State}
-use Rattle.undo_journal.specs.Trails.{Trail}
+use Rattle.machine_defs.specs.State.{State}
+use Rattle.trail_laws.specs.Trails.{Trail}
 use Rattle.trail_laws.specs.Told.{told}
 use Rattle.label_laws.specs.Contents.{content_of}
 use Rattle.map_core.specs.Noted.{IsJournaled, advanced, step_of}

@@ -2,8 +2,8 @@ use Rattle.std.proofs.Common.{◌≡◌, ℕ, ◌<◌, List, Option, None, ap, s
 use Rattle.map_defs.specs.Rows.{Rows, links_of}
 use Rattle.map_defs.specs.Cells.{InCell}
 use Rattle.map_defs.specs.Values.{Value, Rule}
-use Rattle.map_defs.specs.Difference.{ValueChange}
-use Rattle.undo_journal.specs.Trails.{Trail}
+use Rattle.machine_defs.specs.Difference.{ValueChange}
+use Rattle.trail_laws.specs.Trails.{Trail}
 use Rattle.trail_laws.specs.Told.{told}
 use Rattle.label_laws.specs.Contents.{content_of}
 use Rattle.map_core.specs.Noted.{IsJournaled, AreOldValues}

@@ -1,9 +1,9 @@
 use Rattle.std.proofs.Common.{ℕ, ◌+◌, lit<, refl, inr, ap, [], ◌∷◌, arith}
 use Rattle.map_defs.specs.Rows.{Rows}
 use Rattle.map_defs.specs.Edits.{free_row}
-use Rattle.map_defs.specs.Text.{Done}
-use Rattle.link_rows.proofs.EditPlain.{births-fit}
-use Rattle.link_rows.proofs.KeptLaws.{births-keep}
+use Rattle.machine_defs.specs.Text.{Done}
+use Rattle.edit_laws.proofs.EditPlain.{births-fit}
+use Rattle.edit_laws.proofs.KeptLaws.{births-keep}
 use Rattle.map_core.proofs.map.Map.dart.Goals as goal
 
 pub bear-requires : goal.bear-requires

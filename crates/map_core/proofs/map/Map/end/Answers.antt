@@ -1,9 +1,9 @@
 use Rattle.std.proofs.Common.{ℕ, ◌<◌, List, [], ◌∷◌, ap, sym, subst, ◌∙◌}
 use Rattle.map_defs.specs.Rows.{Rows, IsLive, made}
 use Rattle.map_defs.specs.Edits.{after_edit}
-use Rattle.map_defs.specs.Difference.{ValueChange}
-use Rattle.link_rows.proofs.EditPlain.{death_edit}
-use Rattle.undo_journal.specs.Trails.{Trail}
+use Rattle.machine_defs.specs.Difference.{ValueChange}
+use Rattle.edit_laws.proofs.EditPlain.{death_edit}
+use Rattle.trail_laws.specs.Trails.{Trail}
 use Rattle.trail_laws.specs.Told.{told}
 use Rattle.label_laws.specs.Contents.{content_of}
 use Rattle.map_core.specs.Noted.{IsJournaled, advanced, step_of, IsSorted, AreOldValues, IsRelabelledPlace}

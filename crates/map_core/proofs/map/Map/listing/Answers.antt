@@ -1,9 +1,9 @@
 use Rattle.std.proofs.Common.{ℕ, refl, ap}
 use Rattle.map_defs.specs.Kind.{Kind}
 use Rattle.map_defs.specs.Rows.{Rows, made}
-use Rattle.map_defs.specs.Listing.{live_rows_from}
-use Rattle.map_defs.specs.Text.{Shown}
-use Rattle.label_laws.proofs.Listed.{lists-values}
+use Rattle.machine_defs.specs.Listing.{live_rows_from}
+use Rattle.machine_defs.specs.Text.{Shown}
+use Rattle.label_laws.proofs.ListedValues.{lists-values}
 use Rattle.map_core.proofs.KindNames.{letter-names}
 use Rattle.map_core.proofs.map.Map.listing.Goals as goal
 

@@ -4,7 +4,7 @@ use Rattle.map_defs.specs.Rows.{Rows, links_of, made}
 use Rattle.map_defs.specs.Edits.{Edit}
 use Rattle.map_defs.specs.Values.{Place}
 use Rattle.cell_walk.specs.CellLists.{AreCellsOf, lists_of}
-use Rattle.link_rows.proofs.EditSound.{length-after}
+use Rattle.edit_laws.proofs.EditSound.{length-after}
 use Rattle.map_core.proofs.map.Map.load.Goals as goal
 
 pub links_after-requires : goal.links_after-requires

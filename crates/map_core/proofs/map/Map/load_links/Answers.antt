@@ -1,18 +1,17 @@
 use Rattle.std.proofs.Common.{◌≡◌, ℕ, ◌≤◌, List, slice_set, Option, Some, refl, sym, ap, ◌∙◌, lit<, arith}
 use Rattle.std.proofs.lemmas.List.{length-map}
 use Rattle.std.proofs.lemmas.Result.{err_from_is_err_and}
-use Rattle.map_defs.specs.Rows.{Rows}
-use Rattle.map_defs.specs.Rows.{made as made_of}
+use Rattle.map_defs.specs.Rows.{Rows, made as made_of}
 use Rattle.map_defs.specs.Values.{Rule}
-use Rattle.map_defs.specs.State.{State}
-use Rattle.map_defs.specs.Loading.{first_copy}
+use Rattle.machine_defs.specs.State.{State}
+use Rattle.machine_defs.specs.Loading.{first_copy}
 use Rattle.cell_walk.specs.CellLists.{items_of, lists_of}
 use Rattle.label_laws.specs.Contents.{content_of}
 use Rattle.trail_laws.specs.Told.{told}
 use Rattle.trail_laws.proofs.Noting.{told-begun}
 use Rattle.label_laws.proofs.Same.{content-alike}
 use Rattle.map_core.proofs.Journaled.{begun-journaled, journaled-shown, roomier-stored}
-use Rattle.label_laws.proofs.Steps.{made_rules}
+use Rattle.label_laws.proofs.LineSteps.{made_rules}
 use Rattle.map_core.proofs.Loaded.{load-labelled, load-long, load-stored, load-made}
 use Rattle.map_core.proofs.map.Map.load_links.Goals as goal
 

@@ -1,6 +1,6 @@
 use Rattle.std.proofs.Common.{refl}
-use Rattle.map_defs.specs.State.{Content}
-use Rattle.undo_journal.specs.Trails.{Trail}
+use Rattle.machine_defs.specs.State.{Content}
+use Rattle.trail_laws.specs.Trails.{Trail}
 use Rattle.label_laws.specs.Contents.{content_of}
 use Rattle.map_core.proofs.Marks.{log-answered, log-refused}
 use Rattle.map_core.proofs.map.Map.log.Goals as goal

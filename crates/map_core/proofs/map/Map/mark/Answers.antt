@@ -2,9 +2,9 @@ use Rattle.std.proofs.Common.{Result, Err, refl, ap, sym, subst, ◌∙◌}
 use Rattle.std.proofs.lemmas.Result.{err_from_is_err_and}
 use Rattle.map_kind.specs.declared.refusal.Refusal.TheVariants as why
 use Rattle.map_kind.specs.declared.refusal.Refused.{Refused}
-use Rattle.map_defs.specs.State.{Content}
-use Rattle.map_defs.specs.Script.{Mark}
-use Rattle.undo_journal.specs.Trails.{Book, Trail, HasMark}
+use Rattle.machine_defs.specs.State.{Content}
+use Rattle.machine_defs.specs.Script.{Mark}
+use Rattle.trail_laws.specs.Trails.{Book, Trail, HasMark}
 use Rattle.trail_laws.specs.Told.{told, IsTraced}
 use Rattle.trail_laws.proofs.Marking.{traced-marked}
 use Rattle.label_laws.specs.Contents.{content_of}

@@ -1,5 +1,5 @@
 use Rattle.std.proofs.Common.{ap, rules, []}
-use Rattle.map_defs.specs.State.{Content, State}
+use Rattle.machine_defs.specs.State.{Content, State}
 use Rattle.label_laws.proofs.Showing.{begun-content}
 use Rattle.map_core.proofs.Journaled.{begun-journaled}
 use Rattle.map_core.proofs.map.Map.new.Goals as goal

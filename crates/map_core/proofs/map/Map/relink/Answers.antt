@@ -3,11 +3,11 @@ use Rattle.std.proofs.lemmas.Result.{err_from_is_err_and}
 use Rattle.map_defs.specs.Rows.{Rows, IsLive, links_of, made}
 use Rattle.map_defs.specs.Edits.{Edit, IsLed, after_edit}
 use Rattle.map_defs.specs.Values.{Rule}
-use Rattle.map_defs.specs.State.{State}
-use Rattle.map_defs.specs.Difference.{ValueChange}
-use Rattle.attr_pool.specs.Labelings.{id_of}
-use Rattle.transport.specs.Groups.{group_at, HasCarriedValue}
-use Rattle.undo_journal.specs.Trails.{Trail}
+use Rattle.machine_defs.specs.State.{State}
+use Rattle.machine_defs.specs.Difference.{ValueChange}
+use Rattle.store_defs.specs.Labelings.{id_of}
+use Rattle.store_defs.specs.Groups.{group_at, HasCarriedValue}
+use Rattle.trail_laws.specs.Trails.{Trail}
 use Rattle.trail_laws.specs.Told.{told}
 use Rattle.label_laws.specs.Contents.{content_of}
 use Rattle.label_laws.specs.Touching.{AreAllTouched}

@@ -1,14 +1,13 @@
 use Rattle.std.proofs.Common.{◌≡◌, ℕ, ◌<◌, List, [], Option, Some, slice_set, refl, sym, subst, ap, ◌∙◌}
 use Rattle.std.proofs.lemmas.Result.{err_from_is_err_and}
-use Rattle.map_defs.specs.Rows.{Rows}
-use Rattle.map_defs.specs.Rows.{made as made_count}
+use Rattle.map_defs.specs.Rows.{Rows, made as made_count}
 use Rattle.map_defs.specs.Values.{Rule}
-use Rattle.map_defs.specs.State.{State}
-use Rattle.map_defs.specs.Difference.{RuleChange}
-use Rattle.undo_journal.specs.Trails.{Trail}
+use Rattle.machine_defs.specs.State.{State}
+use Rattle.machine_defs.specs.Difference.{RuleChange}
+use Rattle.trail_laws.specs.Trails.{Trail}
 use Rattle.trail_laws.specs.Told.{told}
 use Rattle.label_laws.specs.Contents.{content_of}
-use Rattle.label_laws.proofs.Steps.{made_rules}
+use Rattle.label_laws.proofs.LineSteps.{made_rules}
 use Rattle.label_laws.proofs.Valued.{opened-stored, opened-content}
 use Rattle.map_core.specs.Noted.{IsJournaled, IsOneRule, advanced, step_of}
 use Rattle.map_core.proofs.Journaled.{journaled-shown}

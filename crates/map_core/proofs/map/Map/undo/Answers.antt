@@ -1,9 +1,9 @@
 use Rattle.std.proofs.Common.{List, ◌≡◌, ℕ, ◌+◌, ◌≤◌, refl, ap, ◌∙◌, lit<, arith}
 use Rattle.map_defs.specs.Rows.{made, live_count}
-use Rattle.map_defs.specs.State.{Content}
-use Rattle.map_defs.specs.Difference.{Difference}
-use Rattle.undo_journal.specs.Trails.{Trail, steps_since, back, IsOrdered}
-use Rattle.undo_journal.specs.Trails as trails
+use Rattle.machine_defs.specs.State.{Content}
+use Rattle.machine_defs.specs.Difference.{Difference}
+use Rattle.trail_laws.specs.Trails.{Trail, steps_since, back, IsOrdered}
+use Rattle.trail_laws.specs.Trails as trails
 use Rattle.label_laws.specs.Contents.{content_of}
 use Rattle.map_core.specs.Undoing.{AreStepsTo}
 use Rattle.map_core.proofs.Roomed.{all-have-room}

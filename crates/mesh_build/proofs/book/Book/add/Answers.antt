@@ -4,7 +4,7 @@ use Rattle.std.proofs.lemmas.List.{get_or_read, get_or-map, length-map, map_push
 use Rattle.map_defs.specs.MeshMap.{Side}
 use Rattle.mesh_build.specs.Sides.{side_view, views}
 use Rattle.mesh_laws.specs.Sides.{no_side, side_of, partner_of, kind_of}
-use Rattle.mesh_build.specs.Kept.{pair_eq}
+use Rattle.mesh_build.specs.Books.{pair_eq}
 use Rattle.mesh_build.proofs.BookFacts.{last_of, met_by, stands, at-edge, fault-none, fault-three, fault-turned, added-alone, added-sewn, now-of, apart-of, fails-none, on_ok}
 use Rattle.mesh_build.proofs.book.Book.add.Goals as goal
 

@@ -2,20 +2,20 @@ use Rattle.std.proofs.Common.{◌≡◌, Some, None, refl, sym, ap, ◌∙◌, i
 use Rattle.std.proofs.lemmas.Bool.{eqb-true, eqb-false}
 use Rattle.std.specs.BTreeMap.{get, Updates}
 use Rattle.sewing.specs.Triples.{Triple, Lists}
-use Rattle.sewing.specs.Steps.{Tells}
+use Rattle.sewing.specs.PairSteps.{TellsTriples}
 use Rattle.sewing.proofs.BookPlaces.{by_place, tells-more, tells-same, none-unless}
 use Rattle.sewing.proofs.book.Book.add.Goals as goal
 
 pub returns-then-eq-clause-added : goal.returns-then-eq-clause-added
 returns-then-eq-clause-added c =
-    let tells : Tells (get by_place c.self.inside.partners) c.args.self.now = rw c.self.view_is at c.self.invariant in
+    let tells : TellsTriples (get by_place c.self.inside.partners) c.args.self.now = rw c.self.view_is at c.self.invariant in
     let partner : get by_place c.self.inside.partners (c.args.triple.x, c.args.triple.t) ≡ Some c.in-Some.partner = rw (ap (λ (q : Triple). q.x) c.triple.view_is, ap (λ (q : Triple). q.t) c.triple.view_is) at (sym c.get.ensures.value ∙ sym c.copied.ensures ∙ c.in-Some.is) in
     let same : c.in-Some.partner ≡ c.args.triple.y = rw (ap (λ (q : Triple). q.y) c.triple.view_is) at (eqb-true _ _ (sym c.eq.ensures ∙ c.if-eq.true)) in
     inl (subst (λ y. Lists c.args.self.now c.args.triple.x y c.args.triple.t) same ((tells c.args.triple.x c.in-Some.partner c.args.triple.t).0 partner), refl)
 
 pub returns-in-Some-clause-unpaired : goal.returns-in-Some-clause-unpaired
 returns-in-Some-clause-unpaired c = λ _.
-    let tells : Tells (get by_place c.self.inside.partners) c.args.self.now = rw c.self.view_is at c.self.invariant in
+    let tells : TellsTriples (get by_place c.self.inside.partners) c.args.self.now = rw c.self.view_is at c.self.invariant in
     let partner : get by_place c.self.inside.partners (c.args.triple.x, c.args.triple.t) ≡ Some c.in-Some.partner = rw (ap (λ (q : Triple). q.x) c.triple.view_is, ap (λ (q : Triple). q.t) c.triple.view_is) at (sym c.get.ensures.value ∙ sym c.copied.ensures ∙ c.in-Some.is) in
     (c.in-Some.partner, (tells c.args.triple.x c.in-Some.partner c.args.triple.t).0 partner, rw (ap (λ (q : Triple). q.y) c.triple.view_is) at (eqb-false _ _ (sym c.eq.ensures ∙ c.if-eq.false)))
 

@@ -1,12 +1,12 @@
 use Rattle.std.proofs.lemmas.Result.{IfOk-weaker}
 use Rattle.std.specs.BTreeMap.{get}
-use Rattle.sewing.specs.Steps.{Tells}
+use Rattle.sewing.specs.PairSteps.{TellsTriples}
 use Rattle.sewing.proofs.BookPlaces.{by_place, listed-places, places-ascending, tells-one}
 use Rattle.sewing.proofs.book.Book.into_ascending.Goals as goal
 
 pub returns-clause-members : goal.returns-clause-members
 returns-clause-members c =
-    let tells : Tells (get by_place c.self.inside.partners) c.args.self = rw c.self.view_is at c.self.invariant in
+    let tells : TellsTriples (get by_place c.self.inside.partners) c.args.self = rw c.self.view_is at c.self.invariant in
     IfOk-weaker c.ascending.result _ _
     (λ triples is. λ x y t. rw is (listed-places c.self.inside.partners c.args.self c.ascending.ensures.ordered tells x y t))
     c.ascending.ensures.triples
@@ -17,5 +17,5 @@ returns-clause-ascending c =
 
 pub returns-clause-one : goal.returns-clause-one
 returns-clause-one c =
-    let tells : Tells (get by_place c.self.inside.partners) c.args.self = rw c.self.view_is at c.self.invariant in
+    let tells : TellsTriples (get by_place c.self.inside.partners) c.args.self = rw c.self.view_is at c.self.invariant in
     tells-one (get by_place c.self.inside.partners) c.args.self tells

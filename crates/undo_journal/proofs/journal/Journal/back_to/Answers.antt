@@ -1,7 +1,7 @@
 use Rattle.std.proofs.Common.{◌≡◌, ◌+◌, ◌<◌, ℕ, sym, subst}
-use Rattle.undo_journal.specs.Trails.{IsOrdered, place_of}
+use Rattle.trail_laws.specs.Trails.{IsOrdered, place_of}
 use Rattle.undo_journal.specs.Entries.{trail_of}
-use Rattle.undo_journal.proofs.TrailFacts.{ordered-back}
+use Rattle.trail_laws.proofs.TrailFacts.{ordered-back}
 use Rattle.undo_journal.proofs.journal.Journal.back_to.Goals as goal
 
 pub invariant_of-self : goal.invariant_of-self

@@ -1,7 +1,7 @@
 use Rattle.std.proofs.Common.{◌≡◌, ◌≤◌, ◌-◌, take, drop, subst}
-use Rattle.undo_journal.specs.Trails.{Book, place_of, steps_since}
+use Rattle.trail_laws.specs.Trails.{Book, place_of, steps_since}
 use Rattle.undo_journal.specs.Entries.{trail_of}
-use Rattle.undo_journal.proofs.TrailFacts.{taken_since}
+use Rattle.trail_laws.proofs.TrailFacts.{taken_since}
 use Rattle.undo_journal.proofs.journal.Journal.entries_since.Goals as goal
 
 pub returns-in-Some-clause-since : goal.returns-in-Some-clause-since

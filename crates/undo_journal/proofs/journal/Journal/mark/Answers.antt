@@ -1,9 +1,9 @@
 use Rattle.std.proofs.Common.{◌≡◌, ◌<◌, ◌∙◌, take, arith, sym, ap, subst}
 use Rattle.indexmap.specs.IndexMap.{spare}
-use Rattle.undo_journal.specs.Trails.{Book, HasMark, IsOrdered, marked}
+use Rattle.trail_laws.specs.Trails.{Book, HasMark, IsOrdered, marked}
 use Rattle.undo_journal.specs.Entries.{trail_of}
 use Rattle.undo_journal.proofs.EntryFacts.{marked_by, on_ok}
-use Rattle.undo_journal.proofs.TrailFacts.{ordered-marked}
+use Rattle.trail_laws.proofs.TrailFacts.{ordered-marked}
 use Rattle.undo_journal.proofs.journal.Journal.mark.Goals as goal
 
 pub invariant_of-self-2 : goal.invariant_of-self-2

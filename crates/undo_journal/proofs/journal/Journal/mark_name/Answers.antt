@@ -1,5 +1,5 @@
 use Rattle.std.proofs.Common.{◌≡◌, ◌∙◌, Some, slice_get, string_bytes, sym, ap, subst}
-use Rattle.undo_journal.specs.Trails.{Book, mark_names}
+use Rattle.trail_laws.specs.Trails.{Book, mark_names}
 use Rattle.undo_journal.proofs.EntryFacts.{name_shown}
 use Rattle.undo_journal.proofs.journal.Journal.mark_name.Goals as goal
 

@@ -1,8 +1,8 @@
 use Rattle.std.proofs.Common.{◌≡◌, ◌+◌, ◌∙◌, ◌++◌, ◌∷◌, [], take, arith, sym, ap, subst}
-use Rattle.undo_journal.specs.Trails.{Book, IsOrdered, noted}
+use Rattle.trail_laws.specs.Trails.{Book, IsOrdered, noted}
 use Rattle.undo_journal.specs.Entries.{trail_of}
 use Rattle.undo_journal.proofs.EntryFacts.{noted_is}
-use Rattle.undo_journal.proofs.TrailFacts.{ordered-noted}
+use Rattle.trail_laws.proofs.TrailFacts.{ordered-noted}
 use Rattle.undo_journal.proofs.journal.Journal.note.Goals as goal
 
 pub invariant_of-self : goal.invariant_of-self

@@ -1,8 +1,8 @@
 use Rattle.std.proofs.Common.{◌≡◌, ◌≤◌, ◌<◌, subst}
-use Rattle.undo_journal.specs.Trails.{Book, place_of}
+use Rattle.trail_laws.specs.Trails.{Book, place_of}
 use Rattle.undo_journal.specs.Entries.{trail_of}
 use Rattle.undo_journal.proofs.EntryFacts.{place_listed}
-use Rattle.undo_journal.proofs.TrailFacts.{place_within}
+use Rattle.trail_laws.proofs.TrailFacts.{place_within}
 use Rattle.undo_journal.proofs.journal.Journal.place.Goals as goal
 
 pub returns-clause-place : goal.returns-clause-place

@@ -1,7 +1,7 @@
 use Rattle.std.proofs.Common.{◌≡◌, ◌∙◌, refl, arith, sym, subst}
 use Rattle.std.proofs.lemmas.Bool.{false≢true}
 use Rattle.std.proofs.lemmas.Option.{none-some}
-use Rattle.undo_journal.specs.Trails.{Book, IsMark, HasMark}
+use Rattle.trail_laws.specs.Trails.{Book, IsMark, HasMark}
 use Rattle.undo_journal.proofs.EntryFacts.{mark_found, found_mark, same_number}
 use Rattle.undo_journal.proofs.journal.Journal.standing_mark.Goals as goal
 

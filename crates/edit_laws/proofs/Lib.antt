@@ -1,0 +1,12 @@
+pub mod PolygonSides
+pub mod PolygonRing
+pub mod PolygonSound
+pub mod RowWrites
+pub mod EditSteps
+pub mod EditSound
+pub mod EditBack
+pub mod EditPlain
+pub mod EditLinks
+pub mod BirthLinks
+pub mod PolygonEdit
+pub mod KeptLaws

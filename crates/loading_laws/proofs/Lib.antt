@@ -1,0 +1,2 @@
+pub mod MeshOne
+pub mod MeshContent

@@ -1,0 +1,16 @@
+pub mod State
+pub mod Difference
+pub mod Listing
+pub mod TextLines
+pub mod LogText
+pub mod Text
+pub mod Marking
+pub mod Script
+pub mod Relinking
+pub mod Valuing
+pub mod Kept
+pub mod Loading
+pub mod Machine
+pub mod Outside
+pub mod Dualling
+pub mod Program

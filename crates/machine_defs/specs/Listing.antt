@@ -1,0 +1,50 @@
+-- The listing of a content: all that it holds, but for its rules. Source: this project's.
+use Rattle.std.specs.Prelude.{ℕ, ◌≡◌, ◌<◌, ◌+◌, ◌↔◌, ◌⊎◌, List, [], ◌∷◌, length, Some, None, Contains, slice_index_or, pos, cond, nat_eq}
+use Rattle.map_defs.specs.Kind.{Kind}
+use Rattle.map_defs.specs.Rows.{Rows, links_of, made}
+use Rattle.map_defs.specs.Cells.{NamesCell}
+use Rattle.map_defs.specs.Values.{Value}
+use Rattle.map_defs.specs.Totals.{plain_sum}
+use Rattle.machine_defs.specs.State.{Content, value_at}
+
+-- a live dart and its entries 0 to n
+pub record ListRow : Type 0 where
+  pub dart : ℕ
+  pub links : List ℕ
+
+-- a valued cell: its dimension, its least dart and its value
+pub record ListValue : Type 0 where
+  pub dim : ℕ
+  pub dart : ℕ
+  pub value : Value
+
+pub record Listing : Type 0 where
+  pub kind : Kind
+  pub dim : ℕ
+  pub made : ℕ
+  pub rows : List ListRow
+  pub values : List ListValue
+
+-- the rows of the live darts, ascending, where the first place is that of dart d
+abbrev pub live_rows_from : ℕ → Rows → List ListRow
+live_rows_from d [] = []
+live_rows_from d (None ∷ rows) = live_rows_from (d + 1) rows
+live_rows_from d (Some row ∷ rows) = record { dart = d; links = row } ∷ live_rows_from (d + 1) rows
+
+-- lower dimensions come first, and in one dimension lower darts
+abbrev pub IsBefore : ListValue → ListValue → Type 0
+IsBefore v w = (v.dim < w.dim) ⊎ ((v.dim ≡ w.dim) × (v.dart < w.dart))
+
+-- the valued cells of a content, each named by its least dart, in order
+pub record ListsValues (c : Content) (values : List ListValue) : Type 0 where
+  pub members : (v : ListValue) → Contains values v ↔ ((value_at c v.dim v.dart ≡ Some v.value) × NamesCell c.kind (links_of c.rows) v.dim v.dart)
+  pub ordered : (j k : ℕ) (d : ListValue) → j < k → k < length values → IsBefore (slice_index_or values j d) (slice_index_or values k d)
+
+-- the listing of a content whose valued cells are these
+abbrev pub listing_with : Content → List ListValue → Listing
+listing_with c values = record { kind = c.kind; dim = c.dim; made = made c.rows; rows = live_rows_from 0 c.rows; values = values }
+
+-- the values of dimension i that a listing shows, added up
+abbrev pub listed_total : ℕ → List ListValue → Value
+listed_total i [] = record { a = pos 0; b = pos 0; c = pos 0 }
+listed_total i (v ∷ values) = cond (nat_eq v.dim i) (plain_sum v.value (listed_total i values)) (listed_total i values)

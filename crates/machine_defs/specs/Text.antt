@@ -1,0 +1,88 @@
+-- What the machine answers, and the text of an answer. Source: this project's script and listing formats.
+use Rattle.std.specs.Prelude.{ℕ, ℤ, List, [], ◌∷◌, ◌++◌, length, Option, Some, None, Bool, true, false, codes, ◌==◌, if◌then◌else◌}
+use Rattle.std.specs.Fmt.{decimal, signed_decimal}
+use Rattle.std.specs.List.{flat_map, list_any}
+pub use Rattle.machine_defs.specs.TextLines.{ended, spaced, spaced_signed}
+use Rattle.map_defs.specs.Kind.{letter}
+use Rattle.map_defs.specs.Refusal.{Refusal, number, name}
+use Rattle.map_defs.specs.Values.{Value}
+use Rattle.machine_defs.specs.Listing.{ListRow, ListValue, Listing}
+use Rattle.machine_defs.specs.Difference.{Difference}
+use Rattle.machine_defs.specs.LogText.{log_text}
+
+-- One reply: a changing line's first new dart and how many were made, both 0 if none was; an answer to a question of yes
+-- or no; the darts of a cell, ascending; the value of a cell, or none; the counts of the map; a listing; the steps of a
+-- log, oldest first; or a refusal.
+pub data Reply : Type 0 where
+  Done : ℕ → ℕ → Reply
+  Truth : Bool → Reply
+  Darts : List ℕ → Reply
+  CellValue : Option Value → Reply
+  Counts : List ℕ → Reply
+  Shown : Listing → Reply
+  Logged : List Difference → Reply
+  Refused : Refusal → Reply
+
+abbrev pub is_refused : Reply → Bool
+is_refused (Done first count) = false
+is_refused (Truth answer) = false
+is_refused (Darts darts) = false
+is_refused (CellValue value) = false
+is_refused (Counts counts) = false
+is_refused (Shown listing) = false
+is_refused (Logged steps) = false
+is_refused (Refused r) = true
+
+-- a listing's first line: its version, the kind's letter, the dimension, the darts made and the live ones
+abbrev pub header_line : ℕ → ℕ → ℕ → ℕ → List ℕ
+header_line letter dim made live = ended (codes "cellmap 1 " ++ letter ∷ [] ++ spaced dim ++ spaced made ++ spaced live)
+
+abbrev pub header_text : Listing → List ℕ
+header_text l = header_line (letter l.kind) l.dim l.made (length l.rows)
+
+-- a row is its dart, a colon and its entries
+abbrev pub row_text : ListRow → List ℕ
+row_text row = ended (decimal row.dart ++ 58 ∷ [] ++ flat_map spaced row.links)
+
+-- a valued cell is its dimension, its least dart and the three numbers of its value
+abbrev pub value_text : ListValue → List ℕ
+value_text v = ended (codes "val" ++ spaced v.dim ++ spaced v.dart ++ spaced_signed v.value.a ++ spaced_signed v.value.b ++ spaced_signed v.value.c)
+
+abbrev pub listing_text : Listing → List ℕ
+listing_text l = header_text l ++ flat_map row_text l.rows ++ flat_map value_text l.values ++ ended (codes "end")
+
+-- a changing line that made no darts says `ok` alone
+abbrev pub done_text : ℕ → ℕ → List ℕ
+done_text first count = if count == 0 then ended (codes "ok") else ended (codes "ok" ++ spaced first ++ spaced count)
+
+abbrev pub truth_text : Bool → List ℕ
+truth_text true = ended (codes "true")
+truth_text false = ended (codes "false")
+
+-- a word, and numbers behind it
+abbrev pub numbers_text : List ℕ → List ℕ → List ℕ
+numbers_text word numbers = ended (word ++ flat_map spaced numbers)
+
+abbrev pub cell_value_text : Option Value → List ℕ
+cell_value_text None = ended (codes "value none")
+cell_value_text (Some v) = ended (codes "value" ++ spaced_signed v.a ++ spaced_signed v.b ++ spaced_signed v.c)
+
+abbrev pub refusal_text : Refusal → List ℕ
+refusal_text r = ended (codes "no" ++ spaced (number r) ++ 32 ∷ name r)
+
+abbrev pub reply_text : Reply → List ℕ
+reply_text (Done first count) = done_text first count
+reply_text (Truth answer) = truth_text answer
+reply_text (Darts darts) = numbers_text (codes "cell") darts
+reply_text (CellValue value) = cell_value_text value
+reply_text (Counts counts) = numbers_text (codes "count") counts
+reply_text (Shown listing) = listing_text listing
+reply_text (Logged steps) = log_text steps
+reply_text (Refused r) = refusal_text r
+
+abbrev pub replies_text : List Reply → List ℕ
+replies_text replies = flat_map reply_text replies
+
+-- whether some line was refused
+abbrev pub any_refused : List Reply → Bool
+any_refused replies = list_any is_refused replies

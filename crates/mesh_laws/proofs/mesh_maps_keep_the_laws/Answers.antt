@@ -1,5 +1,0 @@
-use Rattle.mesh_laws.proofs.MeshContent.{maps-kept}
-use Rattle.mesh_laws.proofs.mesh_maps_keep_the_laws.Goals as goal
-
-pub returns : goal.returns
-returns c k n mesh content flat sound is = maps-kept k n mesh content flat sound is

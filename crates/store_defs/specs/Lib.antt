@@ -1,0 +1,3 @@
+pub mod Stores
+pub mod Labelings
+pub mod Groups

@@ -1,0 +1,78 @@
+-- What a contract sees of a journal: steps and marks, and how many of each stand.
+use Rattle.std.specs.Prelude.{ℕ, ◌≡◌, ◌≢◌, ◌+◌, ◌≤◌, List, [], ◌∷◌, ◌++◌, length, take, drop, map, Some, All, AllPairs, slice_get, slice_index}
+use Rattle.machine_defs.specs.Difference.{Difference}
+
+-- a mark: its name, and how many steps stood when it was set
+pub record Placed : Type 0 where
+  pub name : List ℕ
+  pub place : ℕ
+
+-- Steps, oldest first, of which the first `at` stand, and marks, oldest first, of which the first `standing` stand. What
+-- lies behind these was taken back, and is kept until the next step or mark.
+pub record Trail : Type 0 where
+  pub steps : List Difference
+  pub at : ℕ
+  pub marks : List Placed
+  pub standing : ℕ
+
+-- a trail, and how many further steps can be noted without memory
+pub record Book : Type 0 where
+  pub trail : Trail
+  pub room : ℕ
+
+-- the trail without steps and marks
+abbrev pub empty_trail : Trail
+empty_trail = record { steps = []; at = 0; marks = []; standing = 0 }
+
+abbrev pub standing_steps : Trail → List Difference
+standing_steps t = take t.at t.steps
+
+abbrev pub standing_marks : Trail → List Placed
+standing_marks t = take t.standing t.marks
+
+-- the names of the standing marks
+abbrev pub mark_names : Trail → List (List ℕ)
+mark_names t = map (λ (m : Placed). m.name) (standing_marks t)
+
+-- standing mark k has this name
+abbrev pub IsMark : Trail → List ℕ → ℕ → Type 0
+IsMark t name k = slice_get (mark_names t) k ≡ Some name
+
+-- a standing mark has this name
+abbrev pub HasMark : Trail → List ℕ → Type 0
+HasMark t name = (k : ℕ) × IsMark t name k
+
+-- how many steps stood when mark k was set
+abbrev pub place_of : Trail → ℕ → ℕ
+place_of t k = slice_index (map (λ (m : Placed). m.place) t.marks) k
+
+-- the standing steps since mark k was set, oldest first
+abbrev pub steps_since : Trail → ℕ → List Difference
+steps_since t k = drop (place_of t k) (standing_steps t)
+
+-- the trail with a further step; what was taken back is gone
+abbrev pub noted : Trail → Difference → Trail
+noted t s = record { steps = take t.at t.steps ++ s ∷ []; at = t.at + 1; marks = take t.standing t.marks; standing = t.standing }
+
+-- the trail with a further mark of this name; what was taken back is gone
+abbrev pub marked : Trail → List ℕ → Trail
+marked t name = record {
+  steps = take t.at t.steps;
+  at = t.at;
+  marks = take t.standing t.marks ++ record { name = name; place = t.at } ∷ [];
+  standing = t.standing + 1;
+}
+
+-- The trail as it stood when mark k was set. The steps since then and the later marks are kept behind those that stand.
+abbrev pub back : Trail → ℕ → Trail
+back t k = record { steps = t.steps; at = place_of t k; marks = t.marks; standing = k + 1 }
+
+-- What holds of every trail: so many steps and marks are there; no two marks have one name; a mark has no lesser place
+-- than one before it, and a standing mark has none after the steps that stand.
+pub record IsOrdered (t : Trail) : Type 0 where
+  pub at : t.at ≤ length t.steps
+  pub standing : t.standing ≤ length t.marks
+  pub names_differ : AllPairs (λ m n. m.name ≢ n.name) t.marks
+  pub ascending : AllPairs (λ m n. m.place ≤ n.place) t.marks
+  pub placed : All (λ m. m.place ≤ t.at) (standing_marks t)
+  pub within : All (λ m. m.place ≤ length t.steps) t.marks
