@@ -7,6 +7,7 @@ ghost use Rattle.dart_arena.specs.Table.{zeroed, rows_reversed};
 use map_kind::Dart;
 use std::alloc::Global;
 use std::marker::Model;
+use thiserror::Error;
 
 /// How many darts are ever made at most.
 pub const MADE_MAX: u32 = 4_194_304;
@@ -15,11 +16,13 @@ pub const MADE_MAX: u32 = 4_194_304;
 pub const DIM_MAX: usize = 8;
 
 /// Why no room is made.
-#[derive(Clone, Copy, Debug, PartialEq, Eq)]
+#[derive(Clone, Copy, Debug, PartialEq, Eq, Error)]
 pub enum ReserveFault {
     /// More than `MADE_MAX` darts would be made.
+    #[error("more than {} darts would be made", MADE_MAX)]
     Full,
     /// There is no memory.
+    #[error("out of memory")]
     NoMemory,
 }
 

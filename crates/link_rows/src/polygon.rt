@@ -12,6 +12,9 @@ use dart_arena::MADE_MAX;
 use map_kind::{Dart, Kind};
 use std::alloc::{AllocError, Global};
 
+/// How many sides a polygon has at most.
+pub const SIDES_MAX: u32 = 65_536;
+
 /// The edit that makes a polygon: a face of so many sides, with two darts a side in a generalized and one in a
 /// combinatorial map. Its darts are numbered on from those that were made, side by side. In a generalized map link 0
 /// pairs the two darts of a side, and link 1 pairs the second with the first of the next side, in a circle; in a
@@ -22,7 +25,7 @@ pub fn polygon_edit<K: Kind, const DIM: usize>(
     sides: u32,
 ) -> Result<Edit, AllocError>
     requires low { 3 ≤ sides }
-    requires high { sides ≤ 65536 }
+    requires high { sides ≤ SIDES_MAX }
     requires few { made links.now.rows + per_side K.kind * sides ≤ MADE_MAX }
     ensures births { IfOk result (λ edit. edit.births ≡ per_side K.kind * sides) }
     ensures deaths { IfOk result (λ edit. edit.deaths ≡ []) }

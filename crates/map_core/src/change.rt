@@ -6,7 +6,7 @@ ghost use Rattle.map_core.specs.Calls.{Does};
 
 use crate::map::{Done, Map};
 use attr_rules::Hook;
-use link_rows::{Edit, Links, polygon_edit};
+use link_rows::{Edit, Links, SIDES_MAX, polygon_edit};
 use map_kind::{Dart, Kind, Refusal, Refused};
 use std::alloc::Global;
 
@@ -20,7 +20,7 @@ impl<'h, K: Kind, H: Hook, const DIM: usize> Map<'h, K, H, DIM> {
         ensures hook { self.new.hook ≡ self.old.hook }
         ensures does { Does (H.meaning self.old.hook) self.old.state (Polygon sides) result self.new.state }
     {
-        if sides < 3 || sides > 65536 {
+        if sides < 3 || sides > u64::from(SIDES_MAX) {
             return Err(Refused::Line(Refusal::BadCount));
         }
         let count = K::per_side() * sides as u32;

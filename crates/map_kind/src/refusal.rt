@@ -4,51 +4,73 @@ ghost use Rattle.map_kind.specs.Refusals.{meaning};
 ghost use Rattle.map_kind.specs.declared.refusal.Refused.TheVariants.{Line, NoMemory};
 
 use std::alloc::{AllocError, AllocFailed};
+use thiserror::Error;
 
 /// Why a line of a script is refused. A line is refused with the least number whose condition holds.
-#[derive(Clone, Copy, Debug, PartialEq, Eq)]
+#[derive(Clone, Copy, Debug, PartialEq, Eq, Error)]
 pub enum Refusal {
     /// The line is not in the grammar.
+    #[error("the line is not in the grammar")]
     Syntax,
     /// A dimension or link number is above the map's dimension, or is none that the line can take.
+    #[error("a dimension or link number is above the map's dimension, or is none that the line can take")]
     BadDim,
     /// A named dart is not live.
+    #[error("a named dart is not live")]
     NoDart,
     /// The dimension has no rule, or a name of a rule is in no table.
+    #[error("the dimension has no rule, or a name of a rule is in no table")]
     NoRule,
     /// A dart to be sewn is not free.
+    #[error("a dart to be sewn is not free")]
     NotFree,
     /// The orbits of the two darts do not fit together.
+    #[error("the orbits of the two darts do not fit together")]
     Unsewable,
     /// The dart to be unsewn is free.
+    #[error("the dart to be unsewn is free")]
     AlreadyFree,
     /// The darts do not lie in the same cell.
+    #[error("the darts do not lie in the same cell")]
     OtherCell,
     /// The two darts lie in the same corner.
+    #[error("the two darts lie in the same corner")]
     SameCorner,
     /// A path or a face is not closed.
+    #[error("a path or a face is not closed")]
     NotClosed,
     /// The darts cannot be paired along a cut.
+    #[error("the darts cannot be paired along a cut")]
     Unpaired,
     /// The cell cannot be removed.
+    #[error("the cell cannot be removed")]
     NotRemovable,
     /// The cell cannot be contracted.
+    #[error("the cell cannot be contracted")]
     NotContractible,
     /// The map has free links, or would be joined to itself.
+    #[error("the map has free links, or would be joined to itself")]
     Boundary,
     /// Some link of the dart is not free.
+    #[error("some link of the dart is not free")]
     Linked,
     /// A count is out of its range.
+    #[error("a count is out of its range")]
     BadCount,
     /// A mark of that name stands.
+    #[error("a mark of that name stands")]
     MarkTaken,
     /// No mark of that name stands.
+    #[error("no mark of that name stands")]
     NoMark,
     /// A vertex has no value.
+    #[error("a vertex has no value")]
     NoPoint,
     /// A face has fewer than three sides.
+    #[error("a face has fewer than three sides")]
     ThinFace,
     /// More darts would be made than are ever made.
+    #[error("more darts would be made than are ever made")]
     Full,
 }
 
@@ -113,11 +135,13 @@ impl Refusal {
 }
 
 /// Why a call was refused: as a line of a script, or for want of memory, which has no number among the refusals.
-#[derive(Clone, Copy, Debug, PartialEq, Eq)]
+#[derive(Clone, Copy, Debug, PartialEq, Eq, Error)]
 pub enum Refused {
     /// The line is refused.
+    #[error("{0}")]
     Line(Refusal),
     /// There is no memory.
+    #[error("out of memory")]
     NoMemory,
 }
 

@@ -22,13 +22,16 @@ use map_kind::Kind;
 use mesh_build::{MeshFault, MeshMap, mesh_map};
 use off_text::{OffFault, OffWhat, read_off};
 use std::alloc::{AllocError, Global};
+use thiserror::Error;
 
 /// Why a mesh is not loaded. Both kinds of fault include want of memory.
-#[derive(Clone, Copy, Debug, PartialEq, Eq)]
+#[derive(Clone, Copy, Debug, PartialEq, Eq, Error)]
 pub enum LoadFault {
     /// The text tells no mesh.
+    #[error("{0}")]
     Text(OffFault),
     /// The mesh has no map.
+    #[error("{0}")]
     Map(MeshFault),
 }
 

@@ -94,7 +94,7 @@ fn sewn_map<K: Kind, const DIM: usize>(
     requires high { DIM ≤ 8 }
     requires kind { K.kind ≡ kind_of oriented }
     requires faces { HasFaces (mesh_view mesh.now) }
-    requires few { per_side (kind_of oriented) * length sewn.now.sides.items ≤ 4194304 }
+    requires few { per_side (kind_of oriented) * length sewn.now.sides.items ≤ MADE_MAX }
     requires sides { sides_view sewn.now.sides ≡ sides_of (mesh_view mesh.now).faces }
     requires sewn { IsSewn oriented (sides_view sewn.now.sides) sewn.now.partners.items }
     ensures rows { IfOk result (λ built. built.links.rows
@@ -117,7 +117,7 @@ fn sewn_map<K: Kind, const DIM: usize>(
 /// The sides of a mesh, sewn, unless they would have more darts than are ever made; or what is wrong with a face.
 pub fn sew_few(alloc: Global, oriented: bool, mesh: &Mesh) -> Result<Sewn, MeshFault>
     requires faces { HasFaces (mesh_view mesh.now) }
-    ensures few { IfOk result (λ sewn. per_side (kind_of oriented) * length sewn.sides.items ≤ 4194304) }
+    ensures few { IfOk result (λ sewn. per_side (kind_of oriented) * length sewn.sides.items ≤ MADE_MAX) }
     ensures sides { IfOk result (λ sewn. sides_view sewn.sides ≡ sides_of (mesh_view mesh.now).faces) }
     ensures sewn { IfOk result (λ sewn. IsSewn oriented (sides_view sewn.sides) sewn.partners.items) }
     ensures fault { Fails result (mesh_fault (kind_of oriented) (mesh_view mesh.now)) }

@@ -8,7 +8,7 @@ ghost use Rattle.mesh_build.specs.EntriesView.{entries_view};
 
 use crate::sew::Sewn;
 use crate::side::Side;
-use link_rows::{Change, Edit};
+use link_rows::{Change, Edit, MADE_MAX};
 use map_kind::Dart;
 use std::alloc::{AllocError, Global};
 
@@ -23,7 +23,7 @@ pub struct Entries {
 /// The edit that makes the darts of these sides, two for each side or one in an oriented map, and their links.
 pub fn edit_of(alloc: Global, oriented: bool, sewn: &Sewn) -> Result<Edit, AllocError>
     requires sewn { IsSewn oriented (sides_view sewn.now.sides) sewn.now.partners.items }
-    requires few { per_side (kind_of oriented) * length sewn.now.sides.items ≤ 4194304 }
+    requires few { per_side (kind_of oriented) * length sewn.now.sides.items ≤ MADE_MAX }
     ensures { IfOk result (λ edit. edit ≡ mesh_edit (kind_of oriented) (sides_view sewn.now.sides) sewn.now.partners.items) }
 {
     let births = per_side(oriented) * sewn.sides.len() as u32;
@@ -82,7 +82,7 @@ fn push_change(
 /// The links of a dart.
 pub fn dart_entries(oriented: bool, sewn: &Sewn, number: u32) -> Entries
     requires sewn { IsSewn oriented (sides_view sewn.now.sides) sewn.now.partners.items }
-    requires few { per_side (kind_of oriented) * length sewn.now.sides.items ≤ 4194304 }
+    requires few { per_side (kind_of oriented) * length sewn.now.sides.items ≤ MADE_MAX }
     requires low { 1 ≤ number }
     requires high { number ≤ per_side (kind_of oriented) * length sewn.now.sides.items }
     ensures { entries_view result ≡ dart_entries (kind_of oriented) (sides_view sewn.now.sides) sewn.now.partners.items number }
@@ -99,7 +99,7 @@ pub fn dart_entries(oriented: bool, sewn: &Sewn, number: u32) -> Entries
 /// The links of the one dart of a side, in an oriented map.
 fn single_entries(sewn: &Sewn, number: u32) -> Entries
     requires sewn { IsSewn true (sides_view sewn.now.sides) sewn.now.partners.items }
-    requires few { length sewn.now.sides.items ≤ 4194304 }
+    requires few { length sewn.now.sides.items ≤ MADE_MAX }
     requires within { number < length sewn.now.sides.items }
     ensures { entries_view result ≡ start_entries beta (sides_view sewn.now.sides) sewn.now.partners.items number }
 {
@@ -113,7 +113,7 @@ fn single_entries(sewn: &Sewn, number: u32) -> Entries
 
 fn single_across(sewn: &Sewn, number: u32) -> u32
     requires sewn { IsSewn true (sides_view sewn.now.sides) sewn.now.partners.items }
-    requires few { length sewn.now.sides.items ≤ 4194304 }
+    requires few { length sewn.now.sides.items ≤ MADE_MAX }
     requires within { number < length sewn.now.sides.items }
     ensures { result ≡ start_across beta (sides_view sewn.now.sides) sewn.now.partners.items number }
 {
@@ -135,7 +135,7 @@ fn start_together(sewn: &Sewn, number: u32, partner: u32) -> bool
 /// The links of the dart at the start of a side.
 fn first_entries(sewn: &Sewn, number: u32) -> Entries
     requires sewn { IsSewn false (sides_view sewn.now.sides) sewn.now.partners.items }
-    requires few { 2 * length sewn.now.sides.items ≤ 4194304 }
+    requires few { 2 * length sewn.now.sides.items ≤ MADE_MAX }
     requires within { number < length sewn.now.sides.items }
     ensures { entries_view result ≡ start_entries alpha (sides_view sewn.now.sides) sewn.now.partners.items number }
 {
@@ -149,7 +149,7 @@ fn first_entries(sewn: &Sewn, number: u32) -> Entries
 
 fn first_across(sewn: &Sewn, number: u32) -> u32
     requires sewn { IsSewn false (sides_view sewn.now.sides) sewn.now.partners.items }
-    requires few { 2 * length sewn.now.sides.items ≤ 4194304 }
+    requires few { 2 * length sewn.now.sides.items ≤ MADE_MAX }
     requires within { number < length sewn.now.sides.items }
     ensures { result ≡ start_across alpha (sides_view sewn.now.sides) sewn.now.partners.items number }
 {
@@ -168,7 +168,7 @@ fn first_across(sewn: &Sewn, number: u32) -> u32
 /// The links of the dart at the end of a side.
 fn second_entries(sewn: &Sewn, number: u32) -> Entries
     requires sewn { IsSewn false (sides_view sewn.now.sides) sewn.now.partners.items }
-    requires few { 2 * length sewn.now.sides.items ≤ 4194304 }
+    requires few { 2 * length sewn.now.sides.items ≤ MADE_MAX }
     requires within { number < length sewn.now.sides.items }
     ensures { entries_view result ≡ finish_entries (sides_view sewn.now.sides) sewn.now.partners.items number }
 {
@@ -182,7 +182,7 @@ fn second_entries(sewn: &Sewn, number: u32) -> Entries
 
 fn second_across(sewn: &Sewn, number: u32) -> u32
     requires sewn { IsSewn false (sides_view sewn.now.sides) sewn.now.partners.items }
-    requires few { 2 * length sewn.now.sides.items ≤ 4194304 }
+    requires few { 2 * length sewn.now.sides.items ≤ MADE_MAX }
     requires within { number < length sewn.now.sides.items }
     ensures { result ≡ finish_across (sides_view sewn.now.sides) sewn.now.partners.items number }
 {

@@ -9,7 +9,7 @@ ghost use Rattle.mesh_build.specs.EntriesView.{entries_view};
 use crate::MeshFault;
 use crate::edit::{Entries, dart_entries, per_side};
 use crate::sew::Sewn;
-use link_rows::{LinkBuilder, Links};
+use link_rows::{LinkBuilder, Links, MADE_MAX};
 use map_kind::{Dart, Kind};
 use std::alloc::Global;
 
@@ -23,7 +23,7 @@ pub fn links_of<K: Kind, const DIM: usize>(
     requires high { DIM ≤ 8 }
     requires kind { K.kind ≡ kind_of oriented }
     requires sewn { IsSewn oriented (sides_view sewn.now.sides) sewn.now.partners.items }
-    requires few { per_side (kind_of oriented) * length sewn.now.sides.items ≤ 4194304 }
+    requires few { per_side (kind_of oriented) * length sewn.now.sides.items ≤ MADE_MAX }
     ensures rows { IfOk result (λ links. links.rows
         ≡ after_edit DIM (mesh_edit (kind_of oriented) (sides_view sewn.now.sides) sewn.now.partners.items) (None ∷ [])) }
     ensures err { IfErr result (λ fault. fault ≡ MeshFault.NoMemory) }

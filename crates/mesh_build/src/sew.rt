@@ -10,6 +10,7 @@ use crate::MeshFault;
 use crate::book::Book;
 use crate::repeat::has_repeat;
 use crate::side::Side;
+use link_rows::MADE_MAX;
 use off_text::Mesh;
 use std::alloc::Global;
 
@@ -29,7 +30,7 @@ pub fn sew_faces(
     sides: usize,
 ) -> Result<Sewn, MeshFault>
     requires faces { HasFaces (mesh_view mesh.now) }
-    requires few { length (sides_of (mesh_view mesh.now).faces) ≤ 4194304 }
+    requires few { length (sides_of (mesh_view mesh.now).faces) ≤ MADE_MAX }
     ensures sides { IfOk result (λ sewn. sides_view sewn.sides ≡ sides_of (mesh_view mesh.now).faces) }
     ensures sewn { IfOk result (λ sewn. IsSewn oriented (sides_view sewn.sides) sewn.partners.items) }
     ensures fault { Fails result (faces_fault (kind_of oriented) 0 [] (mesh_view mesh.now).faces) }

@@ -11,14 +11,17 @@ use crate::triple::Triple;
 use link_rows::Links;
 use map_kind::Kind;
 use std::alloc::{AllocError, AllocFailed, Global};
+use thiserror::Error;
 
 /// Why darts are not paired.
-#[derive(Clone, Copy, Debug, PartialEq, Eq)]
+#[derive(Clone, Copy, Debug, PartialEq, Eq, Error)]
 pub enum PairFault {
     /// The pairs cannot be joined: a dart would have two partners at a link, or would be joined to itself by a link that
     /// is its own inverse, or two partners are not alike free at the links that the pairs go along.
+    #[error("the darts cannot be paired")]
     Unpaired,
     /// There is no memory.
+    #[error("out of memory")]
     NoMemory,
 }
 
