@@ -1,6 +1,7 @@
 -- How an arena keeps its rows: one behind another in one list of entries, and beside it which darts live. Source: this
 -- project's.
 use Rattle.std.specs.Prelude.{ℕ, zero, suc, ◌≡◌, ◌+◌, ◌*◌, ◌<◌, ◌≤◌, Bool, false, cond, List, [], ◌∷◌, ◌++◌, length, take, drop, reverse, filter, Option, Some, None, is_some, slice_index, slice_index_or, slice_set}
+use Rattle.map_defs.specs.Rows.{made_max}
 
 -- The rows behind place 0, from entries of which so many are each row's, where the list of tests says who lives.
 abbrev pub rows_of : ℕ → List ℕ → List Bool → List (Option (List ℕ))
@@ -15,7 +16,7 @@ IsClear width entries live =
 -- What the parts of an arena keep: so many entries are each row's, and so many rows live.
 pub record IsTable (width : ℕ) (entries : List ℕ) (live : List Bool) (count : ℕ) : Type 0 where
   pub long : length entries ≡ length live * width
-  pub few : length live ≤ 4194304
+  pub few : length live ≤ made_max
   pub counted : count ≡ length (filter is_some (rows_of width entries live))
   pub clear : IsClear width entries live
 

@@ -3,7 +3,7 @@ ghost use Rattle.std.specs.Prelude.{◌≡◌, ◌≢◌, ℕ, ◌≤◌, ◌↔
 ghost use Rattle.map_defs.specs.Rows.{links_of, IsLive};
 ghost use Rattle.map_defs.specs.Dual.{IsDualable, StaysApartDual};
 
-use crate::entries::{dual_number_at, is_generalized, number_at};
+use crate::entries::{dual_number_at, is_generalized};
 use link_rows::Links;
 use map_kind::{Dart, Kind};
 
@@ -36,7 +36,7 @@ fn is_closed<K: Kind, const DIM: usize>(links: &Links<K, DIM>, dart: Dart) -> bo
     ensures { IsTrue result ↔ ((i : ℕ) → i ≤ DIM → links_of links.now.rows i dart ≢ 0) }
 {
     for link in 0..links.dimension() + 1 {
-        if number_at(links, dart, link) == 0 {
+        if links.number_at(dart, link) == 0 {
             return false;
         }
     }

@@ -14,21 +14,6 @@ pub(crate) fn is_generalized<K: Kind>() -> bool
     K::inverse(0) == 0
 }
 
-/// The number of the dart at a link of a dart, 0 where it is free.
-pub(crate) fn number_at<K: Kind, const DIM: usize>(
-    links: &Links<K, DIM>,
-    dart: Dart,
-    link: usize,
-) -> u32
-    requires { link ≤ DIM }
-    ensures { result ≡ links_of links.now.rows link dart }
-{
-    match links.link(dart, link) {
-        Some(other) => other.number(),
-        None => 0,
-    }
-}
-
 /// The number of the dart to which two links lead, one after the other, 0 where one on the way is free.
 fn number_beyond<K: Kind, const DIM: usize>(
     links: &Links<K, DIM>,
@@ -41,7 +26,7 @@ fn number_beyond<K: Kind, const DIM: usize>(
     ensures { result ≡ links_of links.now.rows second (links_of links.now.rows first dart) }
 {
     match links.link(dart, first) {
-        Some(other) => number_at(links, other, second),
+        Some(other) => links.number_at(other, second),
         None => 0,
     }
 }
@@ -57,12 +42,12 @@ pub(crate) fn dual_number_at<K: Kind, const DIM: usize>(
 {
     let dim = links.dimension();
     if is_generalized::<K>() {
-        return number_at(links, dart, dim - link);
+        return links.number_at(dart, dim - link);
     }
     if link == 0 {
         number_beyond(links, dart, K::inverse(dim - 1), dim)
     } else if link == dim {
-        number_at(links, dart, dim)
+        links.number_at(dart, dim)
     } else {
         number_beyond(links, dart, dim, dim - link)
     }

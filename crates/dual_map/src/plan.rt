@@ -8,7 +8,7 @@ ghost use Rattle.dual_map.specs.DualLinks.{dual_link};
 ghost use Rattle.dual_map.specs.Differences.{link_changes, dart_changes, map_changes};
 
 use crate::boundary::dualable;
-use crate::entries::{dual_number_at, number_at};
+use crate::entries::dual_number_at;
 use link_rows::{Change, Edit, Links};
 use map_kind::{Dart, Kind, Refusal, Refused};
 use std::alloc::{AllocError, Global};
@@ -103,7 +103,7 @@ fn push_link<K: Kind, const DIM: usize>(
     ensures { OnOk result (changes.new.items
         ≡ changes.old.items ++ link_changes (links_of links.now.rows) (dual_link K.kind DIM (links_of links.now.rows)) dart link) }
 {
-    let old = number_at(links, dart, link);
+    let old = links.number_at(dart, link);
     let new = dual_number_at(links, dart, link);
     if old == new {
         return Ok(());

@@ -13,4 +13,4 @@ pub use builder::LinkBuilder;
 pub use dart_arena::{MADE_MAX, ReserveFault};
 pub use edit::{Change, Edit};
 pub use links::Links;
-pub use polygon::{SIDES_MAX, polygon_edit};
+pub use polygon::{SIDES_MAX, next_side, polygon_edit, previous_side};

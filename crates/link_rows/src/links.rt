@@ -105,6 +105,14 @@ impl<K: Kind, const DIM: usize> Links<K, DIM> {
         Dart::new(self.rows.entry(dart, link))
     }
 
+    /// The number of the dart at a link of a dart; 0 where the dart is not live or the link is free.
+    pub fn number_at(&self, dart: Dart, link: usize) -> u32
+        requires { link ≤ DIM }
+        ensures { result ≡ links_of self.now.rows link dart }
+    {
+        self.rows.entry(dart, link)
+    }
+
     /// Whether a link of a live dart is free.
     pub fn is_free(&self, dart: Dart, link: usize) -> bool
         requires live { IsLive self.now.rows dart }

@@ -97,8 +97,8 @@ fn birth_link(dart: Dart, link: usize, new: u32) -> Change
     }
 }
 
-/// The side before one of a polygon's sides, in a circle.
-fn previous_side(sides: u32, side: u32) -> u32
+/// The side before one of a face's so many sides, in a circle. Sides count from 0.
+pub fn previous_side(sides: u32, side: u32) -> u32
     requires { side < sides }
     ensures side { result ≡ previous_side sides side }
     ensures within { result < sides }
@@ -106,8 +106,8 @@ fn previous_side(sides: u32, side: u32) -> u32
     if side == 0 { sides - 1 } else { side - 1 }
 }
 
-/// The side after one of a polygon's sides, in a circle.
-fn next_side(sides: u32, side: u32) -> u32
+/// The side behind one of a face's so many sides, in a circle. Sides count from 0.
+pub fn next_side(sides: u32, side: u32) -> u32
     requires { side < sides }
     ensures side { result ≡ next_side sides side }
     ensures within { result < sides }

@@ -1,7 +1,8 @@
 ghost use Rattle.std.specs.Prelude.{◌≡◌, ◌+◌, ◌-◌, ◌<◌, ◌^◌, min, max, length};
 ghost use Rattle.map_defs.specs.MeshMap.{side_at};
-ghost use Rattle.map_defs.specs.Polygon.{next_side, previous_side};
 ghost use Rattle.mesh_build.specs.Sides.{side_view};
+
+use link_rows::{next_side, previous_side};
 
 /// A side of a face: its number among all sides, the points from which and to which it leads, and the numbers of the sides
 /// behind it and before it in its face.
@@ -38,22 +39,4 @@ impl Side {
     {
         (self.from.min(self.to), self.from.max(self.to))
     }
-}
-
-/// The side before one of a face's sides, in a circle.
-fn previous_side(sides: u32, side: u32) -> u32
-    requires { side < sides }
-    ensures side { result ≡ previous_side sides side }
-    ensures within { result < sides }
-{
-    if side == 0 { sides - 1 } else { side - 1 }
-}
-
-/// The side behind one of a face's sides, in a circle.
-fn next_side(sides: u32, side: u32) -> u32
-    requires { side < sides }
-    ensures side { result ≡ next_side sides side }
-    ensures within { result < sides }
-{
-    if side + 1 == sides { 0 } else { side + 1 }
 }
