@@ -140,7 +140,7 @@ pub fn dealt_numbers_add_up()
 /// For whoever keeps amounts in cells, as lengths on edges: to make polygons and darts, to sew and unsew and to insert
 /// neither makes nor loses anything. Where all darts of a cell die, its value is lost.
 pub fn sum_share_keeps_totals()
-    ensures cells { (k : Kind) (i : ℕ) (hook : Meaning) (old new : Rows) (values after : ℕ → Option Value)
+    ensures { (k : Kind) (i : ℕ) (hook : Meaning) (old new : Rows) (values after : ℕ → Option Value)
         (cells cells_after : List ℕ) → Laws k (links_of old) → Laws k (links_of new)
         → ((x : ℕ) → IsLive old x → IsLive new x)
         → AreEqualOnCells k i (links_of old) (IsLive old) values
