@@ -1,6 +1,7 @@
-//! What no clause says: that calls are obeyed where memory is there.
+//! What no clause says: that calls are obeyed where memory is there. Each test is a table of lines and their answers.
 ghost use Rattle.std.specs.Prelude.{◌≡◌, map, IfOk};
 
+use crate::lines::{Line, obey};
 use attr_rules::FirstCopy;
 use cell_walk::cell_lists;
 use link_rows::{Links, polygon_edit};
@@ -11,150 +12,186 @@ use std::process::Abort;
 use std::test::Fail;
 
 /// The answer of a line that makes no dart.
-const DONE: Done = Done { first: 0, count: 0 };
+const DONE: Result<Done, Refused> = Ok(Done { first: 0, count: 0 });
 
-/// A triangle, and a dart that is made and ended.
-#[test]
-fn makes_and_ends_darts(rt: HostRuntime) -> Result<(), Fail> {
-    let alloc = rt.alloc();
-    let hook = FirstCopy;
-    let mut map = Map::<'_, Alpha, FirstCopy, 2>::new(alloc, &hook);
-    assert_eq!(&rt; map.polygon(alloc, 3), Ok(Done { first: 1, count: 6 }));
-    assert_eq!(&rt; map.dart(alloc), Ok(Done { first: 7, count: 1 }));
-    assert_eq!(&rt; map.del(alloc, 1), Err(Refused::Line(Refusal::Linked)));
-    assert_eq!(&rt; map.del(alloc, 7), Ok(DONE));
-    assert_eq!(&rt; map.links().live_count(), 6);
+/// The answer of a line that makes darts.
+fn made(first: u32, count: u32) -> Result<Done, Refused> {
+    Ok(Done { first, count })
+}
+
+/// The answer of a line that is refused.
+fn no(refusal: Refusal) -> Result<Done, Refused> {
+    Err(Refused::Line(refusal))
+}
+
+/// Obeys lines one after another, and compares their answers.
+fn check_lines<const DIM: usize>(
+    rt: &impl Abort,
+    alloc: Global,
+    map: &mut Map<'_, Alpha, FirstCopy, DIM>,
+    rows: &[(Line, Result<Done, Refused>)],
+) {
+    for (line, wanted) in rows {
+        assert_eq!(rt; obey(alloc, map, line), *wanted, "{line:?}");
+    }
+}
+
+/// Compares the counts of a map.
+fn check_counts<const DIM: usize>(
+    rt: &impl Abort,
+    alloc: Global,
+    map: &Map<'_, Alpha, FirstCopy, DIM>,
+    wanted: &[u64],
+) -> Result<(), AllocError> {
+    let counts = map.count(alloc)?;
+    assert_eq!(rt; counts.as_slice(), wanted);
     Ok(())
 }
 
-/// The cells of a triangle.
+/// Darts, polygons, sewing and unsewing.
 #[test]
-fn answers_questions(rt: HostRuntime) -> Result<(), Fail> {
+fn makes_and_sews_darts(rt: HostRuntime) -> Result<(), Fail> {
     let alloc = rt.alloc();
-    let hook = FirstCopy;
-    let mut map = Map::<'_, Alpha, FirstCopy, 2>::new(alloc, &hook);
-    assert!(&rt; map.polygon(alloc, 3).is_ok());
-    let face = map.cell(alloc, 2, 1)?;
-    assert_eq!(&rt; face.len(), 6);
-    assert!(&rt; map.same(alloc, 0, 2, 3)?);
-    assert!(&rt; map.free(2, 5)?);
-    assert_eq!(&rt; map.free(2, 7), Err(Refusal::NoDart));
-    assert_eq!(&rt; map.count(alloc)?.as_slice(), [6, 3, 3, 1, 1].as_slice());
-    Ok(())
-}
-
-/// The rows of a triangle.
-#[test]
-fn lists_rows(rt: HostRuntime) -> Result<(), Fail> {
-    let alloc = rt.alloc();
-    let hook = FirstCopy;
-    let mut map = Map::<'_, Alpha, FirstCopy, 2>::new(alloc, &hook);
-    assert!(&rt; map.polygon(alloc, 3).is_ok());
-    let listing = map.listing(alloc)?;
-    assert_eq!(&rt; (listing.letter, listing.dim, listing.made), (b'g', 2, 6));
-    let third = listing.rows.get(2).ok_or("no row")?;
-    assert_eq!(&rt;
-        (third.dart.number(), third.links.as_slice()),
-        (3, [4, 2, 0].as_slice())
-    );
-    Ok(())
-}
-
-/// Two triangles are sewn along an edge, and unsewn.
-#[test]
-fn sews_and_unsews(rt: HostRuntime) -> Result<(), Fail> {
-    let alloc = rt.alloc();
-    let nothing = Ok(DONE);
     let mut map = Map::<'_, Alpha, FirstCopy, 2>::new(alloc, &FirstCopy);
-    assert!(&rt; map.polygon(alloc, 3).is_ok());
-    assert!(&rt; map.polygon(alloc, 3).is_ok());
-    assert_eq!(&rt; map.sewable(alloc, 2, 1, 8), Ok(true));
-    assert_eq!(&rt; map.sew(alloc, 2, 1, 8), nothing);
-    assert_eq!(&rt; map.count(alloc)?.as_slice(), [12, 4, 5, 2, 1].as_slice());
-    assert_eq!(&rt;
-        map.sew(alloc, 2, 2, 7),
-        Err(Refused::Line(Refusal::NotFree))
+    let (link, dart, other) = (2, 1, 8);
+    check_lines(
+        &rt,
+        alloc,
+        &mut map,
+        &[
+            (Line::Polygon { sides: 3 }, made(1, 6)),
+            (Line::Polygon { sides: 3 }, made(7, 6)),
+            (Line::Dart, made(13, 1)),
+            (Line::Del { dart: 1 }, no(Refusal::Linked)),
+            (Line::Del { dart: 13 }, DONE),
+            (Line::Sew { link, dart, other }, DONE),
+            (Line::Sew { link, dart, other }, no(Refusal::NotFree)),
+            (Line::Unsew { link, dart: 7 }, DONE),
+            (Line::Unsew { link, dart }, no(Refusal::AlreadyFree)),
+            (
+                Line::Sew {
+                    link: 3,
+                    dart,
+                    other,
+                },
+                no(Refusal::BadDim),
+            ),
+        ],
     );
-    assert_eq!(&rt;
-        map.sew(alloc, 3, 2, 7),
-        Err(Refused::Line(Refusal::BadDim))
-    );
-    assert_eq!(&rt; map.unsew(alloc, 2, 7), nothing);
-    assert_eq!(&rt;
-        map.unsew(alloc, 2, 1),
-        Err(Refused::Line(Refusal::AlreadyFree))
-    );
+    check_counts(&rt, alloc, &map, &[12, 6, 6, 2, 2])?;
     Ok(())
 }
 
-/// A vertex on a side of a square, an edge from it across the square, and a face along a square that is folded.
+/// A vertex and an edge in a square that is folded; the vertex is removed, and an edge contracted.
 #[test]
-fn inserts_cells(rt: HostRuntime) -> Result<(), Fail> {
+fn inserts_and_removes_cells(rt: HostRuntime) -> Result<(), Fail> {
     let alloc = rt.alloc();
     let mut map = Map::<'_, Alpha, FirstCopy, 3>::new(alloc, &FirstCopy);
-    assert!(&rt; map.polygon(alloc, 4).is_ok());
-    assert_eq!(&rt; map.sew(alloc, 3, 1, 2), Ok(DONE));
-    assert_eq!(&rt; map.vertex(alloc, 9), Err(Refused::Line(Refusal::NoDart)));
-    assert_eq!(&rt; map.edge(alloc, 1, 4), Ok(Done { first: 9, count: 8 }));
-    assert_eq!(&rt;
-        map.edge(alloc, 1, 1),
-        Err(Refused::Line(Refusal::SameCorner))
-    );
-    assert_eq!(&rt;
-        map.face(alloc, &[1]),
-        Err(Refused::Line(Refusal::NotClosed))
-    );
-    assert_eq!(&rt;
-        map.face(alloc, &[1, 3, 5, 7]),
-        Ok(Done {
-            first: 17,
-            count: 8
-        })
-    );
-    assert_eq!(&rt;
-        map.vertex(alloc, 1),
-        Ok(Done {
-            first: 25,
-            count: 4
-        })
+    let (dart, other) = (1, 4);
+    check_lines(
+        &rt,
+        alloc,
+        &mut map,
+        &[
+            (Line::Polygon { sides: 4 }, made(1, 8)),
+            (
+                Line::Sew {
+                    link: 3,
+                    dart,
+                    other: 2,
+                },
+                DONE,
+            ),
+            (Line::Vertex { dart: 9 }, no(Refusal::NoDart)),
+            (Line::Edge { dart, other }, made(9, 8)),
+            (Line::Edge { dart, other: dart }, no(Refusal::SameCorner)),
+            (Line::Face { dart, other: 3 }, no(Refusal::NotClosed)),
+            (Line::Vertex { dart }, made(17, 2)),
+            (Line::Remove { dim: 0, dart: 17 }, DONE),
+            (Line::Remove { dim: 0, dart: 17 }, no(Refusal::NoDart)),
+            (
+                Line::Contract { dim: 0, dart },
+                no(Refusal::NotContractible),
+            ),
+            (Line::Contract { dim: 1, dart }, DONE),
+            (Line::Dual, no(Refusal::Boundary)),
+        ],
     );
     Ok(())
 }
 
+/// A face along a square that is folded.
 #[test]
-fn removes_and_contracts_cells(rt: HostRuntime) -> Result<(), Fail> {
+fn inserts_a_face(rt: HostRuntime) -> Result<(), Fail> {
     let alloc = rt.alloc();
-    let mut map = Map::<'_, Alpha, FirstCopy, 2>::new(alloc, &FirstCopy);
-    assert!(&rt; map.polygon(alloc, 3).is_ok());
-    assert!(&rt; map.vertex(alloc, 1).is_ok());
-    assert_eq!(&rt; map.removable(alloc, 0, 7), Ok(true));
-    assert_eq!(&rt; map.contractible(alloc, 0, 7), Ok(false));
-    assert_eq!(&rt; map.remove(alloc, 0, 7), Ok(DONE));
-    assert_eq!(&rt;
-        map.remove(alloc, 0, 7),
-        Err(Refused::Line(Refusal::NoDart))
+    let mut map = Map::<'_, Alpha, FirstCopy, 3>::new(alloc, &FirstCopy);
+    check_lines(
+        &rt,
+        alloc,
+        &mut map,
+        &[
+            (Line::Polygon { sides: 4 }, made(1, 8)),
+            (
+                Line::Sew {
+                    link: 3,
+                    dart: 1,
+                    other: 2,
+                },
+                DONE,
+            ),
+        ],
     );
-    assert_eq!(&rt;
-        map.contract(alloc, 0, 1),
-        Err(Refused::Line(Refusal::NotContractible))
-    );
-    assert_eq!(&rt; map.contract(alloc, 1, 1), Ok(DONE));
-    assert_eq!(&rt; map.count(alloc)?.as_slice(), [4, 2, 2, 1, 1].as_slice());
+    assert_eq!(&rt; map.face(alloc, &[1, 3, 5, 7]), made(9, 8));
     Ok(())
 }
 
+/// Two triangles that are one sphere, and their dual; a face that is removed is taken back.
 #[test]
-fn takes_the_dual(rt: HostRuntime) -> Result<(), Fail> {
+fn turns_a_map_and_goes_back(rt: HostRuntime) -> Result<(), Fail> {
     let alloc = rt.alloc();
     let mut map = Map::<'_, Alpha, FirstCopy, 2>::new(alloc, &FirstCopy);
-    assert!(&rt; map.polygon(alloc, 3).is_ok());
-    assert_eq!(&rt; map.dual(alloc), Err(Refused::Line(Refusal::Boundary)));
-    assert!(&rt; map.polygon(alloc, 3).is_ok());
-    for (dart, other) in [(1, 7), (3, 9), (5, 11)] {
-        assert_eq!(&rt; map.sew(alloc, 2, dart, other), Ok(DONE));
-    }
-    assert_eq!(&rt; map.dual(alloc), Ok(DONE));
-    assert_eq!(&rt; map.count(alloc)?.as_slice(), [12, 2, 3, 3, 1].as_slice());
+    let name = "begin";
+    check_lines(
+        &rt,
+        alloc,
+        &mut map,
+        &[
+            (Line::Polygon { sides: 3 }, made(1, 6)),
+            (Line::Polygon { sides: 3 }, made(7, 6)),
+            (
+                Line::Sew {
+                    link: 2,
+                    dart: 1,
+                    other: 7,
+                },
+                DONE,
+            ),
+            (
+                Line::Sew {
+                    link: 2,
+                    dart: 3,
+                    other: 9,
+                },
+                DONE,
+            ),
+            (
+                Line::Sew {
+                    link: 2,
+                    dart: 5,
+                    other: 11,
+                },
+                DONE,
+            ),
+            (Line::Mark { name }, DONE),
+            (Line::Dual, DONE),
+            (Line::Mark { name }, no(Refusal::MarkTaken)),
+            (Line::Remove { dim: 2, dart: 1 }, DONE),
+            (Line::Undo { name: "end" }, no(Refusal::NoMark)),
+            (Line::Undo { name }, DONE),
+            (Line::Dual, DONE),
+        ],
+    );
+    check_counts(&rt, alloc, &map, &[12, 2, 3, 3, 1])?;
     Ok(())
 }
 
@@ -162,11 +199,60 @@ fn takes_the_dual(rt: HostRuntime) -> Result<(), Fail> {
 fn a_polygon_in_dimension_eight(rt: HostRuntime) -> Result<(), Fail> {
     let alloc = rt.alloc();
     let mut map = Map::<'_, Alpha, FirstCopy, 8>::new(alloc, &FirstCopy);
-    assert_eq!(&rt; map.polygon(alloc, 3), Ok(Done { first: 1, count: 6 }));
-    assert_eq!(&rt;
-        map.count(alloc)?.as_slice(),
-        [6, 3, 3, 1, 1, 1, 1, 1, 1, 1, 1].as_slice()
+    check_lines(
+        &rt,
+        alloc,
+        &mut map,
+        &[(Line::Polygon { sides: 3 }, made(1, 6))],
     );
+    check_counts(&rt, alloc, &map, &[6, 3, 3, 1, 1, 1, 1, 1, 1, 1, 1])?;
+    Ok(())
+}
+
+/// Asks a triangle, made of darts 1 to 6.
+fn check_questions(
+    rt: &impl Abort,
+    alloc: Global,
+    map: &Map<'_, Alpha, FirstCopy, 2>,
+) -> Result<(), Refused> {
+    assert_eq!(rt; map.cell(alloc, 2, 1)?.len(), 6);
+    assert!(rt; map.same(alloc, 0, 2, 3)?);
+    assert!(rt; map.free(2, 5) == Ok(true));
+    assert!(rt; map.sewable(alloc, 2, 1, 3)?);
+    assert!(rt; map.removable(alloc, 2, 1)?);
+    assert!(rt; map.contractible(alloc, 1, 1)?);
+    Ok(())
+}
+
+/// Compares the listing of a triangle.
+fn check_listing(
+    rt: &impl Abort,
+    alloc: Global,
+    map: &Map<'_, Alpha, FirstCopy, 2>,
+) -> Result<(), Fail> {
+    let listing = map.listing(alloc)?;
+    assert_eq!(rt; (listing.letter, listing.dim, listing.made), (b'g', 2, 6));
+    let third = listing.rows.get(2).ok_or("no row")?;
+    assert_eq!(rt;
+        (third.dart.number(), third.links.as_slice()),
+        (3, [4, 2, 0].as_slice())
+    );
+    Ok(())
+}
+
+/// The cells and the rows of a triangle.
+#[test]
+fn answers_questions(rt: HostRuntime) -> Result<(), Fail> {
+    let alloc = rt.alloc();
+    let mut map = Map::<'_, Alpha, FirstCopy, 2>::new(alloc, &FirstCopy);
+    check_lines(
+        &rt,
+        alloc,
+        &mut map,
+        &[(Line::Polygon { sides: 3 }, made(1, 6))],
+    );
+    check_questions(&rt, alloc, &map)?;
+    check_listing(&rt, alloc, &map)?;
     Ok(())
 }
 
@@ -179,20 +265,18 @@ fn value(number: i64) -> Value {
     }
 }
 
-/// Sets a value for each dimension and dart.
-fn set_values(
-    rt: &impl Abort,
-    alloc: Global,
-    map: &mut Map<'_, Alpha, FirstCopy, 2>,
-    rows: &[(u64, u64, i64)],
-) {
-    for (dim, dart, number) in rows {
-        assert_eq!(rt;
-            map.set(alloc, *dim, *dart, value(*number)),
-            Ok(DONE),
-            "{dart}"
-        );
+/// A line that gives a cell the value with three numbers alike.
+fn set(dim: u64, dart: u64, number: i64) -> Line {
+    Line::Set {
+        dim,
+        dart,
+        value: value(number),
     }
+}
+
+/// A line that gives a dimension a rule.
+fn rule(dim: u64, merge: &'static str, split: &'static str) -> Line {
+    Line::Rule { dim, merge, split }
 }
 
 /// Compares the value of each dimension and dart.
@@ -206,50 +290,28 @@ fn check_values(
     }
 }
 
-/// Two triangles, and rules for vertices and sides.
-fn two_triangles(rt: &impl Abort, alloc: Global, map: &mut Map<'_, Alpha, FirstCopy, 2>) {
-    assert_eq!(rt; map.rule(alloc, 0, "last", "copy"), Ok(DONE));
-    assert_eq!(rt; map.rule(alloc, 1, "sum", "share"), Ok(DONE));
-    assert!(rt; map.polygon(alloc, 3).is_ok());
-    assert!(rt; map.polygon(alloc, 3).is_ok());
-}
-
-/// Lines that name no rule, or a dimension without one, are refused.
-#[test]
-fn refuses_values_without_a_rule(rt: HostRuntime) -> Result<(), Fail> {
-    let alloc = rt.alloc();
-    let hook = FirstCopy;
-    let mut map = Map::<'_, Alpha, FirstCopy, 2>::new(alloc, &hook);
-    let no_rule = Err(Refused::Line(Refusal::NoRule));
-    two_triangles(&rt, alloc, &mut map);
-    assert_eq!(&rt; map.set(alloc, 2, 2, value(1)), no_rule);
-    assert_eq!(&rt; map.rule(alloc, 2, "sum", "host"), no_rule);
-    assert_eq!(&rt;
-        map.rule(alloc, 3, "sum", "copy"),
-        Err(Refused::Line(Refusal::BadDim))
-    );
-    Ok(())
-}
-
-/// Values are set, replaced and cleared, and listed by least darts.
+/// Values are set, replaced and cleared.
 #[test]
 fn keeps_values_of_cells(rt: HostRuntime) -> Result<(), Fail> {
     let alloc = rt.alloc();
-    let hook = FirstCopy;
-    let mut map = Map::<'_, Alpha, FirstCopy, 2>::new(alloc, &hook);
-    two_triangles(&rt, alloc, &mut map);
-    set_values(&rt, alloc, &mut map, &[(0, 2, 5), (0, 3, 7), (1, 4, 5)]);
-    assert_eq!(&rt; map.rule(alloc, 0, "mid", "copy"), Ok(DONE));
-    check_values(&rt, &map, &[(0, 2, Some(7)), (0, 1, None)]);
-    let listing = map.listing(alloc)?;
-    assert_eq!(&rt; listing.values.len(), 2);
-    let first = listing.values.get(0).ok_or("no value")?;
-    assert_eq!(&rt;
-        (first.dim, first.place.dart.number(), first.place.value),
-        (0, 2, value(7))
+    let mut map = Map::<'_, Alpha, FirstCopy, 2>::new(alloc, &FirstCopy);
+    check_lines(
+        &rt,
+        alloc,
+        &mut map,
+        &[
+            (Line::Polygon { sides: 3 }, made(1, 6)),
+            (set(0, 1, 1), no(Refusal::NoRule)),
+            (rule(0, "last", "host"), no(Refusal::NoRule)),
+            (rule(3, "last", "copy"), no(Refusal::BadDim)),
+            (rule(0, "last", "copy"), DONE),
+            (set(0, 2, 5), DONE),
+            (set(0, 3, 7), DONE),
+            (set(0, 4, 6), DONE),
+            (Line::Clear { dim: 0, dart: 5 }, DONE),
+        ],
     );
-    assert_eq!(&rt; map.clear(alloc, 0, 2), Ok(DONE));
-    check_values(&rt, &map, &[(0, 3, None), (1, 3, Some(5))]);
+    check_values(&rt, &map, &[(0, 2, Some(7)), (0, 4, None), (0, 1, None)]);
     Ok(())
 }
 
@@ -258,18 +320,37 @@ fn keeps_values_of_cells(rt: HostRuntime) -> Result<(), Fail> {
 #[test]
 fn carries_values(rt: HostRuntime) -> Result<(), Fail> {
     let alloc = rt.alloc();
-    let hook = FirstCopy;
-    let mut map = Map::<'_, Alpha, FirstCopy, 2>::new(alloc, &hook);
-    two_triangles(&rt, alloc, &mut map);
-    set_values(
+    let mut map = Map::<'_, Alpha, FirstCopy, 2>::new(alloc, &FirstCopy);
+    check_lines(
         &rt,
         alloc,
         &mut map,
-        &[(0, 1, 5), (0, 8, 2), (1, 1, 5), (1, 8, 2)],
+        &[
+            (Line::Polygon { sides: 3 }, made(1, 6)),
+            (Line::Polygon { sides: 3 }, made(7, 6)),
+            (rule(0, "last", "copy"), DONE),
+            (rule(1, "sum", "share"), DONE),
+            (set(0, 1, 5), DONE),
+            (set(0, 8, 2), DONE),
+            (set(1, 1, 5), DONE),
+            (set(1, 8, 2), DONE),
+            (
+                Line::Sew {
+                    link: 2,
+                    dart: 1,
+                    other: 8,
+                },
+                DONE,
+            ),
+        ],
     );
-    assert_eq!(&rt; map.sew(alloc, 2, 1, 8), Ok(DONE));
     check_values(&rt, &map, &[(0, 6, Some(2)), (1, 7, Some(7)), (2, 7, None)]);
-    assert_eq!(&rt; map.unsew(alloc, 2, 1), Ok(DONE));
+    check_lines(
+        &rt,
+        alloc,
+        &mut map,
+        &[(Line::Unsew { link: 2, dart: 1 }, DONE)],
+    );
     check_values(
         &rt,
         &map,
@@ -314,23 +395,5 @@ fn loads_a_map(rt: HostRuntime) -> Result<(), Fail> {
     let done = other.load_links(alloc, links, &places, &vertices.darts)?;
     assert_eq!(&rt; done, Done { first: 1, count: 6 });
     assert_eq!(&rt; other.value(0, 5), Ok(Some(point)));
-    Ok(())
-}
-
-/// A face that is removed and taken back; the mark stays.
-#[test]
-fn goes_back_to_a_mark(rt: HostRuntime) -> Result<(), Fail> {
-    let alloc = rt.alloc();
-    let hook = FirstCopy;
-    let mut map = Map::<'_, Alpha, FirstCopy, 2>::new(alloc, &hook);
-    assert!(&rt; map.polygon(alloc, 3).is_ok());
-    assert_eq!(&rt; map.mark("a"), Ok(DONE));
-    assert_eq!(&rt; map.remove(alloc, 2, 1), Ok(DONE));
-    assert_eq!(&rt; map.undo(alloc, "a"), Ok(DONE));
-    assert_eq!(&rt; map.links().live_count(), 6);
-    let Ok(steps) = map.log("a") else {
-        return Err(Fail::from("no mark"));
-    };
-    assert!(&rt; steps.is_empty());
     Ok(())
 }

@@ -1,7 +1,8 @@
 //! The values after random lines, against those that are computed plainly for all cells from all live darts: from the
 //! values and the cells before a line, and from the cells after it. In the end all lines are taken back.
+use crate::lines::{Line, obey};
 use attr_rules::{FirstCopy, Merge, Rule, RuleWith, Split, TableRule};
-use map_core::{Done, Map};
+use map_core::Map;
 use map_kind::{Alpha, Refused, Value};
 use std::alloc::{AllocError, Global};
 use std::process::Abort;
@@ -28,21 +29,6 @@ struct Piece {
     old: Cell,
     new: Cell,
     value: Value,
-}
-
-/// A line, and what it names.
-#[derive(Clone, Copy, Debug)]
-enum Line {
-    Sew { link: u64, dart: u64, other: u64 },
-    Unsew { link: u64, dart: u64 },
-    Vertex { dart: u64 },
-    Edge { dart: u64, other: u64 },
-    Face { dart: u64, other: u64 },
-    Remove { dim: u64, dart: u64 },
-    Contract { dim: u64, dart: u64 },
-    Set { dim: u64, dart: u64, value: Value },
-    Clear { dim: u64, dart: u64 },
-    Del { dart: u64 },
 }
 
 /// Numbers without an order to be seen, the same in each run.
@@ -277,25 +263,6 @@ fn wanted(
         wanted.push(Standing { value, ..*standing })?;
     }
     Ok(wanted)
-}
-
-fn obey<const DIM: usize>(
-    alloc: Global,
-    map: &mut Map<'_, Alpha, FirstCopy, DIM>,
-    line: &Line,
-) -> Result<Done, Refused> {
-    match *line {
-        Line::Sew { link, dart, other } => map.sew(alloc, link, dart, other),
-        Line::Unsew { link, dart } => map.unsew(alloc, link, dart),
-        Line::Vertex { dart } => map.vertex(alloc, dart),
-        Line::Edge { dart, other } => map.edge(alloc, dart, other),
-        Line::Face { dart, other } => map.face(alloc, &[dart, other]),
-        Line::Remove { dim, dart } => map.remove(alloc, dim, dart),
-        Line::Contract { dim, dart } => map.contract(alloc, dim, dart),
-        Line::Set { dim, dart, value } => map.set(alloc, dim, dart, value),
-        Line::Clear { dim, dart } => map.clear(alloc, dim, dart),
-        Line::Del { dart } => map.del(alloc, dart),
-    }
 }
 
 /// Obeys a line, compares all values, and answers whether some old cell with a value was joined or parted.

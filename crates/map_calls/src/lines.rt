@@ -1,0 +1,92 @@
+//! Lines as data, each obeyed by its call of the map.
+use attr_rules::FirstCopy;
+use map_core::{Done, Map};
+use map_kind::{Alpha, Refused, Value};
+use std::alloc::Global;
+
+/// A changing line, and what it names.
+#[derive(Clone, Copy, Debug)]
+pub enum Line {
+    Polygon {
+        sides: u64,
+    },
+    Dart,
+    Del {
+        dart: u64,
+    },
+    Sew {
+        link: u64,
+        dart: u64,
+        other: u64,
+    },
+    Unsew {
+        link: u64,
+        dart: u64,
+    },
+    Vertex {
+        dart: u64,
+    },
+    Edge {
+        dart: u64,
+        other: u64,
+    },
+    Face {
+        dart: u64,
+        other: u64,
+    },
+    Remove {
+        dim: u64,
+        dart: u64,
+    },
+    Contract {
+        dim: u64,
+        dart: u64,
+    },
+    Dual,
+    Rule {
+        dim: u64,
+        merge: &'static str,
+        split: &'static str,
+    },
+    Set {
+        dim: u64,
+        dart: u64,
+        value: Value,
+    },
+    Clear {
+        dim: u64,
+        dart: u64,
+    },
+    Mark {
+        name: &'static str,
+    },
+    Undo {
+        name: &'static str,
+    },
+}
+
+/// Obeys a line.
+pub fn obey<const DIM: usize>(
+    alloc: Global,
+    map: &mut Map<'_, Alpha, FirstCopy, DIM>,
+    line: &Line,
+) -> Result<Done, Refused> {
+    match *line {
+        Line::Polygon { sides } => map.polygon(alloc, sides),
+        Line::Dart => map.dart(alloc),
+        Line::Del { dart } => map.del(alloc, dart),
+        Line::Sew { link, dart, other } => map.sew(alloc, link, dart, other),
+        Line::Unsew { link, dart } => map.unsew(alloc, link, dart),
+        Line::Vertex { dart } => map.vertex(alloc, dart),
+        Line::Edge { dart, other } => map.edge(alloc, dart, other),
+        Line::Face { dart, other } => map.face(alloc, &[dart, other]),
+        Line::Remove { dim, dart } => map.remove(alloc, dim, dart),
+        Line::Contract { dim, dart } => map.contract(alloc, dim, dart),
+        Line::Dual => map.dual(alloc),
+        Line::Rule { dim, merge, split } => map.rule(alloc, dim, merge, split),
+        Line::Set { dim, dart, value } => map.set(alloc, dim, dart, value),
+        Line::Clear { dim, dart } => map.clear(alloc, dim, dart),
+        Line::Mark { name } => map.mark(name),
+        Line::Undo { name } => map.undo(alloc, name),
+    }
+}
