@@ -131,7 +131,11 @@ fn step<K: Kind, const DIM: usize>(
 }
 
 /// The dart to which a word leads; none exactly where a link on its way is free.
-fn follow<K: Kind, const DIM: usize>(links: &Links<K, DIM>, word: LinkWord, dart: Dart) -> Option<Dart>
+fn follow<K: Kind, const DIM: usize>(
+    links: &Links<K, DIM>,
+    word: LinkWord,
+    dart: Dart,
+) -> Option<Dart>
     requires { IsWithin DIM word }
     ensures free { IsNone result ↔ (through (links_of links.now.rows) word dart ≡ 0) }
     ensures leads { IfSome result (λ other. other ≡ through (links_of links.now.rows) word dart) }

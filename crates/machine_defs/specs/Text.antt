@@ -1,6 +1,6 @@
 -- What the machine answers, and the text of an answer. Source: this project's script and listing formats.
-use Rattle.std.specs.Prelude.{ℕ, ℤ, List, [], ◌∷◌, ◌++◌, length, Option, Some, None, Bool, true, false, codes, ◌==◌, if◌then◌else◌}
-use Rattle.std.specs.Fmt.{decimal, signed_decimal}
+use Rattle.std.specs.Prelude.{ℕ, List, [], ◌∷◌, ◌++◌, length, Option, Some, None, Bool, true, false, codes, ◌==◌, if◌then◌else◌}
+use Rattle.std.specs.Fmt.{decimal}
 use Rattle.std.specs.List.{flat_map, list_any}
 pub use Rattle.machine_defs.specs.TextLines.{ended, spaced, spaced_signed}
 use Rattle.map_defs.specs.Kind.{letter}

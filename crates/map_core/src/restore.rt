@@ -19,7 +19,7 @@ ghost use Rattle.map_core.specs.Changing.{AreAdded};
 ghost use Rattle.map_core.specs.Undoing.{AreStepsTo, AreEditsTo, HasRoomFor, rows_before, rules_before, value_before, old_among, IsValueChanged, IsRevalued, IsNearChange, IsNearEdit, IsNearStep, IsStepped, AreGivenValues, turned_change};
 
 use crate::make::make_room;
-use crate::relabel::{relabel, take_id, stored_value};
+use crate::relabel::{relabel, stored_value, take_id};
 use crate::touched::{add_at_change, add_live};
 use crate::value::{has_places, has_rule, make_places};
 use attr_pool::{Labels, Pool};

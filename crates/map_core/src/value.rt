@@ -14,7 +14,7 @@ ghost use Rattle.map_core.specs.Calls.{Does, AnswersAtOnce};
 use crate::make::make_room;
 use crate::map::{Done, Map};
 use crate::note::{cell_values, keep, new_values, no_edit, reserve_step, rule_changes};
-use crate::relabel::{give_id, take_ids, stored_value};
+use crate::relabel::{give_id, stored_value, take_ids};
 use attr_pool::{Labels, Pool};
 use attr_rules::{Hook, TableRule, merge_named, split_named};
 use cell_walk::cell;

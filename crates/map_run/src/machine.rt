@@ -8,7 +8,7 @@ ghost use Rattle.script_text.specs.Meanings.{line_meaning};
 ghost use Rattle.map_run.specs.Lines.{answer_meaning, IsTold, Asks};
 ghost use Rattle.map_run.specs.Writing.{AnswersLine, Says};
 
-use crate::answer::{Answer, counts, darts, done, logged, told, truth, cell_value};
+use crate::answer::{Answer, cell_value, counts, darts, done, logged, told, truth};
 use crate::reply;
 use attr_rules::Hook;
 use map_core::{Done, Map};

@@ -15,7 +15,7 @@ returns c i hook old new values after same w wn stay live live_after equal carri
     let cells : ListsValuedCells old.kind i (links_of new.rows) (IsLive new.rows) (value_at new i) (cells_at i after) = subst (λ k. ListsValuedCells k i (links_of new.rows) (IsLive new.rows) (value_at new i) (cells_at i after)) (sym same) (listed_cells new i after lists_after live_after) in
     listed_is old i values lists
     ∙ (total_stays old.kind i hook (links_of old.rows) (links_of new.rows) (IsLive old.rows) (IsLive new.rows) w wk
-      (λ x y l h. cell_live old.kind (IsLive old.rows) (links_of old.rows) (links_of old.rows) w w (IsLive old.rows) (rows_lead_to_live old.kind old.rows w) i x l h)
-      (λ x y l h. cell_live old.kind (IsLive old.rows) (links_of old.rows) (links_of new.rows) w wk (IsLive new.rows) (rows_lead_to_live old.kind new.rows wk) i x l h)
-      stay (value_at old i) (value_at new i) equal carried within (cells_at i values) (cells_at i after) (listed_cells old i values lists live) cells
+    (λ x y l h. cell_live old.kind (IsLive old.rows) (links_of old.rows) (links_of old.rows) w w (IsLive old.rows) (rows_lead_to_live old.kind old.rows w) i x l h)
+    (λ x y l h. cell_live old.kind (IsLive old.rows) (links_of old.rows) (links_of new.rows) w wk (IsLive new.rows) (rows_lead_to_live old.kind new.rows wk) i x l h)
+    stay (value_at old i) (value_at new i) equal carried within (cells_at i values) (cells_at i after) (listed_cells old i values lists live) cells
     ∙ sym (listed_is new i after lists_after))
