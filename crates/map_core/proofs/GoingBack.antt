@@ -23,7 +23,7 @@ use Rattle.store_defs.specs.Labelings.{Labeling}
 use Rattle.label_laws.specs.Contents.{content_of}
 use Rattle.label_laws.specs.Maps.{IsStoredMap}
 use Rattle.map_core.specs.Noted.{IsJournaled}
-use Rattle.map_core.specs.Undoing.{AreStepsTo}
+use Rattle.valued_map.specs.Undoing.{AreStepsTo}
 
 abbrev no-mark : Placed
 no-mark = record { name = []; place = 0 }

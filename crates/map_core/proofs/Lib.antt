@@ -1,11 +1,5 @@
-pub mod ListingRows
-pub mod LiveDarts
-mod PlacedGroups
-pub mod Labelling
-pub mod Adding
 pub mod SewingSteps
 pub mod KindNames
-pub mod CellIds
 pub mod Loaded
 pub mod Planned
 pub mod InsertingSteps
@@ -19,12 +13,4 @@ pub mod JournaledValues
 pub mod Retained
 pub mod GroupedDarts
 pub mod Marks
-pub mod Earlier
-pub mod RowCounts
-pub mod Heads
-pub mod Reversing
-pub mod RestoredGroups
-pub mod RulesBack
-pub mod TakenBack
-pub mod Roomed
 pub mod GoingBack

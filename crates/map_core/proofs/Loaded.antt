@@ -22,8 +22,8 @@ use Rattle.label_laws.proofs.Showing.{places-shown, kept-shown}
 use Rattle.label_laws.proofs.LineSteps.{made_rules}
 use Rattle.label_laws.proofs.Loading.{placed-labelled, loaded-stored, loaded-rules, loaded-values, loaded-others}
 use Rattle.map_core.specs.Made.{IsMadeOf}
-use Rattle.map_core.specs.Placed.{placed_group, placed_groups}
-use Rattle.map_core.proofs.PlacedGroups.{length-placed, placed-at, placed-cells}
+use Rattle.valued_map.specs.Placed.{placed_group, placed_groups}
+use Rattle.valued_map.proofs.PlacedGroups.{length-placed, placed-at, placed-cells}
 
 module _ (k : Kind) (n : ℕ) (rows : Rows) (before : Labeling) (was : Store) (rules : List (Option Rule)) (s : IsStoredMap k n rows before was rules)
     (empty : content_of k n rows before was rules ≡ empty_content k n)

@@ -1,7 +1,6 @@
 //! The dual of a generalized map.
-ghost use Rattle.std.specs.Prelude.{◌≡◌, ℕ, ◌+◌, ◌-◌, ◌≤◌, ◌<◌, length, reverse, IfOk, OnOk};
+ghost use Rattle.std.specs.Prelude.{◌≡◌, ◌+◌, ◌-◌, ◌≤◌, ◌<◌, length, reverse, IfOk, OnOk};
 ghost use Rattle.machine_defs.specs.Script.{Dual};
-ghost use Rattle.label_laws.specs.Turning.{AreTurned};
 ghost use Rattle.store_defs.specs.Groups.{rule_at};
 ghost use Rattle.label_laws.specs.Stored.{stored_value};
 ghost use Rattle.map_core.specs.Calls.{Does};
@@ -9,7 +8,6 @@ ghost use Rattle.map_core.specs.Noted.{AreDiffering, AreRuleChanges, IsValueAdde
 
 use crate::map::{Done, Map};
 use crate::note::{is_noting, keep, noted_edit, rule_of};
-use crate::relabel::stored_value;
 use attr_pool::{Labels, Pool};
 use attr_rules::Hook;
 use dual_map::{dual_plan, take_dual};
@@ -18,6 +16,7 @@ use map_kind::{Alpha, Dart, Kind, Refused};
 use std::alloc::{AllocError, Global};
 use transport::RuleRow;
 use undo_journal::{RuleChange, ValueChange};
+use valued_map::{stored_value, turn_labels, turn_rules};
 
 impl<'h, H: Hook, const DIM: usize> Map<'h, Alpha, H, DIM> {
     /// Makes the map its dual: the darts stay, link i of each becomes its link `DIM - i`, so the cells of dimension
@@ -150,21 +149,4 @@ fn add_turned_rule(
     }
     changes.push(RuleChange { dim, old, new })?;
     Ok(())
-}
-
-/// Lets the ids of each dimension go to that of the same cells in the dual. It costs the same for any map.
-fn turn_labels<const DIM: usize>(labels: &mut Labels<DIM>)
-    requires { DIM ≤ 8 }
-    ensures { AreTurned DIM labels.old labels.new }
-{
-    for dim in 0..(DIM + 1) / 2 {
-        labels.swap(dim, DIM - dim);
-    }
-}
-
-/// Lets the rule of each dimension go to that of the same cells in the dual.
-fn turn_rules(rules: &mut RuleRow)
-    ensures { rules.new ≡ reverse rules.old }
-{
-    rules.rules.reverse();
 }

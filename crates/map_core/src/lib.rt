@@ -16,11 +16,8 @@ mod map;
 mod mark;
 mod note;
 mod question;
-mod relabel;
 mod remove;
-mod restore;
 mod sew;
-mod touched;
 mod undo;
 mod value;
 

@@ -1,5 +1,5 @@
 //! A map that is made at once, from a mesh.
-ghost use Rattle.std.specs.Prelude.{◌≡◌, ◌==◌, ℕ, ◌+◌, ◌≤◌, ◌↔◌, [], ◌∷◌, None, cond, length, map, min, replicate, Contains, IfOk, OnOk, OnErr};
+ghost use Rattle.std.specs.Prelude.{◌≡◌, ℕ, ◌≤◌, ◌↔◌, [], ◌∷◌, None, map, min, Contains, IfOk, OnOk, OnErr};
 ghost use Rattle.std.specs.List.Sorted.{IsStrictlyIncreasing};
 ghost use Rattle.map_defs.specs.Rows.{IsLive, links_of, made};
 ghost use Rattle.map_defs.specs.Cells.{NamesCell};
@@ -8,21 +8,16 @@ ghost use Rattle.map_defs.specs.Laws.{Laws};
 ghost use Rattle.machine_defs.specs.State.{Content, empty_state};
 ghost use Rattle.machine_defs.specs.Loading.{first_state};
 ghost use Rattle.cell_walk.specs.CellLists.{AreCellsOf, lists_of};
-ghost use Rattle.store_defs.specs.Labelings.{HasPlaces, KeepsIds};
 ghost use Rattle.map_core.specs.Made.{IsMadeOf};
 
-use crate::make::make_room;
 use crate::map::{Done, Map};
-use crate::relabel::give_cells;
-use crate::value::{make_places, put_rule};
-use attr_pool::{Labels, Pool};
 use attr_rules::{Hook, Merge, Split, TableRule};
 use cell_walk::cells_of;
 use link_rows::{Edit, Links, MADE_MAX};
 use map_kind::{Dart, Kind, Place};
 use std::alloc::{AllocError, Global};
-use transport::RuleRow;
 use undo_journal::Journal;
+use valued_map::{give_cells, prepare, put_rule};
 
 impl<'h, K: Kind, H: Hook, const DIM: usize> Map<'h, K, H, DIM> {
     /// Makes a map from nothing by an edit, gives dimension 0 the rule `first copy` and each 0-cell its value: `places` has
@@ -123,29 +118,3 @@ const FIRST_COPY: TableRule = TableRule {
     merge: Merge::First,
     split: Split::Copied,
 };
-
-/// Takes the memory for an id of dimension 0 for each of so many darts, for so many values, and for the rules.
-fn prepare<const DIM: usize>(
-    alloc: Global,
-    labels: &mut Labels<DIM>,
-    pool: &mut Pool,
-    rules: &mut RuleRow,
-    darts: u32,
-    values: usize,
-) -> Result<(), AllocError>
-    requires { DIM ≤ 8 }
-    ensures long { OnOk result (darts ≤ labels.new.made) }
-    ensures longer { labels.old.made ≤ labels.new.made }
-    ensures ids { KeepsIds labels.old labels.new }
-    ensures places { OnOk result (HasPlaces labels.new 0) }
-    ensures places_stay { (i : ℕ) → HasPlaces labels.old i → HasPlaces labels.new i }
-    ensures slots { pool.new.slots ≡ pool.old.slots }
-    ensures values { OnOk result (values ≤ pool.new.spare) }
-    ensures rules { OnOk result (rules.new ≡ cond (length rules.old == 0) (replicate (DIM + 1) None) rules.old) }
-    ensures err { OnErr result (rules.new ≡ rules.old) }
-{
-    labels.grow(darts)?;
-    labels.open(0)?;
-    make_room(pool, values)?;
-    make_places(alloc, rules, DIM + 1)
-}

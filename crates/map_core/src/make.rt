@@ -1,5 +1,5 @@
 //! How an edit of the links is made, and the values with it.
-ghost use Rattle.std.specs.Prelude.{◌≡◌, ℕ, ◌+◌, ◌≤◌, ◌++◌, ◌<◌, List, Some, map, length, Contains, OnOk, OnErr, IfOk};
+ghost use Rattle.std.specs.Prelude.{◌≡◌, ℕ, ◌+◌, ◌≤◌, ◌++◌, ◌<◌, List, Some, map, length, OnOk, OnErr, IfOk};
 ghost use Rattle.map_defs.specs.Rows.{Rows, IsLive, links_of, made};
 ghost use Rattle.map_defs.specs.Laws.{Laws};
 ghost use Rattle.map_defs.specs.Edits.{Fits, after_edit, IsLed};
@@ -13,16 +13,14 @@ ghost use Rattle.map_core.specs.Noted.{AreOldValues, IsRelabelledPlace};
 
 use crate::map::Map;
 use crate::note::{keep, new_values, noted_edit, old_values};
-use crate::relabel::{end_ids, relabel};
-use crate::touched::touched_darts;
-use crate::value::has_places;
 use attr_pool::{Labels, Pool};
 use attr_rules::Hook;
 use link_rows::{Edit, Links, MADE_MAX};
 use map_kind::{Dart, Kind};
 use std::alloc::{AllocError, Global};
-use transport::{Group, RuleRow, carry};
+use transport::{Group, RuleRow};
 use undo_journal::{Journal, ValueChange};
+use valued_map::{carried, end_ids, relabel};
 
 impl<'h, K: Kind, H: Hook, const DIM: usize> Map<'h, K, H, DIM> {
     /// Makes an edit that only adds darts, linked among each other alone. They have no values, and no value changes. All
@@ -157,48 +155,4 @@ fn moved<K: Kind, H: Hook, const DIM: usize>(
     let groups = carried(alloc, links, labels, pool, rules, hook, edit)?;
     let olds = old_values(alloc, journal, labels, pool, &edit.deaths, &groups)?;
     Ok((groups, olds))
-}
-
-/// The cells whose darts the edit touched, with the values that are carried to them, and room in the pool for these
-/// values. Where no dimension has a rule there are none, and nothing is looked at.
-fn carried<K: Kind, H: Hook, const DIM: usize>(
-    alloc: Global,
-    links: &Links<K, DIM>,
-    labels: &Labels<DIM>,
-    pool: &mut Pool,
-    rules: &RuleRow,
-    hook: &H,
-    edit: &Edit,
-) -> Result<Vec<Group>, AllocError>
-    requires ready { H.ready hook.now }
-    requires led { (old : Rows) × IsLed K.kind DIM edit.now old links.now.rows
-        × IsStoredMap K.kind DIM old labels.now pool.old rules.now }
-    requires laws { Laws K.kind (links_of links.now.rows) }
-    ensures cells { IfOk result (λ groups. (old : Rows) → IsLed K.kind DIM edit.now old links.now.rows
-        → Laws K.kind (links_of old) → AreAllTouched K.kind old links.now.rows rules.now groups.items) }
-    ensures values { IfOk result (λ groups. (n : ℕ) → n < length groups.items
-        → HasCarriedValue K.kind (links_of links.now.rows) (IsLive links.now.rows) (id_of labels.now) pool.old
-        (H.meaning hook.now) rules.now (group_at groups.items n)) }
-    ensures room { IfOk result (λ groups. length groups.items ≤ pool.new.spare) }
-    ensures slots { pool.new.slots ≡ pool.old.slots }
-{
-    if !has_places(rules) {
-        return Ok(Vec::new(alloc));
-    }
-    let touched = touched_darts(alloc, links, edit)?;
-    let groups = carry(alloc, links, labels, pool, rules, hook, &touched)?;
-    make_room(pool, groups.len())?;
-    Ok(groups)
-}
-
-/// Makes room for so many further values.
-pub(crate) fn make_room(pool: &mut Pool, values: usize) -> Result<(), AllocError>
-    ensures slots { pool.new.slots ≡ pool.old.slots }
-    ensures room { OnOk result (values ≤ pool.new.spare) }
-{
-    let most = u32::MAX - pool.live_count();
-    if values > most as usize {
-        return Err(AllocError);
-    }
-    pool.reserve(values as u32)
 }

@@ -10,7 +10,6 @@ ghost use Rattle.trail_laws.specs.Trails.{IsOrdered};
 ghost use Rattle.label_laws.specs.Stored.{stored_value};
 ghost use Rattle.map_core.specs.Noted.{first_number, step_of, advanced, IsSorted, IsRelabelledPlace, AreOldValues, AreNewValues, IsOneRule, old_value};
 
-use crate::relabel::stored_value;
 use attr_pool::{Labels, Pool};
 use attr_rules::TableRule;
 use cell_walk::cell;
@@ -19,6 +18,7 @@ use map_kind::{Dart, Kind};
 use std::alloc::{AllocError, Global};
 use transport::{Group, RuleRow};
 use undo_journal::{Journal, RuleChange, Step, ValueChange};
+use valued_map::stored_value;
 
 /// Whether a mark stands, so that steps are noted. Here can be read what holds of every trail.
 pub(crate) fn is_noting(journal: &Journal) -> bool

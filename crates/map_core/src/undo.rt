@@ -4,10 +4,10 @@ ghost use Rattle.machine_defs.specs.Script.{Undo};
 ghost use Rattle.map_core.specs.Calls.{Does};
 
 use crate::map::{Done, Map};
-use crate::restore::take_back;
 use attr_rules::Hook;
 use map_kind::{Kind, Refused};
 use std::alloc::Global;
+use valued_map::take_back;
 
 impl<'h, K: Kind, H: Hook, const DIM: usize> Map<'h, K, H, DIM> {
     /// Goes back to the mark of this name: links, numbers of darts, values and rules are as they stood when it was set. The

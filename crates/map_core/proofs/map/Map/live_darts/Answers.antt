@@ -1,5 +1,5 @@
 use Rattle.std.proofs.Common.{refl}
-use Rattle.map_core.proofs.LiveDarts.{live-more}
+use Rattle.valued_map.proofs.LiveDarts.{live-more}
 use Rattle.map_core.proofs.map.Map.live_darts.Goals as goal
 
 pub loop-number-preserved : goal.loop-number-preserved

@@ -5,8 +5,8 @@ use Rattle.machine_defs.specs.Difference.{Difference}
 use Rattle.trail_laws.specs.Trails.{Trail, steps_since, back, IsOrdered}
 use Rattle.trail_laws.specs.Trails as trails
 use Rattle.label_laws.specs.Contents.{content_of}
-use Rattle.map_core.specs.Undoing.{AreStepsTo}
-use Rattle.map_core.proofs.Roomed.{all-have-room}
+use Rattle.valued_map.specs.Undoing.{AreStepsTo}
+use Rattle.valued_map.proofs.Roomed.{all-have-room}
 use Rattle.journal_laws.specs.Following.{all_taken_back}
 use Rattle.map_core.proofs.GoingBack.{steps-lead, undo-refused, undo-obeyed, undo-journaled, one-mark}
 use Rattle.map_core.proofs.map.Map.undo.Goals as goal

@@ -1,8 +1,0 @@
-use Rattle.std.proofs.Common.{◌≤◌, ◌+◌}
-use Rattle.label_laws.specs.Changing.{AreGroupsGiven}
-use Rattle.cell_walk.specs.CellLists.{lists_of}
-use Rattle.map_core.specs.Placed.{placed_groups}
-use Rattle.map_core.proofs.relabel.give_cells.Given as goal
-
-abbrev pub invariant-loop-index : goal.invariant-loop-index
-invariant-loop-index g l = AreGroupsGiven (placed_groups l.places (lists_of l.cells)) l.index l.fn.labels l.labels l.fn.pool l.pool × (l.fn.pool.spare ≤ l.pool.spare + l.index)

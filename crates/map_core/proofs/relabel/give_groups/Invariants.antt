@@ -1,6 +1,0 @@
-use Rattle.std.proofs.Common.{◌≤◌, ◌+◌}
-use Rattle.label_laws.specs.Changing.{AreGroupsGiven}
-use Rattle.map_core.proofs.relabel.give_groups.Given as goal
-
-abbrev pub invariant-loop-group : goal.invariant-loop-group
-invariant-loop-group g l = AreGroupsGiven l.groups l.group-index l.fn.labels l.labels l.fn.pool l.pool × (l.fn.pool.spare ≤ l.pool.spare + l.group-index)

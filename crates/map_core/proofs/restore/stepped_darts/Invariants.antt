@@ -1,7 +1,0 @@
-use Rattle.std.proofs.Common.{take, []}
-use Rattle.map_core.specs.Changing.{AreAdded}
-use Rattle.map_core.specs.Undoing.{IsNearStep}
-use Rattle.map_core.proofs.restore.stepped_darts.Given as goal
-
-abbrev pub invariant-loop-step : goal.invariant-loop-step
-invariant-loop-step g l = AreAdded l.links.rows (IsNearStep g.K.Kind.kind l.links.rows (take l.step-index l.steps)) [] l.darts.items

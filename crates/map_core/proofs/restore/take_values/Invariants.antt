@@ -1,7 +1,0 @@
-use Rattle.std.proofs.Common.{take}
-use Rattle.label_laws.specs.Changing.{AreTaken}
-use Rattle.map_core.specs.Undoing.{IsRevalued}
-use Rattle.map_core.proofs.restore.take_values.Given as goal
-
-abbrev pub invariant-loop-step : goal.invariant-loop-step
-invariant-loop-step g l = AreTaken (IsRevalued (take l.step-index l.steps)) l.fn.labels l.labels l.fn.pool l.pool

@@ -1,0 +1,14 @@
+pub mod ListingRows
+pub mod LiveDarts
+pub mod PlacedGroups
+pub mod Labelling
+pub mod Adding
+pub mod CellIds
+pub mod Earlier
+pub mod RowCounts
+pub mod Heads
+pub mod Reversing
+pub mod RestoredGroups
+pub mod RulesBack
+pub mod TakenBack
+pub mod Roomed

@@ -1,0 +1,11 @@
+use Rattle.std.proofs.Common.{ℕ, ◌≡◌, drop, Option}
+use Rattle.std.specs.Prelude.{unwrap_or}
+use Rattle.std.specs.Ordering.{nat_cmp}
+use Rattle.std.specs.BTreeMap as tree
+use Rattle.map_defs.specs.Values.{Value}
+use Rattle.valued_map.specs.Undoing.{old_among}
+use Rattle.valued_map.proofs.restore.put_old_values.Given as goal
+
+abbrev pub invariant-loop-change : goal.invariant-loop-change
+invariant-loop-change l = (d : ℕ) (value : Option Value)
+    → old_among (drop l.change-index l.changes) l.dim d (unwrap_or (tree.get nat_cmp l.values d) value) ≡ old_among l.changes l.dim d (unwrap_or (tree.get nat_cmp l.fn.values d) value)

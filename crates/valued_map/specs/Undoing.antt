@@ -1,0 +1,91 @@
+-- What steps that led to a map tell of the map before them.
+use Rattle.std.specs.Prelude.{ℕ, ◌≡◌, ◌+◌, ◌≤◌, ◌<◌, ◌⊎◌, ◌&&◌, nat_eq, cond, List, [], ◌∷◌, length, drop, Option, Contains, slice_index_or}
+use Rattle.map_defs.specs.Kind.{Kind, beta}
+use Rattle.map_defs.specs.Rows.{Rows, live_count}
+use Rattle.map_defs.specs.Values.{Value, Rule}
+use Rattle.map_defs.specs.Edits.{Change, Edit, IsLed, before_edit}
+use Rattle.machine_defs.specs.State.{Content}
+use Rattle.machine_defs.specs.Difference.{Difference, ValueChange, IsDifference, unruled}
+use Rattle.machine_defs.specs.Kept.{IsLawfulContent}
+use Rattle.store_defs.specs.Groups.{Group, group_at, least_of}
+use Rattle.journal_laws.specs.Following.{Follows, all_taken_back}
+use Rattle.valued_map.specs.Changing.{IsBeside}
+
+-- The steps lead to the content now: with those from number j on taken back the content is a lawful one, and step j leads
+-- from it to the content one step later. The default e stands for no step, since j is within the list.
+pub record AreStepsTo (now : Content) (steps : List Difference) : Type 0 where
+  pub kept : (j : ℕ) → j ≤ length steps → IsLawfulContent (all_taken_back (drop j steps) now)
+  pub follow : (j : ℕ) → j < length steps → Follows (all_taken_back (drop j steps) now) (all_taken_back (drop (j + 1) steps) now)
+  pub differ : (j : ℕ) (e : Difference) → j < length steps
+      → IsDifference (all_taken_back (drop j steps) now) (all_taken_back (drop (j + 1) steps) now) (slice_index_or steps j e)
+
+-- the step that changes nothing
+abbrev pub no_step : Difference
+no_step = record { first = 0; edit = record { births = 0; deaths = []; changes = [] }; values = []; rules = [] }
+
+abbrev pub step_at : List Difference → ℕ → Difference
+step_at steps j = slice_index_or steps j no_step
+
+-- the rows before steps, the last taken back first
+abbrev pub rows_before : ℕ → List Difference → Rows → Rows
+rows_before n [] rows = rows
+rows_before n (s ∷ ss) rows = before_edit n s.edit (rows_before n ss rows)
+
+-- The edit of each step leads on from the rows before it to those before the next step, and there was room for so many
+-- live darts as the map had and those that the edit bore.
+pub record AreEditsTo (k : Kind) (n : ℕ) (rows : Rows) (steps : List Difference) (places : ℕ) : Type 0 where
+  pub led : (j : ℕ) → j < length steps → IsLed k n (step_at steps j).edit (rows_before n (drop j steps) rows) (rows_before n (drop (j + 1) steps) rows)
+  pub room : (j : ℕ) → j < length steps → live_count (rows_before n (drop j steps) rows) + (step_at steps j).edit.births ≤ places
+
+-- there is room for so many live darts as stood before each step, together with those that it bore
+abbrev pub HasRoomFor : Content → List Difference → ℕ → Type 0
+HasRoomFor now steps places = (j : ℕ) → j < length steps → live_count (all_taken_back (drop j steps) now).rows + (step_at steps j).edit.births ≤ places
+
+-- the rules before steps, the last taken back first
+abbrev pub rules_before : List Difference → List (Option Rule) → List (Option Rule)
+rules_before [] rules = rules
+rules_before (s ∷ ss) rules = unruled s.rules (rules_before ss rules)
+
+-- the old value of the last of these changes that is one of dart d in dimension i; where there is none, this value
+abbrev pub old_among : List ValueChange → ℕ → ℕ → Option Value → Option Value
+old_among [] i d value = value
+old_among (c ∷ cs) i d value = old_among cs i d (cond (nat_eq c.dim i && nat_eq c.dart d) c.old value)
+
+-- the value before steps of dart d in dimension i, by the value that it has now
+abbrev pub value_before : List Difference → ℕ → ℕ → Option Value → Option Value
+value_before [] i d value = value
+value_before (s ∷ ss) i d value = old_among s.values i d (value_before ss i d value)
+
+-- one of these changes is of dart d in dimension i
+abbrev pub IsValueChanged : List ValueChange → ℕ → ℕ → Type 0
+IsValueChanged cs i d = (c : ValueChange) × Contains cs c × (c.dim ≡ i) × (c.dart ≡ d)
+
+-- some step changes the value of dart d in dimension i
+abbrev pub IsRevalued : List Difference → ℕ → ℕ → Type 0
+IsRevalued steps i d = (s : Difference) × Contains steps s × IsValueChanged s.values i d
+
+-- the dart of a change, and in a combinatorial map the dart that the change joined to it and those at its links
+abbrev pub IsNearChange : Kind → Rows → Change → ℕ → Type 0
+IsNearChange k rows c x = (x ≡ c.dart) ⊎ ((k ≡ beta) × ((x ≡ c.new) ⊎ IsBeside rows c.dart x))
+
+-- the darts that an edit ended, and those near its changes
+abbrev pub IsNearEdit : Kind → Rows → Edit → ℕ → Type 0
+IsNearEdit k rows e x = Contains e.deaths x ⊎ ((c : Change) × Contains e.changes c × IsNearChange k rows c x)
+
+abbrev pub IsNearStep : Kind → Rows → List Difference → ℕ → Type 0
+IsNearStep k rows steps x = (s : Difference) × Contains steps s × IsNearEdit k rows s.edit x
+
+-- a dart that some step may have moved to another cell, or whose value in dimension i some step changed
+abbrev pub IsStepped : Kind → Rows → List Difference → ℕ → ℕ → Type 0
+IsStepped k rows steps i d = IsNearStep k rows steps d ⊎ IsRevalued steps i d
+
+-- the change that takes a change back
+abbrev pub turned_change : Change → Change
+turned_change c = record { dart = c.dart; link = c.link; old = c.new; new = c.old }
+
+-- The first m cells have the value of their least darts, and are else what they were.
+pub record AreGivenValues (value : ℕ → Option Value) (m : ℕ) (old new : List Group) : Type 0 where
+  pub size : length new ≡ length old
+  pub dims : (n : ℕ) → (group_at new n).dim ≡ (group_at old n).dim
+  pub darts : (n : ℕ) → (group_at new n).darts ≡ (group_at old n).darts
+  pub values : (n : ℕ) → n < m → n < length old → 0 < length (group_at old n).darts → (group_at new n).value ≡ value (least_of (group_at old n))

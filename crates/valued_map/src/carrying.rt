@@ -1,0 +1,62 @@
+//! The values that an edit carries to the new cells, and room for values.
+ghost use Rattle.std.specs.Prelude.{◌≡◌, ℕ, ◌≤◌, ◌<◌, length, OnOk, IfOk};
+ghost use Rattle.map_defs.specs.Rows.{Rows, IsLive, links_of};
+ghost use Rattle.map_defs.specs.Laws.{Laws};
+ghost use Rattle.map_defs.specs.Edits.{IsLed};
+ghost use Rattle.store_defs.specs.Labelings.{id_of};
+ghost use Rattle.store_defs.specs.Groups.{group_at, HasCarriedValue};
+ghost use Rattle.label_laws.specs.Maps.{IsStoredMap};
+ghost use Rattle.label_laws.specs.Touching.{AreAllTouched};
+
+use crate::touched::touched_darts;
+use crate::value::has_places;
+use attr_pool::{Labels, Pool};
+use attr_rules::Hook;
+use link_rows::{Edit, Links};
+use map_kind::Kind;
+use std::alloc::{AllocError, Global};
+use transport::{Group, RuleRow, carry};
+
+/// The cells whose darts the edit touched, with the values that are carried to them, and room in the pool for these
+/// values. Where no dimension has a rule there are none, and nothing is looked at.
+pub fn carried<K: Kind, H: Hook, const DIM: usize>(
+    alloc: Global,
+    links: &Links<K, DIM>,
+    labels: &Labels<DIM>,
+    pool: &mut Pool,
+    rules: &RuleRow,
+    hook: &H,
+    edit: &Edit,
+) -> Result<Vec<Group>, AllocError>
+    requires ready { H.ready hook.now }
+    requires led { (old : Rows) × IsLed K.kind DIM edit.now old links.now.rows
+        × IsStoredMap K.kind DIM old labels.now pool.old rules.now }
+    requires laws { Laws K.kind (links_of links.now.rows) }
+    ensures cells { IfOk result (λ groups. (old : Rows) → IsLed K.kind DIM edit.now old links.now.rows
+        → Laws K.kind (links_of old) → AreAllTouched K.kind old links.now.rows rules.now groups.items) }
+    ensures values { IfOk result (λ groups. (n : ℕ) → n < length groups.items
+        → HasCarriedValue K.kind (links_of links.now.rows) (IsLive links.now.rows) (id_of labels.now) pool.old
+        (H.meaning hook.now) rules.now (group_at groups.items n)) }
+    ensures room { IfOk result (λ groups. length groups.items ≤ pool.new.spare) }
+    ensures slots { pool.new.slots ≡ pool.old.slots }
+{
+    if !has_places(rules) {
+        return Ok(Vec::new(alloc));
+    }
+    let touched = touched_darts(alloc, links, edit)?;
+    let groups = carry(alloc, links, labels, pool, rules, hook, &touched)?;
+    make_room(pool, groups.len())?;
+    Ok(groups)
+}
+
+/// Makes room for so many further values.
+pub(crate) fn make_room(pool: &mut Pool, values: usize) -> Result<(), AllocError>
+    ensures slots { pool.new.slots ≡ pool.old.slots }
+    ensures room { OnOk result (values ≤ pool.new.spare) }
+{
+    let most = u32::MAX - pool.live_count();
+    if values > most as usize {
+        return Err(AllocError);
+    }
+    pool.reserve(values as u32)
+}

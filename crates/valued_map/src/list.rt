@@ -1,0 +1,162 @@
+//! The rows of a listing, and its values.
+ghost use Rattle.std.specs.Prelude.{◌≡◌, ℕ, ◌+◌, ◌≤◌, ◌<◌, IfOk, OnOk, ◌++◌, ◌∷◌, [], map, None};
+ghost use Rattle.std.specs.List.{range_with_len};
+ghost use Rattle.map_defs.specs.Rows.{row_at, links_of};
+ghost use Rattle.machine_defs.specs.Listing.{live_rows_from};
+ghost use Rattle.store_defs.specs.Labelings.{id_of};
+ghost use Rattle.store_defs.specs.Groups.{rule_at};
+ghost use Rattle.label_laws.specs.Stored.{stored_value};
+ghost use Rattle.label_laws.specs.Lists.{AreListed, IsNamed, listed};
+
+use crate::ids::stored_value;
+use crate::value::has_rule;
+use attr_pool::{Labels, Pool};
+use link_rows::Links;
+use list_text::{ListRow, ListValue};
+use map_kind::{Dart, Kind, Place};
+use std::alloc::{AllocError, Global};
+use transport::RuleRow;
+
+/// The rows of the live darts, ascending.
+pub fn list_rows<K: Kind, const DIM: usize>(
+    alloc: Global,
+    links: &Links<K, DIM>,
+) -> Result<Vec<ListRow>, AllocError>
+    ensures { IfOk result (λ rows. rows.items ≡ live_rows_from 0 links.now.rows) }
+{
+    let mut rows = Vec::new(alloc);
+    for number in 0..links.made() {
+        list_row(alloc, links, Dart::new(number + 1).unwrap(), &mut rows)?;
+    }
+    Ok(rows)
+}
+
+/// Lists the row of a dart, if it is live.
+fn list_row<K: Kind, const DIM: usize>(
+    alloc: Global,
+    links: &Links<K, DIM>,
+    dart: Dart,
+    rows: &mut Vec<ListRow>,
+) -> Result<(), AllocError>
+    ensures { OnOk result (rows.new.items ≡ rows.old.items ++ live_rows_from dart (row_at links.now.rows dart ∷ [])) }
+{
+    if !links.is_live(dart) {
+        return Ok(());
+    }
+    let links = entries(alloc, links, dart)?;
+    rows.push(ListRow { dart, links })?;
+    Ok(())
+}
+
+/// The entries of a dart: the dart at each link from 0 on, 0 where the link is free.
+fn entries<K: Kind, const DIM: usize>(
+    alloc: Global,
+    links: &Links<K, DIM>,
+    dart: Dart,
+) -> Result<Vec<u32>, AllocError>
+    ensures { IfOk result (λ entries. entries.items
+        ≡ map (λ (i : ℕ). links_of links.now.rows i dart) (range_with_len 0 (DIM + 1))) }
+{
+    let mut entries = Vec::new(alloc);
+    for link in 0..links.dimension() + 1 {
+        entries.push(entry(links, dart, link))?;
+    }
+    Ok(entries)
+}
+
+/// The number of the dart at a link of a dart, 0 where the link is free.
+fn entry<K: Kind, const DIM: usize>(links: &Links<K, DIM>, dart: Dart, link: usize) -> u32
+    requires { link ≤ DIM }
+    ensures { result ≡ links_of links.now.rows link dart }
+{
+    match links.link(dart, link) {
+        Some(other) => other.number(),
+        None => 0,
+    }
+}
+
+/// The cells with a value, each by its least dart, ascending by dimension, then by dart.
+pub fn list_values<K: Kind, const DIM: usize>(
+    alloc: Global,
+    links: &Links<K, DIM>,
+    labels: &Labels<DIM>,
+    pool: &Pool,
+    rules: &RuleRow,
+) -> Result<Vec<ListValue>, AllocError>
+    requires { (i d : ℕ) → rule_at rules.now i ≡ None → id_of labels.now i d ≡ None }
+    ensures { IfOk result (λ values. AreListed labels.now pool.now
+        (λ i d. (i < DIM + 1) × IsNamed K.kind links.now.rows i d) values.items) }
+{
+    let mut values = Vec::new(alloc);
+    for dim in 0..links.dimension() + 1 {
+        list_dimension(alloc, links, labels, pool, rules, dim, &mut values)?;
+    }
+    Ok(values)
+}
+
+/// Lists the cells of a dimension with a value. Without a rule it has none, and is not looked at.
+fn list_dimension<K: Kind, const DIM: usize>(
+    alloc: Global,
+    links: &Links<K, DIM>,
+    labels: &Labels<DIM>,
+    pool: &Pool,
+    rules: &RuleRow,
+    dim: usize,
+    values: &mut Vec<ListValue>,
+) -> Result<(), AllocError>
+    requires high { DIM ≤ 8 }
+    requires dim { dim ≤ DIM }
+    requires bare { (d : ℕ) → rule_at rules.now dim ≡ None → id_of labels.now dim d ≡ None }
+    requires listed { AreListed labels.now pool.now
+        (λ i d. (i < dim) × IsNamed K.kind links.now.rows i d) values.old.items }
+    ensures { OnOk result (AreListed labels.now pool.now
+        (λ i d. (i < dim + 1) × IsNamed K.kind links.now.rows i d) values.new.items) }
+{
+    if !has_rule(rules, dim) {
+        return Ok(());
+    }
+    list_cells(alloc, links, labels, pool, dim, values)
+}
+
+/// Lists the cells of a dimension with a value.
+fn list_cells<K: Kind, const DIM: usize>(
+    alloc: Global,
+    links: &Links<K, DIM>,
+    labels: &Labels<DIM>,
+    pool: &Pool,
+    dim: usize,
+    values: &mut Vec<ListValue>,
+) -> Result<(), AllocError>
+    requires high { DIM ≤ 8 }
+    requires dim { dim ≤ DIM }
+    requires listed { AreListed labels.now pool.now
+        (λ i d. (i < dim) × IsNamed K.kind links.now.rows i d) values.old.items }
+    ensures { OnOk result (AreListed labels.now pool.now
+        (λ i d. (i < dim + 1) × IsNamed K.kind links.now.rows i d) values.new.items) }
+{
+    let cells = cell_walk::cells(alloc, links, dim)?;
+    for dart in &cells {
+        list_value(labels, pool, dim, *dart, values)?;
+    }
+    Ok(())
+}
+
+/// Lists a cell, if it has a value.
+fn list_value<const DIM: usize>(
+    labels: &Labels<DIM>,
+    pool: &Pool,
+    dim: usize,
+    dart: Dart,
+    values: &mut Vec<ListValue>,
+) -> Result<(), AllocError>
+    requires { dim ≤ 8 }
+    ensures { OnOk result (values.new.items ≡ values.old.items ++ listed dim dart (stored_value pool.now labels.now dim dart)) }
+{
+    let Some(value) = stored_value(labels, pool, dim, dart) else {
+        return Ok(());
+    };
+    let dim = dim as u32;
+    let place = Place { dart, value };
+    values.push(ListValue { dim, place })?;
+    Ok(())
+}
