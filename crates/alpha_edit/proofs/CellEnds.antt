@@ -1,5 +1,5 @@
 -- The darts of a cell that can be removed or contracted can end.
-use Rattle.std.proofs.Common.{ℕ, suc, ◌≡◌, ◌≢◌, ◌+◌, ◌⊎◌, ◌↔◌, List, Contains, subst, inl, inr, arith}
+use Rattle.std.proofs.Common.{ℕ, suc, ◌≡◌, ◌≢◌, ◌+◌, ◌⊎◌, ◌↔◌, List, Contains, refl, subst, inl, inr, arith}
 use Rattle.std.specs.Prelude.{All}
 use Rattle.std.specs.List.Sorted.{IsStrictlyIncreasing}
 use Rattle.map_defs.specs.Kind.{alpha, beta}
@@ -12,13 +12,14 @@ use Rattle.map_defs.specs.Edits.{Edit}
 use Rattle.map_defs.specs.Walks.{Walk, stop, go}
 use Rattle.map_defs.specs.Removal.{IsBridged, IsRemovable}
 use Rattle.map_defs.specs.Contraction.{IsContractible}
+use Rattle.link_laws.proofs.CellFacts.{alpha_closed}
 use Rattle.link_laws.proofs.RowFacts.{rows_made}
 use Rattle.remove_laws.proofs.Ends.{removal_found, contraction_found}
 use Rattle.remove_laws.proofs.Removed.{removed_laws, contracted_laws}
-use Rattle.alpha_edit.specs.Bridging.{across, CanEnd}
-use Rattle.alpha_edit.specs.Removing.{PlansEnding}
-use Rattle.alpha_edit.proofs.Premises.{orbit-live, leads-live, live-dart, all-live}
-use Rattle.alpha_edit.proofs.WalkTurns.{listed-told}
+use Rattle.cell_edit.specs.Bridging.{across, CanEnd}
+use Rattle.cell_edit.specs.Removing.{PlansEnding}
+use Rattle.cell_edit.proofs.Premises.{orbit-live, leads-live, live-dart, all-live}
+use Rattle.cell_edit.proofs.WalkTurns.{listed-told}
 
 -- ---- other words for the same set
 pub walk-same : (C D : ℕ → Type 0) (st : ℕ → ℕ) → ((x : ℕ) → C x ↔ D x) → {x y : ℕ} → Walk C st x y → Walk D st x y
@@ -35,7 +36,7 @@ bridged-of i C D Step L N same b = record {
 }
 
 pub ends-of : (n : ℕ) (rows : Rows) (i : ℕ) (C D : ℕ → Type 0) (Step : ℕ → ℕ) (e : Edit) → ((x : ℕ) → C x ↔ D x)
-    → PlansEnding n rows C (λ N. IsBridged alpha i C Step (links_of rows) N) e → PlansEnding n rows D (λ N. IsBridged alpha i D Step (links_of rows) N) e
+    → PlansEnding alpha n rows C (λ N. IsBridged alpha i C Step (links_of rows) N) e → PlansEnding alpha n rows D (λ N. IsBridged alpha i D Step (links_of rows) N) e
 ends-of n rows i C D Step e same done = record {
   births = done.births;
   members = λ x. ((λ h. (same x).0 ((done.members x).0 h)), λ h. (done.members x).1 ((same x).1 h));
@@ -62,15 +63,17 @@ module _ (n : ℕ) (rows : Rows) (sound : IsSound alpha n rows) (w : Laws alpha 
   dart : d ≢ 0
   dart = live-dart alpha n rows sound d live
 
-  pub removal-ends : IsRemovable alpha (links_of rows) i d → CanEnd rows i (i + 1) keys
-  removal-ends r = subst (λ a. CanEnd rows i a keys) (let e : suc i ≡ i + 1 = omega arith in e) (record {
+  pub removal-ends : IsRemovable alpha (links_of rows) i d → CanEnd alpha rows i (i + 1) keys
+  removal-ends r = subst (λ a. CanEnd alpha rows i a keys) (let e : suc i ≡ i + 1 = omega arith in e) (record {
+    own = refl;
     ascending = up;
     live = lives;
+    closed = λ x j has other some. (members _).1 (alpha_closed (links_of rows) i j d x other ((members x).0 has) some);
     ends = λ x out.
         let e = removal_found (made rows) d (links_of rows) (rows_made rows) dart alpha i w (λ k. absurd (alpha-not k)) r told x (λ h. out ((members x).1 h)) in
-        (e.0, walk-same (InCell alpha (links_of rows) i d) (Contains keys) (across (links_of rows) i (suc i)) back e.1);
+        (e.0, walk-same (InCell alpha (links_of rows) i d) (Contains keys) (across alpha (links_of rows) i (suc i)) back e.1);
     keeps = λ N b. removed_laws alpha (made rows) i d (links_of rows) N w (rows_made rows) dart r
-        (bridged-of i (Contains keys) (InCell alpha (links_of rows) i d) (across (links_of rows) i (suc i)) (links_of rows) N members b);
+        (bridged-of i (Contains keys) (InCell alpha (links_of rows) i d) (across alpha (links_of rows) i (suc i)) (links_of rows) N members b);
   })
     where
       alpha-not : alpha ≡ beta → ⊥
@@ -79,13 +82,15 @@ module _ (n : ℕ) (rows : Rows) (sound : IsSound alpha n rows) (w : Laws alpha 
 -- a contraction is of an edge at least
 module _ (n : ℕ) (rows : Rows) (sound : IsSound alpha n rows) (w : Laws alpha (links_of rows)) (i d : ℕ) (live : IsLive rows d) (keys : List ℕ)
     (members : (x : ℕ) → Contains keys x ↔ InCell alpha (links_of rows) (suc i) d x) (up : IsStrictlyIncreasing keys) where
-  pub contraction-ends : IsContractible alpha (links_of rows) (suc i) d → CanEnd rows (suc i) i keys
+  pub contraction-ends : IsContractible alpha (links_of rows) (suc i) d → CanEnd alpha rows (suc i) i keys
   contraction-ends r = record {
+    own = refl;
     ascending = up;
     live = lives n rows sound w (suc i) d live keys members up;
+    closed = λ x j has other some. (members _).1 (alpha_closed (links_of rows) (suc i) j d x other ((members x).0 has) some);
     ends = λ x out.
         let e = contraction_found (made rows) d (links_of rows) (rows_made rows) (dart n rows sound w (suc i) d live keys members up) alpha (suc i) w r (told n rows sound w (suc i) d live keys members up) x (λ h. out ((members x).1 h)) in
-        (e.0, walk-same (InCell alpha (links_of rows) (suc i) d) (Contains keys) (across (links_of rows) (suc i) i) (back n rows sound w (suc i) d live keys members up) e.1);
+        (e.0, walk-same (InCell alpha (links_of rows) (suc i) d) (Contains keys) (across alpha (links_of rows) (suc i) i) (back n rows sound w (suc i) d live keys members up) e.1);
     keeps = λ N b. contracted_laws alpha (made rows) (suc i) d (links_of rows) N w (rows_made rows) (dart n rows sound w (suc i) d live keys members up) r
-        (bridged-of (suc i) (Contains keys) (InCell alpha (links_of rows) (suc i) d) (across (links_of rows) (suc i) i) (links_of rows) N members b);
+        (bridged-of (suc i) (Contains keys) (InCell alpha (links_of rows) (suc i) d) (across alpha (links_of rows) (suc i) i) (links_of rows) N members b);
   }

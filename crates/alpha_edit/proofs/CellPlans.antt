@@ -11,8 +11,8 @@ use Rattle.map_defs.specs.Edits.{Edit}
 use Rattle.map_defs.specs.Removal.{CommutesAt, IsBridged, IsRemovable, IsRemoved}
 use Rattle.map_defs.specs.Contraction.{IsContractibleAt, IsContractible, IsContracted}
 use Rattle.std.specs.List.Sorted.{IsStrictlyIncreasing}
-use Rattle.alpha_edit.specs.Bridging.{across, CanEnd}
-use Rattle.alpha_edit.specs.Removing.{PlansEnding}
+use Rattle.cell_edit.specs.Bridging.{across, CanEnd}
+use Rattle.cell_edit.specs.Removing.{PlansEnding}
 use Rattle.alpha_edit.proofs.CellEnds.{ends-of, contraction-ends}
 
 commutes-at : (L : Links) (i j k l b : ℕ) → i ≡ k → j ≡ l → CommutesAt L i j b → CommutesAt L k l b
@@ -57,19 +57,19 @@ module _ (L : Links) (keys : List ℕ) where
 -- the edit that ends the darts of a cell removes it, or contracts it
 module _ (n : ℕ) (rows : Rows) (d : ℕ) (keys : List ℕ) (e : Edit) where
   pub removed-ends : (i : ℕ) → ((x : ℕ) → Contains keys x ↔ InCell alpha (links_of rows) i d x)
-      → PlansEnding n rows (Contains keys) (λ N. IsBridged alpha i (Contains keys) (across (links_of rows) i (i + 1)) (links_of rows) N) e
-      → PlansEnding n rows (InCell alpha (links_of rows) i d) (λ N. IsRemoved alpha i d (links_of rows) N) e
+      → PlansEnding alpha n rows (Contains keys) (λ N. IsBridged alpha i (Contains keys) (across alpha (links_of rows) i (i + 1)) (links_of rows) N) e
+      → PlansEnding alpha n rows (InCell alpha (links_of rows) i d) (λ N. IsRemoved alpha i d (links_of rows) N) e
   removed-ends i members done =
-      ends-of n rows i (Contains keys) (InCell alpha (links_of rows) i d) (across (links_of rows) i (suc i)) e members
-      (subst (λ a. PlansEnding n rows (Contains keys) (λ N. IsBridged alpha i (Contains keys) (across (links_of rows) i a) (links_of rows) N) e) (let f : i + 1 ≡ suc i = omega arith in f) done)
+      ends-of n rows i (Contains keys) (InCell alpha (links_of rows) i d) (across alpha (links_of rows) i (suc i)) e members
+      (subst (λ a. PlansEnding alpha n rows (Contains keys) (λ N. IsBridged alpha i (Contains keys) (across alpha (links_of rows) i a) (links_of rows) N) e) (let f : i + 1 ≡ suc i = omega arith in f) done)
 
   pub contracted-ends : (i : ℕ) → i ≢ 0 → ((x : ℕ) → Contains keys x ↔ InCell alpha (links_of rows) i d x)
-      → PlansEnding n rows (Contains keys) (λ N. IsBridged alpha i (Contains keys) (across (links_of rows) i (i - 1)) (links_of rows) N) e
-      → PlansEnding n rows (InCell alpha (links_of rows) i d) (λ N. IsContracted alpha i d (links_of rows) N) e
+      → PlansEnding alpha n rows (Contains keys) (λ N. IsBridged alpha i (Contains keys) (across alpha (links_of rows) i (i - 1)) (links_of rows) N) e
+      → PlansEnding alpha n rows (InCell alpha (links_of rows) i d) (λ N. IsContracted alpha i d (links_of rows) N) e
   contracted-ends zero some members done = absurd (some refl)
   contracted-ends (suc i) some members done =
-      ends-of n rows (suc i) (Contains keys) (InCell alpha (links_of rows) (suc i) d) (across (links_of rows) (suc i) i) e members
-      (subst (λ a. PlansEnding n rows (Contains keys) (λ N. IsBridged alpha (suc i) (Contains keys) (across (links_of rows) (suc i) a) (links_of rows) N) e) (let f : suc i - 1 ≡ i = omega arith in f) done)
+      ends-of n rows (suc i) (Contains keys) (InCell alpha (links_of rows) (suc i) d) (across alpha (links_of rows) (suc i) i) e members
+      (subst (λ a. PlansEnding alpha n rows (Contains keys) (λ N. IsBridged alpha (suc i) (Contains keys) (across alpha (links_of rows) (suc i) a) (links_of rows) N) e) (let f : suc i - 1 ≡ i = omega arith in f) done)
 
 -- a vertex is never contracted
 pub above-vertex : (L : Links) (i d : ℕ) → IsContractible alpha L i d → i ≢ 0
@@ -77,7 +77,7 @@ above-vertex L zero d can is = can.each d here
 above-vertex L (suc i) d can is = omega arith
 
 pub contraction-can : (n : ℕ) (rows : Rows) → IsSound alpha n rows → Laws alpha (links_of rows) → (i d : ℕ) → IsLive rows d → (keys : List ℕ) → ((x : ℕ) → Contains keys x ↔ InCell alpha (links_of rows) i d x)
-    → IsStrictlyIncreasing keys → IsContractible alpha (links_of rows) i d → CanEnd rows i (i - 1) keys
+    → IsStrictlyIncreasing keys → IsContractible alpha (links_of rows) i d → CanEnd alpha rows i (i - 1) keys
 contraction-can n rows sound w zero d live keys members up can = absurd (can.each d here)
 contraction-can n rows sound w (suc i) d live keys members up can =
-    subst (λ a. CanEnd rows (suc i) a keys) (let f : i ≡ suc i - 1 = omega arith in f) (contraction-ends n rows sound w i d live keys members up can)
+    subst (λ a. CanEnd alpha rows (suc i) a keys) (let f : i ≡ suc i - 1 = omega arith in f) (contraction-ends n rows sound w i d live keys members up can)

@@ -8,9 +8,9 @@ use Rattle.map_defs.specs.Rows.{Rows, links_of, IsLive, IsSound}
 use Rattle.map_defs.specs.Insertion.{IsInsertable, IsCarrying, IsLinkedBy, AreOnOneSide, AlphaEdgeDarts, AlphaEdgePairs, AreAlphaEdgePaired}
 use Rattle.insert_laws.proofs.AlphaInsert.{alpha_edge_can}
 use Rattle.sewing.specs.Triples.{Triple, Lists}
-use Rattle.alpha_edit.specs.Writing.{ArePairsOf}
-use Rattle.alpha_edit.proofs.AlongLinks.{links-orbit, zero-one}
-use Rattle.alpha_edit.proofs.Premises.{insertable-same, orbit-live, linked-live, pairs-among}
+use Rattle.cell_edit.specs.Writing.{ArePairsOf}
+use Rattle.cell_edit.proofs.AlongLinks.{links-orbit, zero-one}
+use Rattle.cell_edit.proofs.Premises.{insertable-same, orbit-live, linked-live, pairs-among}
 
 pub one-side : (L : Links) (d e : ℕ) → InOrbit (IsLinkedBy L (Contains (0 ∷ 1 ∷ []))) d e ↔ AreOnOneSide L d e
 one-side L d e = links-orbit L (Contains (0 ∷ 1 ∷ [])) (λ j. j ≤ 1) (λ j x has some. (zero-one j).0 has) (λ j x low some. (zero-one j).1 low) d e
@@ -38,4 +38,4 @@ module _ (L : Links) (d e : ℕ) (dart_d : d ≢ 0) (dart_e : e ≢ 0) (good : A
   edge-insertable = insertable-same alpha 1 (AlphaEdgeDarts L d e) (Contains keys) (AlphaEdgePairs L d e) (Lists pairs) L members same (alpha_edge_can L d e dart_d dart_e good)
 
   pub edge-pairs-of : ArePairsOf keys pairs
-  edge-pairs-of = pairs-among 1 keys pairs L edge-insertable (λ x y t has. (same y x t).1 (turned ((same x y t).0 has)))
+  edge-pairs-of = pairs-among alpha 1 keys pairs L edge-insertable (λ x y t has. (same y x t).1 (turned ((same x y t).0 has)))

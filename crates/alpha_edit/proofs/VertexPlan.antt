@@ -8,8 +8,8 @@ use Rattle.map_defs.specs.Cells.{InCell, Leads}
 use Rattle.map_defs.specs.Insertion.{IsInsertable, NoPairs}
 use Rattle.insert_laws.proofs.AlphaInsert.{alpha_vertex_can}
 use Rattle.sewing.specs.Triples.{Lists, IsAscending}
-use Rattle.alpha_edit.specs.Writing.{ArePairsOf}
-use Rattle.alpha_edit.proofs.Premises.{insertable-same, orbit-live, leads-live}
+use Rattle.cell_edit.specs.Writing.{ArePairsOf}
+use Rattle.cell_edit.proofs.Premises.{insertable-same, orbit-live, leads-live}
 
 pub no-pairs : (x y t : ℕ) → Lists [] x y t ↔ NoPairs x y t
 no-pairs x y t = (λ has. omega (arith, has.1), λ none. absurd none)

@@ -2,12 +2,10 @@ ghost use Rattle.std.specs.Prelude.{◌≡◌, ℕ, ◌≤◌, ◌↔◌, ◌⊎
 ghost use Rattle.map_defs.specs.Kind.{alpha};
 ghost use Rattle.map_defs.specs.Rows.{links_of, IsLive};
 ghost use Rattle.map_defs.specs.Laws.{Laws};
-ghost use Rattle.map_defs.specs.Cells.{InCell};
-ghost use Rattle.map_defs.specs.Contraction.{IsContractibleAt, IsContractible, IsContracted};
-ghost use Rattle.alpha_edit.specs.Removing.{PlansEnding};
+ghost use Rattle.map_defs.specs.Contraction.{IsContractibleAt};
+ghost use Rattle.cell_edit.specs.Planning.{PlansContraction, TellsContractible};
 
-use crate::crossing::are_commuting;
-use crate::ending::ending;
+use cell_edit::{are_commuting, ending_edit};
 use cell_walk::cell;
 use link_rows::{Edit, Links};
 use map_kind::{Alpha, Dart, Refusal, Refused};
@@ -22,7 +20,7 @@ pub fn contractible<const DIM: usize>(
     dart: Dart,
 ) -> Result<bool, AllocError>
     requires { dim ≤ DIM }
-    ensures { IfOk result (λ contractible. IsTrue contractible ↔ IsContractible alpha (links_of links.now.rows) dim dart) }
+    ensures { IfOk result (TellsContractible alpha links.now.rows dim dart) }
 {
     let darts = cell(alloc, links, dim, dart)?;
     Ok(can_contract(links, dim, &darts))
@@ -45,17 +43,7 @@ pub fn contract_plan<const DIM: usize>(
     requires dim { dim ≤ DIM }
     requires dart { IsLive links.now.rows dart }
     requires laws { Laws alpha (links_of links.now.rows) }
-
-    // It answers where the cell can be contracted, with an edit that contracts it.
-    ensures contractible { OnOk result (IsContractible alpha (links_of links.now.rows) dim dart) }
-    ensures ends { IfOk result (λ edit. PlansEnding DIM links.now.rows (InCell alpha (links_of links.now.rows) dim dart)
-        (λ N. IsContracted alpha dim dart (links_of links.now.rows) N) edit) }
-
-    // It is refused where it cannot, or for want of memory.
-    ensures not_contractible { IsErrOf result (Refused.Line Refusal.NotContractible)
-        → IsContractible alpha (links_of links.now.rows) dim dart → ⊥ }
-    ensures refusals { IfErr result (λ refused. (refused ≡ Refused.NoMemory)
-        ⊎ (refused ≡ Refused.Line Refusal.NotContractible)) }
+    ensures { PlansContraction alpha DIM links.now.rows dim dart result }
 {
     // Links name live darts.
     let _ = links.dimension();
@@ -63,7 +51,7 @@ pub fn contract_plan<const DIM: usize>(
     if !can_contract(links, dim, &darts) {
         return Err(Refused::Line(Refusal::NotContractible));
     }
-    Ok(ending(alloc, links, dim, dim - 1, darts)?)
+    Ok(ending_edit(alloc, links, dim, dim - 1, darts)?)
 }
 
 /// Whether the darts of a cell of dimension `dim`, of which there are some, meet the condition of contraction.

@@ -1,14 +1,13 @@
-ghost use Rattle.std.specs.Prelude.{◌≡◌, ℕ, ◌≤◌, ◌↔◌, ◌⊎◌, Contains, IfOk, IfErr, OnOk, IsErrOf, IsTrue};
+ghost use Rattle.std.specs.Prelude.{◌≡◌, ℕ, ◌≤◌, ◌↔◌, Contains, IfOk, OnOk, IsErrOf, IsTrue};
 ghost use Rattle.std.specs.List.Sorted.{IsStrictlyIncreasing};
 ghost use Rattle.map_defs.specs.Kind.{alpha};
 ghost use Rattle.map_defs.specs.Rows.{links_of, IsLive};
 ghost use Rattle.map_defs.specs.Laws.{Laws};
-ghost use Rattle.map_defs.specs.Insertion.{AreOnOneSide, InAlphaCorner, AlphaEdgeDarts, AlphaEdgePairs, AreAlphaEdgePaired, IsAlphaEdge};
+ghost use Rattle.map_defs.specs.Insertion.{AreOnOneSide, InAlphaCorner, AlphaEdgeDarts, AlphaEdgePairs, AreAlphaEdgePaired};
 ghost use Rattle.sewing.specs.Triples.{Lists, IsAscending};
-ghost use Rattle.alpha_edit.specs.Inserting.{PlansInsertion};
+ghost use Rattle.cell_edit.specs.Planning.{PlansEdge};
 
-use crate::along::{carried_darts, carrying_links, insertion_pairs, leads};
-use crate::insertion::insertion;
+use cell_edit::{carried_darts, carrying_links, insertion_edit, insertion_pairs, leads};
 use link_rows::{Edit, Links};
 use map_kind::{Alpha, Dart, Refusal, Refused};
 use sewing::{PairFault, Triple};
@@ -32,25 +31,7 @@ pub fn edge_plan<const DIM: usize>(
     requires one { IsLive links.now.rows one }
     requires other { IsLive links.now.rows other }
     requires laws { Laws alpha (links_of links.now.rows) }
-
-    // It answers where an edge fits between the corners, with an edit that inserts it.
-    ensures one_side { OnOk result (AreOnOneSide (links_of links.now.rows) one other) }
-    ensures two_corners { OnOk result (InAlphaCorner (links_of links.now.rows) one other → ⊥) }
-    ensures paired { OnOk result (AreAlphaEdgePaired (links_of links.now.rows) one other) }
-    ensures inserts { IfOk result (λ edit. PlansInsertion DIM links.now.rows (AlphaEdgeDarts (links_of links.now.rows) one other)
-        (λ star N. IsAlphaEdge one other star (links_of links.now.rows) N) edit) }
-
-    // It is refused where none fits, or for want of memory.
-    ensures other_cell { IsErrOf result (Refused.Line Refusal.OtherCell)
-        → AreOnOneSide (links_of links.now.rows) one other → ⊥ }
-    ensures same_corner { IsErrOf result (Refused.Line Refusal.SameCorner)
-        → AreOnOneSide (links_of links.now.rows) one other × InAlphaCorner (links_of links.now.rows) one other }
-    ensures unpaired { IsErrOf result (Refused.Line Refusal.Unpaired)
-        → AreOnOneSide (links_of links.now.rows) one other × (InAlphaCorner (links_of links.now.rows) one other → ⊥)
-        × (AreAlphaEdgePaired (links_of links.now.rows) one other → ⊥) }
-    ensures refusals { IfErr result (λ refused. (refused ≡ Refused.NoMemory)
-        ⊎ ((refused ≡ Refused.Line Refusal.OtherCell)
-        ⊎ ((refused ≡ Refused.Line Refusal.SameCorner) ⊎ (refused ≡ Refused.Line Refusal.Unpaired)))) }
+    ensures { PlansEdge alpha DIM links.now.rows one other result }
 {
     // A map has links 0 to 2 at least.
     let _ = links.dimension();
@@ -63,7 +44,7 @@ pub fn edge_plan<const DIM: usize>(
     match edge_pairs(alloc, links, one, other) {
         Ok(pairs) => {
             let darts = corner_darts(alloc, links, one, other)?;
-            Ok(insertion(alloc, links, 1, darts, &pairs)?)
+            Ok(insertion_edit(alloc, links, 1, darts, &pairs)?)
         }
         Err(PairFault::Unpaired) => Err(Refused::Line(Refusal::Unpaired)),
         Err(PairFault::NoMemory) => Err(Refused::NoMemory),
@@ -92,7 +73,7 @@ fn are_in_one_corner<const DIM: usize>(
 ) -> Result<bool, AllocError>
     ensures { IfOk result (λ one_corner. IsTrue one_corner ↔ InAlphaCorner (links_of links.now.rows) one other) }
 {
-    let carrying = carrying_links(alloc, links.dimension(), 1)?;
+    let carrying = carrying_links::<Alpha>(alloc, links.dimension(), 1)?;
     leads(alloc, links, &carrying, one, other)
 }
 

@@ -1,13 +1,10 @@
-ghost use Rattle.std.specs.Prelude.{◌≡◌, ◌≤◌, ◌↔◌, ◌⊎◌, IfOk, IfErr, OnOk, IsErrOf, IsTrue};
+ghost use Rattle.std.specs.Prelude.{◌≤◌, IfOk};
 ghost use Rattle.map_defs.specs.Kind.{alpha};
 ghost use Rattle.map_defs.specs.Rows.{links_of, IsLive};
 ghost use Rattle.map_defs.specs.Laws.{Laws};
-ghost use Rattle.map_defs.specs.Cells.{InCell};
-ghost use Rattle.map_defs.specs.Removal.{IsRemovable, IsRemoved};
-ghost use Rattle.alpha_edit.specs.Removing.{PlansEnding};
+ghost use Rattle.cell_edit.specs.Planning.{PlansRemoval, TellsRemovable};
 
-use crate::crossing::are_commuting;
-use crate::ending::ending;
+use cell_edit::{are_commuting, ending_edit};
 use cell_walk::cell;
 use link_rows::{Edit, Links};
 use map_kind::{Alpha, Dart, Refusal, Refused};
@@ -22,7 +19,7 @@ pub fn removable<const DIM: usize>(
     dart: Dart,
 ) -> Result<bool, AllocError>
     requires { dim ≤ DIM }
-    ensures { IfOk result (λ removable. IsTrue removable ↔ IsRemovable alpha (links_of links.now.rows) dim dart) }
+    ensures { IfOk result (TellsRemovable alpha links.now.rows dim dart) }
 {
     // A map has links 0 to 8 at most.
     let _ = links.dimension();
@@ -46,17 +43,7 @@ pub fn remove_plan<const DIM: usize>(
     requires dim { dim ≤ DIM }
     requires dart { IsLive links.now.rows dart }
     requires laws { Laws alpha (links_of links.now.rows) }
-
-    // It answers where the cell can be removed, with an edit that removes it.
-    ensures removable { OnOk result (IsRemovable alpha (links_of links.now.rows) dim dart) }
-    ensures ends { IfOk result (λ edit. PlansEnding DIM links.now.rows (InCell alpha (links_of links.now.rows) dim dart)
-        (λ N. IsRemoved alpha dim dart (links_of links.now.rows) N) edit) }
-
-    // It is refused where it cannot, or for want of memory.
-    ensures not_removable { IsErrOf result (Refused.Line Refusal.NotRemovable)
-        → IsRemovable alpha (links_of links.now.rows) dim dart → ⊥ }
-    ensures refusals { IfErr result (λ refused. (refused ≡ Refused.NoMemory)
-        ⊎ (refused ≡ Refused.Line Refusal.NotRemovable)) }
+    ensures { PlansRemoval alpha DIM links.now.rows dim dart result }
 {
     // A map has links 0 to 8 at most, and they name live darts.
     let _ = links.dimension();
@@ -64,5 +51,5 @@ pub fn remove_plan<const DIM: usize>(
     if !are_commuting(links, dim + 1, dim + 2, &darts) {
         return Err(Refused::Line(Refusal::NotRemovable));
     }
-    Ok(ending(alloc, links, dim, dim + 1, darts)?)
+    Ok(ending_edit(alloc, links, dim, dim + 1, darts)?)
 }

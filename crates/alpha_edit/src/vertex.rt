@@ -2,11 +2,9 @@ ghost use Rattle.std.specs.Prelude.{IfOk};
 ghost use Rattle.map_defs.specs.Kind.{alpha};
 ghost use Rattle.map_defs.specs.Rows.{links_of, IsLive};
 ghost use Rattle.map_defs.specs.Laws.{Laws};
-ghost use Rattle.map_defs.specs.Cells.{InCell};
-ghost use Rattle.map_defs.specs.Insertion.{IsAlphaVertex};
-ghost use Rattle.alpha_edit.specs.Inserting.{PlansInsertion};
+ghost use Rattle.cell_edit.specs.Planning.{PlansVertex};
 
-use crate::insertion::insertion;
+use cell_edit::insertion_edit;
 use cell_walk::cell;
 use link_rows::{Edit, Links};
 use map_kind::{Alpha, Dart};
@@ -24,10 +22,9 @@ pub fn vertex_plan<const DIM: usize>(
 ) -> Result<Edit, AllocError>
     requires dart { IsLive links.now.rows dart }
     requires laws { Laws alpha (links_of links.now.rows) }
-    ensures { IfOk result (λ edit. PlansInsertion DIM links.now.rows (InCell alpha (links_of links.now.rows) 1 dart)
-        (λ star N. IsAlphaVertex dart star (links_of links.now.rows) N) edit) }
+    ensures { IfOk result (PlansVertex alpha DIM links.now.rows dart) }
 {
     // A map has links 0 to 2 at least.
     let _ = links.dimension();
-    insertion(alloc, links, 0, cell(alloc, links, 1, dart)?, &[])
+    insertion_edit(alloc, links, 0, cell(alloc, links, 1, dart)?, &[])
 }

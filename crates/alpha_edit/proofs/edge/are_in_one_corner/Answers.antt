@@ -4,7 +4,7 @@ use Rattle.map_defs.specs.Kind.{alpha}
 use Rattle.map_defs.specs.Rows.{links_of}
 use Rattle.map_defs.specs.Insertion.{IsCarrying}
 use Rattle.link_laws.proofs.RowFacts.{rows_dimension}
-use Rattle.alpha_edit.proofs.AlongLinks.{listed-orbit, listed-low}
+use Rattle.cell_edit.proofs.AlongLinks.{listed-orbit, listed-low}
 use Rattle.alpha_edit.proofs.edge.are_in_one_corner.Goals as goal
 
 pub leads-requires : goal.leads-requires

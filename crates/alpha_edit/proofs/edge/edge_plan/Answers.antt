@@ -1,15 +1,16 @@
-use Rattle.std.proofs.Common.{ℕ, ◌≢◌, List, Contains, lit<, arith}
+use Rattle.std.proofs.Common.{ℕ, ◌≢◌, List, Contains, lit<, sym, ◌∙◌, arith}
+use Rattle.std.proofs.lemmas.Bool.{false≢true}
 use Rattle.std.specs.Prelude.{All}
 use Rattle.map_defs.specs.Kind.{alpha}
 use Rattle.map_defs.specs.Rows.{links_of, IsLive}
 use Rattle.map_defs.specs.Insertion.{AlphaEdgeDarts, AlphaEdgePairs}
 use Rattle.sewing.specs.Triples.{Lists, Triple}
-use Rattle.alpha_edit.proofs.Premises.{inserts-same, live-dart, all-live}
+use Rattle.cell_edit.proofs.Premises.{inserts-same, live-dart, all-live}
 use Rattle.alpha_edit.proofs.EdgePlan.{corners-live, edge-insertable, edge-pairs-of}
 use Rattle.alpha_edit.proofs.edge.edge_plan.Goals as goal
 
-pub insertion-requires : goal.insertion-requires
-insertion-requires g c =
+pub insertion_edit-requires : goal.insertion_edit-requires
+insertion_edit-requires g c =
     let rows = c.args.links.now.rows in
     let sound = c.dimension.ensures.sound in
     let keys : List ℕ = c.in_ok-darts-in-Ok.darts.items in
@@ -38,9 +39,13 @@ insertion-requires g c =
       ),
     )
 
-pub returns-in_ok-insertion-in-Ok-clause-inserts : goal.returns-in_ok-insertion-in-Ok-clause-inserts
-returns-in_ok-insertion-in-Ok-clause-inserts g c =
-    let rows = c.args.links.now.rows in
-    inserts-same g.row.DIM rows (AlphaEdgeDarts (links_of rows) c.args.one c.args.other) (Contains c.in_ok-darts-in-Ok.darts.items) alpha 1
-    (AlphaEdgePairs (links_of rows) c.args.one c.args.other) (Lists c.in-Ok.pairs.items) c.in_ok-insertion-in-Ok.field-0 c.in_ok-darts-in-Ok.ensures.members c.in-Ok.ensures.members
-    (rw c.deref.ensures.value at c.in_ok-insertion-in-Ok.ensures)
+pub returns-in_ok-insertion_edit-in-Ok : goal.returns-in_ok-insertion_edit-in-Ok
+returns-in_ok-insertion_edit-in-Ok g c =
+    let rows = c.args.links.now.rows in (
+      c.in_ok-are_on_one_side.ensures.0 c.if-not-branch.false,
+      λ same. false≢true (sym c.if-branch.false ∙ c.in_ok-are_in_one_corner.ensures.1 same),
+      c.in-Ok.ensures.paired,
+      inserts-same g.row.DIM rows (AlphaEdgeDarts (links_of rows) c.args.one c.args.other) (Contains c.in_ok-darts-in-Ok.darts.items) alpha 1
+          (AlphaEdgePairs (links_of rows) c.args.one c.args.other) (Lists c.in-Ok.pairs.items) c.in_ok-insertion_edit-in-Ok.field-0 c.in_ok-darts-in-Ok.ensures.members c.in-Ok.ensures.members
+          (rw c.deref.ensures.value at c.in_ok-insertion_edit-in-Ok.ensures),
+    )

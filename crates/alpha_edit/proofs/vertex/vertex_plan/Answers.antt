@@ -6,12 +6,12 @@ use Rattle.map_defs.specs.Rows.{links_of, IsLive}
 use Rattle.map_defs.specs.Cells.{InCell}
 use Rattle.map_defs.specs.Insertion.{NoPairs}
 use Rattle.sewing.specs.Triples.{Lists}
-use Rattle.alpha_edit.proofs.Premises.{inserts-same, live-dart, all-live}
+use Rattle.cell_edit.proofs.Premises.{inserts-same, live-dart, all-live}
 use Rattle.alpha_edit.proofs.VertexPlan.{no-pairs, none-ascending, none-of, edge-live, vertex-insertable}
 use Rattle.alpha_edit.proofs.vertex.vertex_plan.Goals as goal
 
-pub insertion-requires : goal.insertion-requires
-insertion-requires g c =
+pub insertion_edit-requires : goal.insertion_edit-requires
+insertion_edit-requires g c =
     let rows = c.args.links.now.rows in
     let keys : List ℕ = c.in_ok-cell.field-0.items in
     let live : All (λ (d : ℕ). IsLive rows d) keys = all-live rows (InCell alpha (links_of rows) 1 c.args.dart) keys c.in_ok-cell.ensures.members (edge-live g.row.DIM rows c.dimension.ensures.sound c.args.dart c.requires.dart) in
@@ -21,6 +21,6 @@ insertion-requires g c =
 pub returns : goal.returns
 returns g c =
     let rows = c.args.links.now.rows in
-    IfOk-weaker c.insertion.result _ _
+    IfOk-weaker c.insertion_edit.result _ _
     (λ edit. inserts-same g.row.DIM rows (InCell alpha (links_of rows) 1 c.args.dart) (Contains c.in_ok-cell.field-0.items) alpha 0 NoPairs (Lists []) edit c.in_ok-cell.ensures.members no-pairs)
-    c.insertion.ensures
+    c.insertion_edit.ensures

@@ -1,7 +1,0 @@
-use Rattle.std.proofs.Common.{ℕ, ◌<◌, ◌↔◌, Contains}
-use Rattle.map_defs.specs.Kind.{alpha}
-use Rattle.map_defs.specs.Insertion.{IsCarrying}
-use Rattle.alpha_edit.proofs.along.carrying_links.Given as goal
-
-abbrev pub invariant-loop-other : goal.invariant-loop-other
-invariant-loop-other l = (j : ℕ) → Contains l.carrying.items j ↔ ((j < l.other) × IsCarrying alpha l.link j)

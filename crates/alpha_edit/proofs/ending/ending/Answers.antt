@@ -1,7 +1,0 @@
-use Rattle.alpha_edit.proofs.EndingEdit.{ending-ends}
-use Rattle.alpha_edit.proofs.ending.ending.Goals as goal
-
-pub returns : goal.returns
-returns g c =
-    ending-ends g.row.DIM c.args.links.now.rows c.made.ensures.sound c.requires.laws c.args.link c.requires.link c.args.beside c.args.darts.items c.requires.can
-    c.in_ok-changes.changes.items (rw c.deref.ensures.value at c.in_ok-changes.ensures)

@@ -1,7 +1,0 @@
-use Rattle.map_defs.specs.Rows.{links_of}
-use Rattle.alpha_edit.specs.Writing.{Appends}
-use Rattle.alpha_edit.specs.Bridging.{IsEndingEntry}
-use Rattle.alpha_edit.proofs.ending.push_links.Given as goal
-
-abbrev pub invariant-loop-link : goal.invariant-loop-link
-invariant-loop-link g l = Appends (links_of l.links.rows) (IsEndingEntry (links_of l.links.rows) l.link l.dart) l.initial.changes.items l.changes.items

@@ -1,8 +1,0 @@
-use Rattle.std.proofs.Common.{◌+◌, take}
-use Rattle.map_defs.specs.Rows.{links_of}
-use Rattle.alpha_edit.specs.Stars.{star_of}
-use Rattle.alpha_edit.specs.Writing.{WritesEntries, IsCarriedEntry}
-use Rattle.alpha_edit.proofs.insertion.carried_changes.Given as goal
-
-abbrev pub invariant-loop-dart : goal.invariant-loop-dart
-invariant-loop-dart g l = WritesEntries (links_of l.links.rows) (IsCarriedEntry (links_of l.links.rows) l.link (star_of l.stars) (g.row.DIM + 1) (take l.dart-index l.stars.keys)) l.changes.items

@@ -1,5 +1,0 @@
-use Rattle.std.proofs.Common.{ℕ, ◌<◌, Contains, slice_index}
-use Rattle.alpha_edit.proofs.path.is_on_one_volume.Given as goal
-
-abbrev pub invariant-loop-dart : goal.invariant-loop-dart
-invariant-loop-dart g l = (p : ℕ) → p < l.dart-index → Contains l.volume.items (slice_index l.path p)

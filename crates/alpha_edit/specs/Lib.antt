@@ -1,6 +1,0 @@
-pub mod Stars
-pub mod Inserting
-pub mod Writing
-pub mod Circles
-pub mod Bridging
-pub mod Removing

@@ -1,0 +1,15 @@
+pub mod StarNumbers
+pub mod Writings
+mod DartEntries
+pub mod Beyond
+mod PairEntries
+mod InsertionEdit
+pub mod Premises
+pub mod AlongLinks
+pub mod PairsAlong
+mod PathSides
+mod Apart
+mod FacePlan
+pub mod WalkTurns
+mod BridgeEntries
+mod EndingEdit

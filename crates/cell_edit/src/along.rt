@@ -1,0 +1,125 @@
+ghost use Rattle.std.specs.Prelude.{◌≡◌, ℕ, ◌+◌, ◌≤◌, ◌↔◌, All, Contains, IfOk, OnOk, IsErrOf, IsTrue, map};
+ghost use Rattle.std.specs.List.Sorted.{IsStrictlyIncreasing};
+ghost use Rattle.map_defs.specs.Rows.{links_of};
+ghost use Rattle.map_defs.specs.LinkWords.{one_link};
+ghost use Rattle.map_defs.specs.Cells.{InOrbit};
+ghost use Rattle.map_defs.specs.Pairs.{InPairs, IsGood};
+ghost use Rattle.map_defs.specs.Insertion.{IsLinkedBy, IsCarrying, IsPairing};
+ghost use Rattle.sewing.specs.Triples.{Lists, IsAscending};
+
+use cell_walk::{orbits_of, reaches};
+use link_rows::Links;
+use map_kind::{Dart, Kind, LinkWord};
+use sewing::{PairFault, Triple, pair};
+use std::alloc::{AllocError, Global};
+
+/// Whether some of these links lead, one after another, from one dart to another. It costs the darts that are not farther
+/// than that, for each link, times a logarithm.
+pub fn leads<K: Kind, const DIM: usize>(
+    alloc: Global,
+    links: &Links<K, DIM>,
+    along: &[usize],
+    one: Dart,
+    other: Dart,
+) -> Result<bool, AllocError>
+    requires { All (λ j. j ≤ DIM) along.now }
+    ensures { IfOk result (λ leads. IsTrue leads ↔ InOrbit (IsLinkedBy (links_of links.now.rows) (Contains along.now)) one other) }
+{
+    let words = one_link_words(alloc, along)?;
+    reaches(alloc, links, &words, one, other)
+}
+
+/// The darts to which these links lead from some darts, those darts among them, ascending.
+pub(crate) fn reached<K: Kind, const DIM: usize>(
+    alloc: Global,
+    links: &Links<K, DIM>,
+    along: &[usize],
+    darts: &[Dart],
+) -> Result<Vec<Dart>, AllocError>
+    requires { All (λ j. j ≤ DIM) along.now }
+    ensures members { IfOk result (λ reached. (y : ℕ) → Contains reached.items y
+        ↔ ((d : ℕ) × Contains darts.now d × InOrbit (IsLinkedBy (links_of links.now.rows) (Contains along.now)) d y)) }
+    ensures ascending { IfOk result (λ reached. IsStrictlyIncreasing reached.items) }
+{
+    let words = one_link_words(alloc, along)?;
+    orbits_of(alloc, links, &words, darts)
+}
+
+/// The darts of an insertion at a link that grow from some darts along the links along which the new darts lie, those darts
+/// among them, ascending.
+pub fn carried_darts<K: Kind, const DIM: usize>(
+    alloc: Global,
+    links: &Links<K, DIM>,
+    link: usize,
+    darts: &[Dart],
+) -> Result<Vec<Dart>, AllocError>
+    ensures members { IfOk result (λ carried. (y : ℕ) → Contains carried.items y
+        ↔ ((d : ℕ) × Contains darts.now d × InOrbit (IsLinkedBy (links_of links.now.rows) (IsCarrying K.kind link)) d y)) }
+    ensures ascending { IfOk result (λ carried. IsStrictlyIncreasing carried.items) }
+{
+    let carrying = carrying_links::<K>(alloc, links.dimension(), link)?;
+    reached(alloc, links, &carrying, darts)
+}
+
+/// The pairs of an insertion at a link that grow from some seeds, ascending. `Unpaired` comes exactly where they cannot be
+/// joined, memory aside.
+pub fn insertion_pairs<K: Kind, const DIM: usize>(
+    alloc: Global,
+    links: &Links<K, DIM>,
+    link: usize,
+    seeds: &[Triple],
+) -> Result<Vec<Triple>, PairFault>
+    requires { link ≤ DIM }
+    ensures members { IfOk result (λ pairs. (x y t : ℕ) → Lists pairs.items x y t
+        ↔ InPairs K.kind (links_of links.now.rows) (IsPairing link) (Lists seeds.now) x y t) }
+    ensures ascending { IfOk result (λ pairs. IsAscending pairs.items) }
+    ensures good { OnOk result (IsGood K.kind (links_of links.now.rows) (IsPairing link)
+        (InPairs K.kind (links_of links.now.rows) (IsPairing link) (Lists seeds.now))) }
+    ensures unpaired { IsErrOf result PairFault.Unpaired → IsGood K.kind (links_of links.now.rows) (IsPairing link)
+        (InPairs K.kind (links_of links.now.rows) (IsPairing link) (Lists seeds.now)) → ⊥ }
+{
+    let pairing = pairing_links(alloc, links.dimension(), link)?;
+    pair(alloc, links, seeds, &pairing)
+}
+
+/// The links up to `dim` along which the new darts of an insertion at a link lie: the link, and those distant from it.
+pub fn carrying_links<K: Kind>(
+    alloc: Global,
+    dim: usize,
+    link: usize,
+) -> Result<Vec<usize>, AllocError>
+    requires { dim ≤ 8 }
+    ensures { IfOk result (λ carrying. (j : ℕ) → Contains carrying.items j ↔ ((j ≤ dim) × IsCarrying K.kind link j)) }
+{
+    let mut carrying = Vec::new(alloc);
+    for other in 0..dim + 1 {
+        if other != link && !K::distant(link, other) {
+            continue;
+        }
+        carrying.push(other)?;
+    }
+    Ok(carrying)
+}
+
+/// The links up to `dim` along which the pairs of an insertion at a link go: the link, and those from the second above it.
+fn pairing_links(alloc: Global, dim: usize, link: usize) -> Result<Vec<usize>, AllocError>
+    requires dim { dim ≤ 8 }
+    requires link { link ≤ dim }
+    ensures { IfOk result (λ pairing. (j : ℕ) → Contains pairing.items j ↔ ((j ≤ dim) × IsPairing link j)) }
+{
+    let mut pairing = Vec::new(alloc);
+    for other in 0..dim + 1 {
+        if other < link || other == link + 1 {
+            continue;
+        }
+        pairing.push(other)?;
+    }
+    Ok(pairing)
+}
+
+/// The words of these links, one link each.
+fn one_link_words(alloc: Global, along: &[usize]) -> Result<Vec<LinkWord>, AllocError>
+    ensures { IfOk result (λ words. words.items ≡ map one_link along.now) }
+{
+    along.iter().map(|link| LinkWord::one(*link)).collect(alloc)
+}

@@ -1,0 +1,146 @@
+ghost use Rattle.std.specs.Prelude.{◌+◌, ◌≤◌, Contains, IfOk, OnOk};
+ghost use Rattle.map_defs.specs.Rows.{links_of};
+ghost use Rattle.map_defs.specs.Laws.{Laws};
+ghost use Rattle.map_defs.specs.Removal.{Lands, IsBridged};
+ghost use Rattle.cell_edit.specs.Writing.{WritesEntries, Appends};
+ghost use Rattle.cell_edit.specs.Bridging.{across, CanEnd, IsEndingEntry, IsBridgeEntry, IsDartEntry, IsCellEntry};
+ghost use Rattle.cell_edit.specs.Removing.{PlansEnding};
+
+use crate::crossing::{first_outside, is_among};
+use crate::kinds::is_generalized;
+use link_rows::{Change, Edit, Links};
+use map_kind::{Dart, Kind};
+use std::alloc::{AllocError, Global};
+
+/// The edit by which darts end that can: their links become free, and a link of each remaining dart that leads to one of
+/// them is drawn across them, along the link beside and the link itself in turn. The darts are ascending.
+///
+/// It costs the darts and the walks across them, for each link of the map, times a logarithm.
+pub fn ending_edit<K: Kind, const DIM: usize>(
+    alloc: Global,
+    links: &Links<K, DIM>,
+    link: usize,
+    beside: usize,
+    darts: Vec<Dart>,
+) -> Result<Edit, AllocError>
+    requires link { link ≤ DIM }
+    requires can { CanEnd K.kind links.now.rows link beside darts.items }
+    requires laws { Laws K.kind (links_of links.now.rows) }
+    ensures { IfOk result (λ edit. PlansEnding K.kind DIM links.now.rows (Contains darts.items)
+        (λ N. IsBridged K.kind link (Contains darts.items) (across K.kind (links_of links.now.rows) link beside) (links_of links.now.rows) N) edit) }
+{
+    // Links name live darts.
+    let _ = links.made();
+    let changes = ending_changes(alloc, links, link, beside, &darts)?;
+    Ok(Edit {
+        births: 0,
+        deaths: darts,
+        changes,
+    })
+}
+
+/// The changes of the links of darts that end, and of those that are drawn across them.
+fn ending_changes<K: Kind, const DIM: usize>(
+    alloc: Global,
+    links: &Links<K, DIM>,
+    link: usize,
+    beside: usize,
+    darts: &[Dart],
+) -> Result<Vec<Change>, AllocError>
+    requires link { link ≤ DIM }
+    requires can { CanEnd K.kind links.now.rows link beside darts.now }
+    requires laws { Laws K.kind (links_of links.now.rows) }
+    ensures { IfOk result (λ changes. WritesEntries (links_of links.now.rows)
+        (IsCellEntry K.kind (links_of links.now.rows) link beside (DIM + 1) darts.now darts.now) changes.items) }
+{
+    let mut changes = Vec::new(alloc);
+    for dart in darts {
+        push_dart(links, link, beside, darts, *dart, &mut changes)?;
+    }
+    Ok(changes)
+}
+
+/// Appends the changes of one dart that ends: those of its links, and that of the link that leads to it.
+fn push_dart<K: Kind, const DIM: usize>(
+    links: &Links<K, DIM>,
+    link: usize,
+    beside: usize,
+    darts: &[Dart],
+    dart: Dart,
+    changes: &mut Vec<Change>,
+) -> Result<(), AllocError>
+    requires link { link ≤ DIM }
+    requires can { CanEnd K.kind links.now.rows link beside darts.now }
+    requires laws { Laws K.kind (links_of links.now.rows) }
+    requires key { Contains darts.now dart }
+    ensures { OnOk result (Appends (links_of links.now.rows)
+        (IsDartEntry K.kind (links_of links.now.rows) link beside (DIM + 1) darts.now dart) changes.old.items changes.new.items) }
+{
+    push_links(links, dart, changes)?;
+    push_bridge(links, link, beside, darts, dart, changes)
+}
+
+/// Appends the changes by which each link of a dart becomes free that is not.
+fn push_links<K: Kind, const DIM: usize>(
+    links: &Links<K, DIM>,
+    dart: Dart,
+    changes: &mut Vec<Change>,
+) -> Result<(), AllocError>
+    ensures { OnOk result (Appends (links_of links.now.rows)
+        (IsEndingEntry (links_of links.now.rows) (DIM + 1) dart) changes.old.items changes.new.items) }
+{
+    for link in 0..links.dimension() + 1 {
+        let Some(other) = links.link(dart, link) else {
+            continue;
+        };
+        changes.push(Change {
+            dart,
+            link,
+            old: other.number(),
+            new: 0,
+        })?;
+    }
+    Ok(())
+}
+
+/// Appends the change of the link that leads to a dart that ends, where it comes from a remaining dart.
+fn push_bridge<K: Kind, const DIM: usize>(
+    links: &Links<K, DIM>,
+    link: usize,
+    beside: usize,
+    darts: &[Dart],
+    dart: Dart,
+    changes: &mut Vec<Change>,
+) -> Result<(), AllocError>
+    requires link { link ≤ DIM }
+    requires can { CanEnd K.kind links.now.rows link beside darts.now }
+    requires laws { Laws K.kind (links_of links.now.rows) }
+    ensures { OnOk result (Appends (links_of links.now.rows)
+        (IsBridgeEntry K.kind (links_of links.now.rows) link beside darts.now dart) changes.old.items changes.new.items) }
+{
+    let Some(remaining) = links.link(dart, link) else {
+        return Ok(());
+    };
+    if is_among(darts, remaining) {
+        return Ok(());
+    }
+    let end = first_outside(links, link, beside, darts, dart);
+    changes.push(Change {
+        dart: remaining,
+        link,
+        old: dart.number(),
+        new: landing::<K>(remaining, end),
+    })?;
+    Ok(())
+}
+
+/// The new link of a dart whose walk ends at the dart of a number: in a generalized map 0, for free, where that is the dart
+/// itself.
+fn landing<K: Kind>(dart: Dart, end: u32) -> u32
+    ensures { Lands K.kind dart end result }
+{
+    if is_generalized::<K>() && end == dart.number() {
+        return 0;
+    }
+    end
+}

@@ -1,0 +1,23 @@
+//! What the edits of cells have in common for both kinds of map: new darts beyond those of a set, the changes by which darts
+//! end and links are drawn across them, and the edit that inserts a face.
+//!
+//! An insertion makes a new dart beyond one link of each dart of a set. A removal and a contraction end the darts of a cell.
+//! A plan looks at the links and answers the edit; it changes nothing. What each plan answers is told once for both kinds, in
+//! `specs::Planning`.
+#![tactic(auto)]
+
+mod along;
+mod crossing;
+mod ending;
+mod face;
+mod insertion;
+mod kinds;
+mod path;
+mod stars;
+
+pub use along::{carried_darts, carrying_links, insertion_pairs, leads};
+pub use crossing::are_commuting;
+pub use ending::ending_edit;
+pub use face::face_plan;
+pub use insertion::insertion_edit;
+pub use stars::Stars;

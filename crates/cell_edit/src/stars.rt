@@ -1,0 +1,68 @@
+ghost use Rattle.std.specs.Prelude.{◌≡◌, ◌≤◌, ◌<◌, All, Contains, length};
+ghost use Rattle.std.specs.List.Sorted.{IsStrictlyIncreasing};
+ghost use Rattle.map_defs.specs.Rows.{made_max};
+ghost use Rattle.cell_edit.specs.Stars.{star_of};
+
+use map_kind::Dart;
+use std::marker::Model;
+
+/// The darts of an insertion, ascending, each of which gets a new dart: the new darts are numbered on from those that
+/// were made, in the order of the darts.
+#[derive(Drop)]
+pub struct Stars {
+    darts: Vec<Dart>,
+    made: u32,
+}
+
+impl Model for Stars {
+    ghost use Rattle.std.specs.Prelude.{◌≤◌, length};
+    ghost use Rattle.std.specs.List.Sorted.{IsStrictlyIncreasing};
+    ghost use Rattle.map_defs.specs.Rows.{made_max};
+    ghost use Rattle.cell_edit.specs.Stars as numbers;
+
+    ghost Value = { numbers.Stars };
+
+    ghost view = { λ stars. record { keys = stars.darts.items; made = stars.made } };
+
+    ghost invariant = { λ stars. IsStrictlyIncreasing stars.darts.items
+        × (length stars.darts.items ≤ stars.made) × (stars.made ≤ made_max) };
+}
+
+impl Stars {
+    /// New darts for these darts, which are among the darts 1 to `made`.
+    pub fn new(darts: Vec<Dart>, made: u32) -> Self
+        requires ascending { IsStrictlyIncreasing darts.items }
+        requires made { All (λ d. (0 < d) × (d ≤ made)) darts.items }
+        requires few { made ≤ made_max }
+        ensures { result ≡ record { keys = darts.items; made = made } }
+    {
+        Stars { darts, made }
+    }
+
+    /// The darts that get new darts, ascending.
+    pub fn darts(&self) -> &[Dart]
+        ensures darts { result.now ≡ self.now.keys }
+        ensures ascending { IsStrictlyIncreasing self.now.keys }
+    {
+        &self.darts
+    }
+
+    /// How many new darts there are.
+    pub fn births(&self) -> u32
+        ensures { result ≡ length self.now.keys }
+    {
+        self.darts.len() as u32
+    }
+
+    /// The new dart of a dart that gets one.
+    pub fn star(&self, dart: Dart) -> Dart
+        requires { Contains self.now.keys dart }
+        ensures star { result ≡ star_of self.now dart }
+        ensures above { self.now.made < result }
+    {
+        match self.darts.binary_search(&dart) {
+            Ok(place) => Dart::new(self.made + 1 + place as u32).unwrap(),
+            Err(_) => unreachable!(),
+        }
+    }
+}
