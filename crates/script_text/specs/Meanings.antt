@@ -9,37 +9,47 @@ use Rattle.machine_defs.specs.Script as machine
 use Rattle.machine_defs.specs.Text as text
 use Rattle.script_text.specs.declared.line.Line.{Line}
 use Rattle.script_text.specs.declared.line.Line.TheVariants as told
+use Rattle.script_text.specs.declared.line.Change.{Change}
+use Rattle.script_text.specs.declared.line.Change.TheVariants as change
+use Rattle.script_text.specs.declared.line.Question.{Question}
+use Rattle.script_text.specs.declared.line.Question.TheVariants as question
 use Rattle.script_text.specs.declared.reply.Reply.{Reply}
 use Rattle.script_text.specs.declared.reply.Reply.TheVariants as given
 
+abbrev pub change_meaning : Change → machine.Line
+change_meaning (change.Polygon sides) = machine.Polygon sides
+change_meaning change.Dart = machine.Dart
+change_meaning (change.Del d) = machine.Del d
+change_meaning (change.Sew i d e) = machine.Sew i d e
+change_meaning (change.Unsew i d) = machine.Unsew i d
+change_meaning (change.Vertex d) = machine.Vertex d
+change_meaning (change.Edge d e) = machine.Edge d e
+change_meaning (change.Face darts) = machine.Face darts.items
+change_meaning (change.Remove i d) = machine.Remove i d
+change_meaning (change.Contract i d) = machine.Contract i d
+change_meaning change.Dual = machine.Dual
+change_meaning (change.Rule i merge split) = machine.Rule i (string_bytes merge) (string_bytes split)
+change_meaning (change.Set i d value) = machine.Set i d value
+change_meaning (change.Clear i d) = machine.Clear i d
+change_meaning (change.Mark name) = machine.Mark (string_bytes name)
+change_meaning (change.Undo name) = machine.Undo (string_bytes name)
+
+abbrev pub question_meaning : Question → machine.Line
+question_meaning (question.Log name) = machine.Log (string_bytes name)
+question_meaning (question.Cell i d) = machine.Cell i d
+question_meaning (question.Same i d e) = machine.Same i d e
+question_meaning (question.Free i d) = machine.Free i d
+question_meaning (question.Value i d) = machine.Value i d
+question_meaning (question.Removable i d) = machine.Removable i d
+question_meaning (question.Contractible i d) = machine.Contractible i d
+question_meaning (question.Sewable i d e) = machine.Sewable i d e
+question_meaning question.Off = machine.Off
+question_meaning question.Count = machine.Count
+question_meaning question.Show = machine.Show
+
 abbrev pub line_meaning : Line → machine.Line
-line_meaning (told.Polygon sides) = machine.Polygon sides
-line_meaning told.Dart = machine.Dart
-line_meaning (told.Del d) = machine.Del d
-line_meaning (told.Sew i d e) = machine.Sew i d e
-line_meaning (told.Unsew i d) = machine.Unsew i d
-line_meaning (told.Vertex d) = machine.Vertex d
-line_meaning (told.Edge d e) = machine.Edge d e
-line_meaning (told.Face darts) = machine.Face darts.items
-line_meaning (told.Remove i d) = machine.Remove i d
-line_meaning (told.Contract i d) = machine.Contract i d
-line_meaning told.Dual = machine.Dual
-line_meaning (told.Rule i merge split) = machine.Rule i (string_bytes merge) (string_bytes split)
-line_meaning (told.Set i d value) = machine.Set i d value
-line_meaning (told.Clear i d) = machine.Clear i d
-line_meaning (told.Mark name) = machine.Mark (string_bytes name)
-line_meaning (told.Undo name) = machine.Undo (string_bytes name)
-line_meaning (told.Log name) = machine.Log (string_bytes name)
-line_meaning (told.Cell i d) = machine.Cell i d
-line_meaning (told.Same i d e) = machine.Same i d e
-line_meaning (told.Free i d) = machine.Free i d
-line_meaning (told.Value i d) = machine.Value i d
-line_meaning (told.Removable i d) = machine.Removable i d
-line_meaning (told.Contractible i d) = machine.Contractible i d
-line_meaning (told.Sewable i d e) = machine.Sewable i d e
-line_meaning told.Off = machine.Off
-line_meaning told.Count = machine.Count
-line_meaning told.Show = machine.Show
+line_meaning (told.Change made) = change_meaning made
+line_meaning (told.Question asked) = question_meaning asked
 
 -- these words tell this line
 abbrev pub Tell : List (List ℕ) → Line → Type 0

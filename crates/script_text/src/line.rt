@@ -1,12 +1,21 @@
 //! What a line of a script tells, as plain data.
 use map_kind::Value;
 
-/// A line of a script: one variant for each first word, with the words after it in their order. Nothing is known of its
-/// numbers but that they were written: a dart may be none of the map, and a dimension or a link may be above the map's.
+/// A line of a script: it changes the map, or it asks something of it.
+#[derive(Debug, PartialEq, Eq, Drop)]
+pub enum Line {
+    /// A line that changes the map.
+    Change(Change),
+    /// A line that asks, and changes nothing.
+    Question(Question),
+}
+
+/// A line that changes the map: one variant for each first word, with the words after it in their order. Nothing is known of
+/// its numbers but that they were written: a dart may be none of the map, and a dimension or a link may be above the map's.
 ///
 /// In each doc below `i` is the number of a dimension or of a link, and `d` and `e` are numbers of darts.
 #[derive(Debug, PartialEq, Eq, Drop)]
-pub enum Line {
+pub enum Change {
     /// `polygon k`: make a face of k sides.
     Polygon(u64),
     /// `dart`: make a dart whose links are free.
@@ -40,6 +49,11 @@ pub enum Line {
     Mark(String),
     /// `undo name`: go back to the mark of that name.
     Undo(String),
+}
+
+/// A line that asks something of the map and changes nothing, in the same form as a [`Change`].
+#[derive(Debug, PartialEq, Eq, Drop)]
+pub enum Question {
     /// `log name`: tell the steps since the mark of that name.
     Log(String),
     /// `cell i d`: which darts the i-cell of a dart has.

@@ -8,7 +8,7 @@ ghost use Rattle.map_defs.specs.TextWords.{words_of, is_blank, is_word, is_text,
 ghost use Rattle.script_text.specs.Meanings.{line_meaning, Tell, IsSyntax};
 ghost use Rattle.script_text.specs.Reading.{Reads, now_of, items_of};
 
-use crate::Line;
+use crate::{Change, Line, Question};
 use crate::word::{is_text, read_integer, read_name, read_numeral, read_text};
 use map_kind::{Refusal, Refused, Value};
 use std::alloc::{AllocError, Global};
@@ -92,9 +92,9 @@ fn read_text_words(alloc: Global, first: &str, words: &[&[u8]]) -> Result<Line, 
         "face" => read_face(alloc, words),
         "rule" => read_rule(alloc, words),
         "set" => read_set(words),
-        "mark" => Ok(Line::Mark(read_only_name(alloc, words)?)),
-        "undo" => Ok(Line::Undo(read_only_name(alloc, words)?)),
-        "log" => Ok(Line::Log(read_only_name(alloc, words)?)),
+        "mark" => Ok(Line::Change(Change::Mark(read_only_name(alloc, words)?))),
+        "undo" => Ok(Line::Change(Change::Undo(read_only_name(alloc, words)?))),
+        "log" => Ok(Line::Question(Question::Log(read_only_name(alloc, words)?))),
         _ => {
             let numbers = read_numerals(alloc, words)?;
             Ok(numbers_line(first, numbers.as_slice()).ok_or(Refusal::Syntax)?)
@@ -109,7 +109,7 @@ fn read_face(alloc: Global, words: &[&[u8]]) -> Result<Line, Refused>
     if words.is_empty() || words.len() > 4096 {
         return Err(Refused::Line(Refusal::Syntax));
     }
-    Ok(Line::Face(read_numerals(alloc, words)?))
+    Ok(Line::Change(Change::Face(read_numerals(alloc, words)?)))
 }
 
 fn read_rule(alloc: Global, words: &[&[u8]]) -> Result<Line, Refused>
@@ -121,7 +121,7 @@ fn read_rule(alloc: Global, words: &[&[u8]]) -> Result<Line, Refused>
     let dim = read_numeral(dim).ok_or(Refusal::Syntax)?;
     let merge = own_name(alloc, merge)?;
     let split = own_name(alloc, split)?;
-    Ok(Line::Rule(dim, merge, split))
+    Ok(Line::Change(Change::Rule(dim, merge, split)))
 }
 
 fn read_set(words: &[&[u8]]) -> Result<Line, Refused>
@@ -132,7 +132,7 @@ fn read_set(words: &[&[u8]]) -> Result<Line, Refused>
             let dim = read_numeral(dim).ok_or(Refusal::Syntax)?;
             let dart = read_numeral(dart).ok_or(Refusal::Syntax)?;
             let value = read_value(integers).ok_or(Refusal::Syntax)?;
-            Ok(Line::Set(dim, dart, value))
+            Ok(Line::Change(Change::Set(dim, dart, value)))
         }
         _ => Err(Refused::Line(Refusal::Syntax)),
     }
@@ -199,11 +199,11 @@ fn line_alone(first: &str) -> Option<Line>
     ensures { option_map line_meaning result ≡ found first.now alone }
 {
     match first {
-        "dart" => Some(Line::Dart),
-        "dual" => Some(Line::Dual),
-        "count" => Some(Line::Count),
-        "show" => Some(Line::Show),
-        "off" => Some(Line::Off),
+        "dart" => Some(Line::Change(Change::Dart)),
+        "dual" => Some(Line::Change(Change::Dual)),
+        "count" => Some(Line::Question(Question::Count)),
+        "show" => Some(Line::Question(Question::Show)),
+        "off" => Some(Line::Question(Question::Off)),
         _ => None,
     }
 }
@@ -212,9 +212,9 @@ fn line_with_one(first: &str, a: u64) -> Option<Line>
     ensures { option_map line_meaning result ≡ option_map (λ line. line a) (found first.now with_one) }
 {
     match first {
-        "polygon" => Some(Line::Polygon(a)),
-        "del" => Some(Line::Del(a)),
-        "vertex" => Some(Line::Vertex(a)),
+        "polygon" => Some(Line::Change(Change::Polygon(a))),
+        "del" => Some(Line::Change(Change::Del(a))),
+        "vertex" => Some(Line::Change(Change::Vertex(a))),
         _ => None,
     }
 }
@@ -223,16 +223,16 @@ fn line_with_two(first: &str, a: u64, b: u64) -> Option<Line>
     ensures { option_map line_meaning result ≡ option_map (λ line. line a b) (found first.now with_two) }
 {
     match first {
-        "unsew" => Some(Line::Unsew(a, b)),
-        "remove" => Some(Line::Remove(a, b)),
-        "contract" => Some(Line::Contract(a, b)),
-        "clear" => Some(Line::Clear(a, b)),
-        "cell" => Some(Line::Cell(a, b)),
-        "free" => Some(Line::Free(a, b)),
-        "value" => Some(Line::Value(a, b)),
-        "removable" => Some(Line::Removable(a, b)),
-        "contractible" => Some(Line::Contractible(a, b)),
-        "edge" => Some(Line::Edge(a, b)),
+        "unsew" => Some(Line::Change(Change::Unsew(a, b))),
+        "remove" => Some(Line::Change(Change::Remove(a, b))),
+        "contract" => Some(Line::Change(Change::Contract(a, b))),
+        "clear" => Some(Line::Change(Change::Clear(a, b))),
+        "cell" => Some(Line::Question(Question::Cell(a, b))),
+        "free" => Some(Line::Question(Question::Free(a, b))),
+        "value" => Some(Line::Question(Question::Value(a, b))),
+        "removable" => Some(Line::Question(Question::Removable(a, b))),
+        "contractible" => Some(Line::Question(Question::Contractible(a, b))),
+        "edge" => Some(Line::Change(Change::Edge(a, b))),
         _ => None,
     }
 }
@@ -241,9 +241,9 @@ fn line_with_three(first: &str, a: u64, b: u64, c: u64) -> Option<Line>
     ensures { option_map line_meaning result ≡ option_map (λ line. line a b c) (found first.now with_three) }
 {
     match first {
-        "sew" => Some(Line::Sew(a, b, c)),
-        "sewable" => Some(Line::Sewable(a, b, c)),
-        "same" => Some(Line::Same(a, b, c)),
+        "sew" => Some(Line::Change(Change::Sew(a, b, c))),
+        "sewable" => Some(Line::Question(Question::Sewable(a, b, c))),
+        "same" => Some(Line::Question(Question::Same(a, b, c))),
         _ => None,
     }
 }

@@ -1,40 +1,40 @@
 //! What no clause says: that lines are read where memory is there, and that the grammar, the replies and the logs are as
 //! meant.
-use crate::{Births, Line, Reply, log_text, read_line, reply_text};
+use crate::{Births, Change, Line, Question, Reply, log_text, read_line, reply_text};
 use attr_rules::{Merge, Split, TableRule};
-use link_rows::{Change, Edit};
+use link_rows::{Change as LinkChange, Edit};
 use map_kind::{Dart, Refusal, Refused, Value};
 use std::alloc::{AllocError, Global};
 use std::test::Fail;
 use undo_journal::{RuleChange, Step, ValueChange};
 
 #[test]
-fn lines_of_the_grammar(rt: HostRuntime) -> Result<(), Fail> {
+fn lines_that_change(rt: HostRuntime) -> Result<(), Fail> {
     let alloc = rt.alloc();
     let name = |text: &str| String::from_str(alloc, text);
     let table = vec![in alloc;
-        ("polygon 3", Line::Polygon(3)),
-        ("dart", Line::Dart),
-        ("del 4194304", Line::Del(4_194_304)),
-        ("sew 2 1 7", Line::Sew(2, 1, 7)),
-        ("unsew 2 1", Line::Unsew(2, 1)),
+        ("polygon 3", Change::Polygon(3)),
+        ("dart", Change::Dart),
+        ("del 4194304", Change::Del(4_194_304)),
+        ("sew 2 1 7", Change::Sew(2, 1, 7)),
+        ("unsew 2 1", Change::Unsew(2, 1)),
         (
             "vertex 9999999999999999999",
-            Line::Vertex(9_999_999_999_999_999_999)
+            Change::Vertex(9_999_999_999_999_999_999)
         ),
-        ("edge 1 4", Line::Edge(1, 4)),
-        ("face 17", Line::Face(vec![in alloc; 17]?)),
-        ("face 17 19 0", Line::Face(vec![in alloc; 17, 19, 0]?)),
-        ("remove 1 9", Line::Remove(1, 9)),
-        ("contract 1 9", Line::Contract(1, 9)),
-        ("dual", Line::Dual),
+        ("edge 1 4", Change::Edge(1, 4)),
+        ("face 17", Change::Face(vec![in alloc; 17]?)),
+        ("face 17 19 0", Change::Face(vec![in alloc; 17, 19, 0]?)),
+        ("remove 1 9", Change::Remove(1, 9)),
+        ("contract 1 9", Change::Contract(1, 9)),
+        ("dual", Change::Dual),
         (
             "rule 2 sum share",
-            Line::Rule(2, name("sum")?, name("share")?)
+            Change::Rule(2, name("sum")?, name("share")?)
         ),
         (
             "set 0 1 9223372036854775807 -9223372036854775808 0",
-            Line::Set(
+            Change::Set(
                 0,
                 1,
                 Value {
@@ -44,30 +44,42 @@ fn lines_of_the_grammar(rt: HostRuntime) -> Result<(), Fail> {
                 }
             ),
         ),
-        ("clear 0 2", Line::Clear(0, 2)),
-        ("mark _a0", Line::Mark(name("_a0")?)),
-        ("undo 12", Line::Undo(name("12")?)),
-        (
-            "log abcdefghijklmnopqrstuvwxyz_01234",
-            Line::Log(name("abcdefghijklmnopqrstuvwxyz_01234")?),
-        ),
-        ("cell 0 1", Line::Cell(0, 1)),
-        ("same 1 2 3", Line::Same(1, 2, 3)),
-        ("free 1 2", Line::Free(1, 2)),
-        ("value 2 5", Line::Value(2, 5)),
-        ("removable 0 7", Line::Removable(0, 7)),
-        ("contractible 2 1", Line::Contractible(2, 1)),
-        ("sewable 2 1 7", Line::Sewable(2, 1, 7)),
-        ("off", Line::Off),
-        ("count", Line::Count),
-        ("show", Line::Show),
-        (" \t polygon\r 0 \r", Line::Polygon(0)),
-        ("polygon 3#4", Line::Polygon(3)),
-        ("show # a word of \u{e9}", Line::Show),
+        ("clear 0 2", Change::Clear(0, 2)),
+        ("mark _a0", Change::Mark(name("_a0")?)),
+        ("undo 12", Change::Undo(name("12")?)),
+        (" \t polygon\r 0 \r", Change::Polygon(0)),
+        ("polygon 3#4", Change::Polygon(3)),
     ]?;
     for (line, told) in &table {
         let read = read_line(alloc, line.as_bytes());
-        assert!(rt; matches!(&read, Ok(Some(line)) if line == told), "{line}");
+        assert!(rt; matches!(&read, Ok(Some(Line::Change(change))) if change == told), "{line}");
+    }
+    Ok(())
+}
+
+#[test]
+fn lines_that_ask(rt: HostRuntime) -> Result<(), Fail> {
+    let alloc = rt.alloc();
+    let table = vec![in alloc;
+        (
+            "log abcdefghijklmnopqrstuvwxyz_01234",
+            Question::Log(String::from_str(alloc, "abcdefghijklmnopqrstuvwxyz_01234")?),
+        ),
+        ("cell 0 1", Question::Cell(0, 1)),
+        ("same 1 2 3", Question::Same(1, 2, 3)),
+        ("free 1 2", Question::Free(1, 2)),
+        ("value 2 5", Question::Value(2, 5)),
+        ("removable 0 7", Question::Removable(0, 7)),
+        ("contractible 2 1", Question::Contractible(2, 1)),
+        ("sewable 2 1 7", Question::Sewable(2, 1, 7)),
+        ("off", Question::Off),
+        ("count", Question::Count),
+        ("show", Question::Show),
+        ("show # a word of \u{e9}", Question::Show),
+    ]?;
+    for (line, told) in &table {
+        let read = read_line(alloc, line.as_bytes());
+        assert!(rt; matches!(&read, Ok(Some(Line::Question(question))) if question == told), "{line}");
     }
     Ok(())
 }
@@ -139,7 +151,7 @@ fn faces_of_many_darts(rt: HostRuntime) -> Result<(), Fail> {
     for _ in 0..4096 {
         line.push_str(" 1")?;
     }
-    assert!(rt; matches!(read_line(alloc, line.as_bytes()), Ok(Some(Line::Face(_)))));
+    assert!(rt; matches!(read_line(alloc, line.as_bytes()), Ok(Some(Line::Change(Change::Face(_))))));
     line.push_str(" 1")?;
     assert!(rt;
         matches!(
@@ -178,9 +190,9 @@ fn replies(rt: HostRuntime) -> Result<(), Fail> {
     Ok(())
 }
 
-fn link_change(dart: u32, link: usize, old: u32, new: u32) -> Result<Change, Fail> {
+fn link_change(dart: u32, link: usize, old: u32, new: u32) -> Result<LinkChange, Fail> {
     let dart = Dart::new(dart).ok_or("no dart")?;
-    Ok(Change {
+    Ok(LinkChange {
         dart,
         link,
         old,
