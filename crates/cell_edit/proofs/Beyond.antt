@@ -1,8 +1,8 @@
 -- What the links of a new dart become, and which number it has.
-use Rattle.std.proofs.Common.{ℕ, zero, suc, Bool, true, false, not, ◌≡◌, ◌≢◌, ◌+◌, ◌<◌, ◌≤◌, ◌⊎◌, ◌↔◌, length, take, slice_index, get_or, Contains, Option, Some, None, refl, sym, ap, ◌∙◌, inl, inr, ⊎_elim, eq-eqb, arith}
+use Rattle.std.proofs.Common.{ℕ, zero, suc, Bool, true, false, not, ◌≡◌, ◌≢◌, ◌+◌, ◌<◌, ◌≤◌, ◌↔◌, length, take, slice_index, get_or, Contains, Option, Some, None, refl, sym, ap, ◌∙◌, inl, inr, ⊎_elim, eq-eqb, arith}
 use Rattle.std.specs.Prelude.{All, IsNone}
 use Rattle.std.specs.List.Sorted.{IsStrictlyIncreasing}
-use Rattle.std.proofs.lemmas.Bool.{cases_lt, ne_eqb, false≢true}
+use Rattle.std.proofs.lemmas.Bool.{ne_eqb, false≢true}
 use Rattle.std.proofs.lemmas.List.{get_or-take, length-take, get_or_default}
 use Rattle.map_defs.specs.Kind.{Kind, alpha, beta, inverse, place, IsDistant}
 use Rattle.map_defs.specs.Links.{Links}

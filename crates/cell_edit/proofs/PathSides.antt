@@ -6,7 +6,7 @@ use Rattle.std.proofs.lemmas.List.Elements.{Contains-append_left, Contains-push,
 use Rattle.map_defs.specs.Kind.{Kind, alpha, beta, inverse}
 use Rattle.map_defs.specs.Links.{Links}
 use Rattle.map_defs.specs.Laws.{Laws}
-use Rattle.map_defs.specs.LinkWords.{LinkWord, two_links, through, inverse_word}
+use Rattle.map_defs.specs.LinkWords.{LinkWord, through, inverse_word}
 use Rattle.map_defs.specs.Cells.{InOrbit, here, onward, Leads}
 use Rattle.map_defs.specs.Insertion.{IsNext, inside, around, IsLinkedBy, IsVertexWord, FaceSeed, IsJoining, IsClosedPath, IsOnOneVolume}
 use Rattle.link_laws.proofs.Basics.{same_or_not}

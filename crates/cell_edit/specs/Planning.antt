@@ -1,13 +1,11 @@
 -- What the plans of edits answer, in one form for both kinds of map: the edit where it is possible, and why it is not.
 -- Besides, memory may lack. In this order the causes of a refusal are looked for.
-use Rattle.std.specs.Prelude.{ℕ, ◌≡◌, ◌⊎◌, ◌↔◌, List, length, Bool, Result, Ok, Err, IsTrue}
+use Rattle.std.specs.Prelude.{ℕ, ◌≡◌, ◌⊎◌, ◌↔◌, List, Bool, Result, Ok, Err, IsTrue}
 use Rattle.map_kind.specs.declared.refusal.Refusal.TheVariants as told
 use Rattle.map_kind.specs.declared.refusal.Refused.{Refused}
 use Rattle.map_kind.specs.declared.refusal.Refused.TheVariants as why
 use Rattle.map_defs.specs.Kind.{Kind}
-use Rattle.map_defs.specs.Links.{Links}
-use Rattle.map_defs.specs.Laws.{Laws}
-use Rattle.map_defs.specs.Rows.{Rows, links_of, IsLive, IsSound}
+use Rattle.map_defs.specs.Rows.{Rows, links_of}
 use Rattle.map_defs.specs.Edits.{Edit}
 use Rattle.map_defs.specs.Cells.{InCell}
 use Rattle.map_defs.specs.Insertion.{AreOnOneSide, FaceDarts, IsOnOneVolume, IsClosedPath, IsFacePaired, IsFace}

@@ -86,7 +86,7 @@ fn push_dart<K: Kind, const DIM: usize>(
     changes.push(Change {
         dart,
         link,
-        old: number_at(links, dart, link),
+        old: links.number_at(dart, link),
         new: stars.star(dart).number(),
     })?;
     push_links(links, link, stars, dart, changes)
@@ -153,21 +153,6 @@ fn copied<K: Kind>(link: usize, at: usize) -> usize
         link
     } else {
         K::inverse(at)
-    }
-}
-
-/// The number of the dart at a link of a dart, 0 where it is free.
-fn number_at<K: Kind, const DIM: usize>(
-    links: &Links<K, DIM>,
-    dart: Dart,
-    link: usize,
-) -> u32
-    requires { link ≤ DIM }
-    ensures { result ≡ links_of links.now.rows link dart }
-{
-    match links.link(dart, link) {
-        Some(other) => other.number(),
-        None => 0,
     }
 }
 

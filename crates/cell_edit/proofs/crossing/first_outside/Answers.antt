@@ -1,6 +1,5 @@
 use Rattle.std.proofs.Common.{ℕ, ◌≡◌, ◌+◌, sym, ◌∙◌, subst, arith}
 use Rattle.std.proofs.lemmas.Bool.{false≢true}
-use Rattle.map_defs.specs.Kind.{Kind}
 use Rattle.map_defs.specs.Rows.{links_of}
 use Rattle.cell_edit.specs.Bridging.{across}
 use Rattle.cell_edit.proofs.Beyond.{none-unless}

@@ -2,7 +2,7 @@ use Rattle.std.proofs.Common.{◌≡◌, ◌∙◌, length, slice_index, sym, ap
 use Rattle.std.proofs.lemmas.List.{get_or_default}
 use Rattle.map_defs.specs.Rows.{links_of}
 use Rattle.map_defs.specs.Insertion.{IsJoining}
-use Rattle.cell_edit.specs.Circles.{next_place, side_seed}
+use Rattle.cell_edit.specs.Circles.{next_place}
 use Rattle.cell_edit.proofs.PathSides.{seeds-more, seeds-all, closed-at}
 use Rattle.cell_edit.proofs.path.face_seeds.Goals as goal
 
