@@ -2,9 +2,7 @@
 use Rattle.std.proofs.Common.{◌≡◌, ℕ, ◌<◌, List, [], get_or, Option, refl, sym, ap, ◌∙◌, subst, inl, inr, arith}
 use Rattle.std.proofs.lemmas.Bool.{cases_lt}
 use Rattle.std.proofs.lemmas.Option.{same_Some}
-use Rattle.map_defs.specs.Kind.{Kind}
-use Rattle.map_defs.specs.Rows.{Rows}
-use Rattle.map_defs.specs.Values.{Meaning, Rule}
+use Rattle.map_defs.specs.Values.{Meaning}
 use Rattle.machine_defs.specs.State.{Content}
 use Rattle.map_defs.specs.Refusal.{NoMark}
 use Rattle.machine_defs.specs.Script.{Undo}
@@ -18,11 +16,6 @@ use Rattle.trail_laws.specs.Told.{told, before_steps, IsTraced}
 use Rattle.trail_laws.proofs.Naming.{names-told}
 use Rattle.trail_laws.proofs.Between.{between-kept, between-follows, between-differ}
 use Rattle.trail_laws.proofs.Returning.{gone-back}
-use Rattle.store_defs.specs.Stores.{Store}
-use Rattle.store_defs.specs.Labelings.{Labeling}
-use Rattle.label_laws.specs.Contents.{content_of}
-use Rattle.label_laws.specs.Maps.{IsStoredMap}
-use Rattle.map_core.specs.Noted.{IsJournaled}
 use Rattle.valued_map.specs.Undoing.{AreStepsTo}
 
 abbrev no-mark : Placed
@@ -65,27 +58,8 @@ module _ (now : Content) (t : Trail) (h : IsTraced now t) (o : IsOrdered t) (hoo
       let (mark, named, copy, there, traced) = gone-back now t name k h o is in
       inr ((k, mark, named), (k, mark, named, (refl, ap (λ (c : Content). told c u) before ∙ ap (told (before_steps now t k)) gone ∙ there)))
 
--- What the map keeps after going back, and where memory was wanting.
-module _ (k : Kind) (n : ℕ) (rows : Rows) (l : Labeling) (p : Store) (rules : List (Option Rule)) (t : Trail) (j : IsJournaled k n rows l p rules t)
-    (new : Rows) (m : Labeling) (q : Store) (after : List (Option Rule)) (stored : IsStoredMap k n new m q after) where
-  abbrev Now : Content
-  Now = content_of k n rows l p rules
-
-  abbrev Then : Content
-  Then = content_of k n new m q after
-
-  pub kept-journaled : Then ≡ Now → IsJournaled k n new m q after t
-  kept-journaled same = record {
-    stored = stored;
-    traced = subst (λ (c : Content). IsTraced c t) (sym same) j.traced;
-  }
-
-  pub undo-journaled : IsOrdered t → (name : List ℕ) (i : ℕ) → trails.IsMark t name i → Then ≡ all_taken_back (steps_since t i) Now
-      → (u : Trail) → u ≡ back t i → IsJournaled k n new m q after u
-  undo-journaled o name i is before u gone =
-      let (mark, named, copy, there, traced) = gone-back Now t name i j.traced o is in
-      subst (λ (v : Trail). IsJournaled k n new m q after v) (sym gone)
-      (record {
-        stored = stored;
-        traced = subst (λ (c : Content). IsTraced c (back t i)) (sym before) traced;
-      })
+  -- what the map keeps after going back
+  pub undo-traced : (k : ℕ) → trails.IsMark t name k → (next : Content) → next ≡ all_taken_back (steps_since t k) now → (u : Trail) → u ≡ back t k → IsTraced next u
+  undo-traced k is next before u gone =
+      let (mark, named, copy, there, traced) = gone-back now t name k h o is in
+      subst (λ (v : Trail). IsTraced next v) (sym gone) (subst (λ (c : Content). IsTraced c (back t k)) (sym before) traced)

@@ -17,22 +17,24 @@ use Rattle.machine_defs.specs.Script.{Line, Vertex, Edge, Face}
 use Rattle.machine_defs.specs.Machine.{Step, Judged, InsertsDarts, room_check}
 use Rattle.machine_defs.specs.Text as text
 use Rattle.machine_defs.specs.Text.{Reply}
-use Rattle.store_defs.specs.Stores.{Store}
-use Rattle.store_defs.specs.Labelings.{Labeling}
-use Rattle.label_laws.specs.Contents.{content_of, IsCarriedOn}
-use Rattle.label_laws.proofs.Remaking.{relinked}
+use Rattle.machine_defs.specs.Kept.{IsLawfulContent}
+use Rattle.label_laws.specs.Contents.{IsCarriedOn}
+use Rattle.map_core.proofs.Present.{seen_as, seen-is, seen-sound, seen-begun, relinked}
 use Rattle.machine_laws.proofs.Answers.{count-one}
 use Rattle.map_core.specs.Calls.{Does}
 use Rattle.map_core.specs.Growing.{Grows}
 use Rattle.map_core.proofs.Planned.{IsPlanned, PlansVertex, PlansEdge, PlansFace}
 use Rattle.map_core.specs.declared.map.Done.{Done}
 
-module _ (k : Kind) (n : ℕ) (rows : Rows) (l : Labeling) (p : Store) (rules : List (Option Rule)) (hook : Meaning) where
-  abbrev Here : Content
-  Here = content_of k n rows l p rules
-
+module _ (k : Kind) (n : ℕ) (rows : Rows) (hook : Meaning) where
   -- what is inserted, once all other checks have passed; its darts and its links are told for each content
-  module _ (s : State) (view : Here ≡ s.present) (sound : IsSound k n rows) (begun : 0 < length rows) where
+  module _ (s : State) (kind : s.present.kind ≡ k) (dim : s.present.dim ≡ n) (same : rows ≡ s.present.rows) (kept : IsLawfulContent s.present) where
+    abbrev Here : Content
+    Here = seen_as k n rows s.present
+
+    view : Here ≡ s.present
+    view = seen-is k n rows s.present kind dim same
+
     module _ (K : Content → ℕ → Type 0) (Becomes : Content → (ℕ → ℕ) → Links → Type 0) (edit : Edit) (plan : IsPlanned k n rows (K Here) (Becomes Here) edit) where
       counted : HasCount (K Here) edit.births
       counted = record { numbers = plan.keys; ascending = plan.numbered.ascending; members = plan.numbered.members; counted = sym plan.births }
@@ -46,7 +48,7 @@ module _ (k : Kind) (n : ℕ) (rows : Rows) (l : Labeling) (p : Store) (rules : 
         star = plan.star;
         numbered = plan.numbered;
         counted = plan.births;
-        relinked = relinked k n rows edit sound begun plan.fits NoDart (λ x. (λ none. absurd none, λ at. absurd (omega (arith, at.1, ap length plan.deaths)))) hook l p rules next on (Becomes Here plan.star) plan.becomes;
+        relinked = relinked k n rows edit (seen-sound k n rows s.present kind dim same kept) (seen-begun rows s.present same kept) plan.fits NoDart (λ x. (λ none. absurd none, λ at. absurd (omega (arith, at.1, ap length plan.deaths)))) hook s.present next on (Becomes Here plan.star) plan.becomes;
       }
 
       inserted : (line : Line) → ((reply : Reply) (new : State) → Judged s (room_check s.present (K s.present) ∷ []) (InsertsDarts hook s (K s.present) (Becomes s.present)) reply new → Step hook s line reply new)

@@ -1,16 +1,8 @@
+pub mod Present
 pub mod SewingSteps
-pub mod KindNames
-pub mod Loaded
 pub mod Planned
 pub mod InsertingSteps
 pub mod RemovingSteps
-pub mod DualSteps
 pub mod Stepped
-pub mod SortedEdit
-pub mod ListedValues
-pub mod Journaled
-pub mod JournaledValues
-pub mod Retained
-pub mod GroupedDarts
 pub mod Marks
 pub mod GoingBack

@@ -16,15 +16,20 @@ use Rattle.map_defs.specs.Contraction.{IsContractible, IsContracted}
 use Rattle.machine_defs.specs.Script.{Remove, Contract}
 use Rattle.machine_defs.specs.Machine.{Step}
 use Rattle.machine_defs.specs.Text as text
-use Rattle.store_defs.specs.Stores.{Store}
-use Rattle.store_defs.specs.Labelings.{Labeling}
-use Rattle.label_laws.specs.Contents.{content_of, IsCarriedOn}
-use Rattle.label_laws.proofs.Remaking.{relinked}
+use Rattle.machine_defs.specs.Kept.{IsLawfulContent}
+use Rattle.label_laws.specs.Contents.{IsCarriedOn}
+use Rattle.map_core.proofs.Present.{seen_as, seen-is, seen-sound, seen-begun, relinked}
 use Rattle.map_core.specs.Calls.{Does}
 use Rattle.map_core.specs.declared.map.Done.{Done}
 
-module _ (k : Kind) (n : ℕ) (rows : Rows) (l : Labeling) (p : Store) (rules : List (Option Rule)) (hook : Meaning) (s : State) (view : content_of k n rows l p rules ≡ s.present) (i d : ℕ)
+module _ (k : Kind) (n : ℕ) (rows : Rows) (hook : Meaning) (s : State) (kind : s.present.kind ≡ k) (dim : s.present.dim ≡ n) (same : rows ≡ s.present.rows) (kept : IsLawfulContent s.present) (i d : ℕ)
     (low : n < i → ⊥) (live : IsLive s.present.rows d) where
+  abbrev Here : Content
+  Here = seen_as k n rows s.present
+
+  view : Here ≡ s.present
+  view = seen-is k n rows s.present kind dim same
+
   -- a removal that is refused
   pub remove-refused : (x y : ℕ) → x ≡ i → y ≡ d → (r : Refused) (result : Result Done Refused) → result ≡ Err r
       → (r ≡ why.Line told.NotRemovable → IsRemovable k (links_of rows) x y → ⊥)
@@ -45,18 +50,18 @@ module _ (k : Kind) (n : ℕ) (rows : Rows) (l : Labeling) (p : Store) (rules : 
       let fail = subst (λ (c : Content). (c.dim < i → ⊥) × (IsContractible c.kind (links_of c.rows) i d → ⊥)) view (low, cannot) in
       rw (is, blocked) (inr (fail.0, inr (live, inl (fail.1, refl, refl))))
 
-  module _ (edit : Edit) (sound : IsSound k n rows) (begun : 0 < length rows) (fits : Fits k n rows edit) (births : edit.births ≡ 0)
+  module _ (edit : Edit) (fits : Fits k n rows edit) (births : edit.births ≡ 0)
       (new : State) (next : Content) (carried : IsCarriedOn hook s.present (after_edit n edit s.present.rows) next)
       (made : new ≡ steps_to s next) where
-    on : IsCarriedOn hook (content_of k n rows l p rules) (after_edit n edit rows) next
+    on : IsCarriedOn hook Here (after_edit n edit rows) next
     on = subst (λ (c : Content). IsCarriedOn hook c (after_edit n edit c.rows) next) (sym view) carried
 
     -- no dart is born, and those of C end
     cell-ended : (C : ℕ → Type 0) → ((x : ℕ) → Contains edit.deaths x ↔ C x) → (Becomes : Links → Type 0) → Becomes (links_of (after_edit n edit rows))
-        → IsRelinked hook (content_of k n rows l p rules) 0 C Becomes next
+        → IsRelinked hook Here 0 C Becomes next
     cell-ended C members Becomes becomes =
-        subst (λ (born : ℕ). IsRelinked hook (content_of k n rows l p rules) born C Becomes next) births
-        (relinked k n rows edit sound begun fits C (λ x. ((members x).1, (members x).0)) hook l p rules next on Becomes becomes)
+        subst (λ (born : ℕ). IsRelinked hook Here born C Becomes next) births
+        (relinked k n rows edit (seen-sound k n rows s.present kind dim same kept) (seen-begun rows s.present same kept) fits C (λ x. ((members x).1, (members x).0)) hook s.present next on Becomes becomes)
 
     -- a removal that is obeyed
     pub remove-obeyed : (x y : ℕ) → x ≡ i → y ≡ d → IsRemovable k (links_of rows) x y → ((z : ℕ) → Contains edit.deaths z ↔ InCell k (links_of rows) x y z)

@@ -15,19 +15,24 @@ use Rattle.map_defs.specs.Sewing.{SewnPairs, IsSewable, IsSewn, IsUnsewn}
 use Rattle.machine_defs.specs.Script.{Sew, Unsew}
 use Rattle.machine_defs.specs.Machine.{Step, AreFree, ArePaired, links_in}
 use Rattle.machine_defs.specs.Text as text
-use Rattle.store_defs.specs.Stores.{Store}
-use Rattle.store_defs.specs.Labelings.{Labeling}
-use Rattle.label_laws.specs.Contents.{content_of, IsCarriedOn}
+use Rattle.machine_defs.specs.Kept.{IsLawfulContent}
+use Rattle.label_laws.specs.Contents.{IsCarriedOn}
 use Rattle.map_core.specs.Calls.{Does}
 use Rattle.map_core.specs.declared.map.Done.{Done}
-use Rattle.label_laws.proofs.Remaking.{relinked}
+use Rattle.map_core.proofs.Present.{seen_as, seen-is, seen-sound, seen-begun, relinked}
 
 -- the number is no link that can be sewn
 abbrev IsNoLink : Content → ℕ → Type 0
 IsNoLink c i = (c.dim < i) ⊎ ((c.kind ≡ beta) × (i ≡ 0))
 
-module _ (k : Kind) (n : ℕ) (rows : Rows) (l : Labeling) (p : Store) (rules : List (Option Rule)) (hook : Meaning) (s : State) (view : content_of k n rows l p rules ≡ s.present) (i d : ℕ)
+module _ (k : Kind) (n : ℕ) (rows : Rows) (hook : Meaning) (s : State) (kind : s.present.kind ≡ k) (dim : s.present.dim ≡ n) (same : rows ≡ s.present.rows) (kept : IsLawfulContent s.present) (i d : ℕ)
     (link : ((n < i) ⊎ ((k ≡ beta) × (i ≡ 0))) → ⊥) (one : IsLive s.present.rows d) where
+  abbrev Here : Content
+  Here = seen_as k n rows s.present
+
+  view : Here ≡ s.present
+  view = seen-is k n rows s.present kind dim same
+
   -- a sewing that is refused
   pub sew-refused : (e : ℕ) → IsLive s.present.rows e → (x y z : ℕ) → x ≡ i → y ≡ d → z ≡ e
       → (r : Refused) (result : Result Done Refused) → result ≡ Err r
@@ -57,18 +62,18 @@ module _ (k : Kind) (n : ℕ) (rows : Rows) (l : Labeling) (p : Store) (rules : 
       let fails = subst (λ (c : Content). (IsNoLink c i → ⊥) × (links_in c i d ≡ 0)) view (link, none) in
       rw (is, already) (inr (fails.0, inr (one, inl (fails.1, refl, refl))))
 
-  module _ (edit : Edit) (sound : IsSound k n rows) (begun : 0 < length rows) (fits : Fits k n rows edit) (births : edit.births ≡ 0)
+  module _ (edit : Edit) (fits : Fits k n rows edit) (births : edit.births ≡ 0)
       (deaths : edit.deaths ≡ []) (new : State) (next : Content) (carried : IsCarriedOn hook s.present (after_edit n edit s.present.rows) next)
       (made : new ≡ steps_to s next) where
-    on : IsCarriedOn hook (content_of k n rows l p rules) (after_edit n edit rows) next
+    on : IsCarriedOn hook Here (after_edit n edit rows) next
     on = subst (λ (c : Content). IsCarriedOn hook c (after_edit n edit c.rows) next) (sym view) carried
 
     -- no dart is born and none ends
     links-alone : (Becomes : Links → Type 0) → Becomes (links_of (after_edit n edit rows))
-        → IsRelinked hook (content_of k n rows l p rules) 0 NoDart Becomes next
+        → IsRelinked hook Here 0 NoDart Becomes next
     links-alone Becomes becomes =
-        subst (λ (born : ℕ). IsRelinked hook (content_of k n rows l p rules) born NoDart Becomes next) births
-        (relinked k n rows edit sound begun fits NoDart (λ x. (λ none. absurd none, λ at. absurd (omega (arith, at.1, ap length deaths)))) hook l p rules next on Becomes becomes)
+        subst (λ (born : ℕ). IsRelinked hook Here born NoDart Becomes next) births
+        (relinked k n rows edit (seen-sound k n rows s.present kind dim same kept) (seen-begun rows s.present same kept) fits NoDart (λ x. (λ none. absurd none, λ at. absurd (omega (arith, at.1, ap length deaths)))) hook s.present next on Becomes becomes)
 
     -- a sewing that is obeyed
     pub sew-obeyed : (e : ℕ) → IsLive s.present.rows e → (x y z : ℕ) → x ≡ i → y ≡ d → z ≡ e → IsSewable k (links_of rows) x y z

@@ -1,84 +1,55 @@
 -- A step of a map, noted where a mark stands: the state is the machine's after it, and what the map keeps is kept.
-use Rattle.std.proofs.Common.{◌≡◌, ◌≢◌, ℕ, zero, suc, ◌<◌, ◌↔◌, ◌==◌, if◌then◌else◌, Bool, false, cond, rules, tests, List, [], refl, sym, ap, ◌∙◌, subst, inl, inr, arith, Contains, AllPairs}
-use Rattle.std.proofs.lemmas.Bool.{cases_eq}
-use Rattle.map_defs.specs.Rows.{Rows, made}
-use Rattle.map_defs.specs.Edits.{Edit}
-use Rattle.machine_defs.specs.State.{Content, value_at, rule_at, steps_to}
-use Rattle.machine_defs.specs.Difference.{Difference, ValueChange, RuleChange, IsDifference, IsValueBefore, IsRuleBefore}
-use Rattle.machine_defs.specs.Kept.{IsLawfulContent}
-use Rattle.journal_laws.specs.Following.{Follows}
-use Rattle.journal_laws.specs.Ordering.{IsRowsDifference}
-use Rattle.trail_laws.specs.Trails.{Trail, noted, IsOrdered}
+use Rattle.std.proofs.Common.{◌≡◌, ℕ, ◌<◌, ◌↔◌, Bool, true, false, IsTrue, Option, Some, None, IsSome, refl, sym, ap, ◌∙◌, subst, inl, inr, arith}
+use Rattle.std.proofs.lemmas.Bool.{cases_eq, false≢true}
+use Rattle.machine_defs.specs.State.{Content, State, steps_to}
+use Rattle.machine_defs.specs.Difference.{Difference}
+use Rattle.trail_laws.specs.Trails.{Trail, IsOrdered}
 use Rattle.trail_laws.specs.Told.{told, IsTraced}
 use Rattle.trail_laws.proofs.Noting.{told-unmarked, traced-unmarked, told-noted, traced-noted}
-use Rattle.map_core.specs.Noted.{advanced, step_of}
+use Rattle.valued_map.specs.Told.{IsTold, IsStep}
+use Rattle.map_core.specs.Noted.{advanced}
 
-no-marks : (t : Trail) (s : Difference) → t.standing ≡ 0 → advanced t s ≡ t
-no-marks t s none = ap (λ (n : ℕ). if n == 0 then t else noted t s) none
+-- where no mark stands no step is told
+none-stands : (asked : Bool) (standing : ℕ) → IsTrue asked ↔ (0 < standing) → asked ≡ false → standing ≡ 0
+none-stands asked standing noting off = elim (cases_eq standing 0) [
+  | inl none ↦ none
+  | inr some ↦ absurd (false≢true (sym off ∙ noting.1 (omega arith)))
+]
 
-not-zero : (n : ℕ) → (n ≡ 0 → ⊥) → (n == 0) ≡ false
-not-zero zero h = absurd (h refl)
-not-zero (suc n) h = search (rules, tests)
+module _ (now next : Content) (t : Trail) (h : IsTraced now t) (o : IsOrdered t) where
+  module _ (asked : Bool) (noting : IsTrue asked ↔ (0 < t.standing)) (step : Option Difference) (s : IsStep asked now next step) where
+    -- there is room where a step is told
+    pub told-asked : IsSome step → 0 < t.standing
+    told-asked some = noting.0 (go asked step s.told some)
+      where
+        go : (b : Bool) (d : Option Difference) → IsTold b now next d → IsSome d → IsTrue b
+        go true d told there = refl
+        go false None told there = absurd (false≢true there)
+        go false (Some d) told there = absurd told
 
-some-marks : (t : Trail) (s : Difference) → (t.standing ≡ 0 → ⊥) → advanced t s ≡ noted t s
-some-marks t s some = ap (λ (b : Bool). cond b t (noted t s)) (not-zero t.standing some)
+    told-as : (b : Bool) (d : Option Difference) → asked ≡ b → IsTold b now next d → told next (advanced t d) ≡ steps_to (told now t) next
+    told-as false None off told = told-unmarked now next t h o (none-stands asked t.standing noting off) s.kept
+    told-as false (Some d) off told = absurd told
+    told-as true None on told = absurd told
+    told-as true (Some d) on told = told-noted now next t d h o s.kept s.follows told (λ none. let some = noting.0 on in omega arith)
 
-module _ (now next : Content) (t : Trail) (step : Difference) (h : IsTraced now t) (o : IsOrdered t) (kept : IsLawfulContent next) (f : Follows now next)
-    (is : 0 < t.standing → IsDifference now next step) where
-  pub told-advanced : told next (advanced t step) ≡ steps_to (told now t) next
-  told-advanced = elim (cases_eq t.standing 0) [
-    | inl none ↦ ap (told next) (no-marks t step none) ∙ told-unmarked now next t h o none kept
-    | inr some ↦ ap (told next) (some-marks t step some) ∙ told-noted now next t step h o kept f (is (omega arith)) some
-  ]
+    traced-as : (b : Bool) (d : Option Difference) → asked ≡ b → IsTold b now next d → IsTraced next (advanced t d)
+    traced-as false None off told = traced-unmarked now next t h o (none-stands asked t.standing noting off) s.kept
+    traced-as false (Some d) off told = absurd told
+    traced-as true None on told = absurd told
+    traced-as true (Some d) on told = traced-noted now next t d h o s.kept s.follows told (λ none. let some = noting.0 on in omega arith)
 
-  pub traced-advanced : IsTraced next (advanced t step)
-  traced-advanced = elim (cases_eq t.standing 0) [
-    | inl none ↦ subst (IsTraced next) (sym (no-marks t step none)) (traced-unmarked now next t h o none kept)
-    | inr some ↦ subst (IsTraced next) (sym (some-marks t step some)) (traced-noted now next t step h o kept f (is (omega arith)) some)
-  ]
+    -- of the trail that is there once a step was noted
+    module _ (u v : Trail) (same : u ≡ t) (noted : v ≡ advanced u step) where
+      pub told-advanced : told next v ≡ steps_to (told now t) next
+      told-advanced = ap (told next) (noted ∙ ap (λ (w : Trail). advanced w step) same) ∙ told-as asked step refl s.told
 
--- the difference of two contents, by its parts
-pub parts-differ : (a b : Content) (e : Edit) (values : List ValueChange) (rules : List RuleChange) → IsRowsDifference a.rows b.rows e
-    → ((c : ValueChange) → Contains values c ↔ ((c.old ≡ value_at a c.dim c.dart) × (c.new ≡ value_at b c.dim c.dart) × (c.old ≢ c.new))) → AllPairs IsValueBefore values
-    → ((c : RuleChange) → Contains rules c ↔ ((c.old ≡ rule_at a c.dim) × (c.new ≡ rule_at b c.dim) × (c.old ≢ c.new))) → AllPairs IsRuleBefore rules
-    → IsDifference a b (step_of (made a.rows) e values rules)
-parts-differ a b e values rules rows members ordered rules_are rules_ordered = record {
-  born = rows.born;
-  first = refl;
-  ended = rows.ended;
-  ended_ascending = rows.ended_ascending;
-  links = rows.links;
-  links_ordered = rows.links_ordered;
-  values = members;
-  values_ordered = ordered;
-  rules = rules_are;
-  rules_ordered = rules_ordered;
-}
+      pub traced-advanced : IsTraced next v
+      traced-advanced = subst (IsTraced next) (sym (noted ∙ ap (λ (w : Trail). advanced w step) same)) (traced-as asked step refl s.told)
 
--- where nothing differs
-pub no-values-differ : (a b : Content) → ((i d : ℕ) → value_at b i d ≡ value_at a i d)
-    → (c : ValueChange) → Contains [] c ↔ ((c.old ≡ value_at a c.dim c.dart) × (c.new ≡ value_at b c.dim c.dart) × (c.old ≢ c.new))
-no-values-differ a b same c = (
-  λ h. absurd (let lt : h.0 < 0 = h.1 in omega arith),
-  λ h. absurd (h.2 (h.0 ∙ sym (same c.dim c.dart) ∙ sym h.1)),
-)
+  -- where nothing changed
+  pub traced-same : (u : Trail) → u ≡ t → next ≡ now → IsTraced next u
+  traced-same u same alike = subst (λ (w : Trail). IsTraced next w) (sym same) (subst (λ (c : Content). IsTraced c t) (sym alike) h)
 
-pub no-rules-differ : (a b : Content) → b.rules ≡ a.rules
-    → (c : RuleChange) → Contains [] c ↔ ((c.old ≡ rule_at a c.dim) × (c.new ≡ rule_at b c.dim) × (c.old ≢ c.new))
-no-rules-differ a b same c = (
-  λ h. absurd (let lt : h.0 < 0 = h.1 in omega arith),
-  λ h. absurd (h.2 (h.0 ∙ sym (ap (λ rs. rule_at (record a { rules = rs }) c.dim) same) ∙ sym h.1)),
-)
-
-pub none-ordered : {X : Type 0} (R : X → X → Type 0) → AllPairs R []
-none-ordered R i j d h within = absurd (omega arith)
-
--- the rows where no dart is born or ends, and no link changes
-pub no-rows-differ : (rows : Rows) → IsRowsDifference rows rows (record { births = 0; deaths = []; changes = [] })
-no-rows-differ rows = record {
-  born = omega arith;
-  ended = λ d. ((λ h. absurd (let lt : h.0 < 0 = h.1 in omega arith)), λ h. absurd (h.1 h.0));
-  ended_ascending = λ k h. absurd (omega arith);
-  links = λ c. ((λ h. absurd (let lt : h.0 < 0 = h.1 in omega arith)), λ h. absurd (h.2 (h.0 ∙ sym h.1)));
-  links_ordered = λ i j d h within. absurd (omega arith);
-}
+  pub told-same : (u : Trail) → u ≡ t → next ≡ now → told next u ≡ told now t
+  told-same u same alike = ap (told next) same ∙ ap (λ (c : Content). told c t) alike

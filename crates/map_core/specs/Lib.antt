@@ -1,5 +1,5 @@
+pub use Rattle.valued_map.specs.Made
 pub mod Views
 pub mod Calls
-pub mod Made
 pub mod Growing
 pub mod Noted

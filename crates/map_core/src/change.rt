@@ -27,8 +27,8 @@ impl<'h, K: Kind, H: Hook, const DIM: usize> Map<'h, K, H, DIM> {
         if !self.has_numbers(count) {
             return Err(Refused::Line(Refusal::Full));
         }
-        let first = self.links.made() + 1;
-        let edit = polygon_edit(alloc, &self.links, sides as u32)?;
+        let first = self.links().made() + 1;
+        let edit = polygon_edit(alloc, self.links(), sides as u32)?;
         self.bear(alloc, &edit)?;
         Ok(Done { first, count })
     }
@@ -43,7 +43,7 @@ impl<'h, K: Kind, H: Hook, const DIM: usize> Map<'h, K, H, DIM> {
         if !self.has_numbers(1) {
             return Err(Refused::Line(Refusal::Full));
         }
-        let first = self.links.made() + 1;
+        let first = self.links().made() + 1;
         let edit = Edit {
             births: 1,
             deaths: Vec::new(alloc),
@@ -64,7 +64,7 @@ impl<'h, K: Kind, H: Hook, const DIM: usize> Map<'h, K, H, DIM> {
         let Some(dart) = self.live_dart(dart) else {
             return Err(Refused::Line(Refusal::NoDart));
         };
-        if !is_alone(&self.links, dart) {
+        if !is_alone(self.links(), dart) {
             return Err(Refused::Line(Refusal::Linked));
         }
         self.end(alloc, dart)?;

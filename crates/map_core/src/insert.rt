@@ -30,7 +30,7 @@ impl<'h, H: Hook, const DIM: usize> Map<'h, Alpha, H, DIM> {
         let Some(dart) = self.live_dart(dart) else {
             return Err(Refused::Line(Refusal::NoDart));
         };
-        let edit = vertex_plan(alloc, &self.links, dart)?;
+        let edit = vertex_plan(alloc, self.links(), dart)?;
         self.insert(alloc, &edit)
     }
 
@@ -55,7 +55,7 @@ impl<'h, H: Hook, const DIM: usize> Map<'h, Alpha, H, DIM> {
         let Some(other) = self.live_dart(other) else {
             return Err(Refused::Line(Refusal::NoDart));
         };
-        let edit = edge_plan(alloc, &self.links, dart, other)?;
+        let edit = edge_plan(alloc, self.links(), dart, other)?;
         self.insert(alloc, &edit)
     }
 
@@ -77,11 +77,11 @@ impl<'h, H: Hook, const DIM: usize> Map<'h, Alpha, H, DIM> {
         ensures hook { self.new.hook ≡ self.old.hook }
         ensures does { Does (H.meaning self.old.hook) self.old.state (Face path.now) result self.new.state }
     {
-        if self.links.dimension() < 3 {
+        if self.links().dimension() < 3 {
             return Err(Refused::Line(Refusal::BadDim));
         }
         let darts = self.live_darts(alloc, path)?;
-        let edit = face_plan(alloc, &self.links, &darts)?;
+        let edit = face_plan(alloc, self.links(), &darts)?;
         self.insert(alloc, &edit)
     }
 }
@@ -95,7 +95,7 @@ impl<'h, K: Kind, H: Hook, const DIM: usize> Map<'h, K, H, DIM> {
         ensures hook { self.new.hook ≡ self.old.hook }
         ensures grows { Grows (H.meaning self.old.hook) self.old.state edit.now result self.new.state }
     {
-        let made = self.links.made();
+        let made = self.links().made();
         if edit.births > MADE_MAX - made {
             return Err(Refused::Line(Refusal::Full));
         }

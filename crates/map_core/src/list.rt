@@ -1,5 +1,5 @@
 //! The listing of a map.
-ghost use Rattle.std.specs.Prelude.{◌<◌, IfOk};
+ghost use Rattle.std.specs.Prelude.{IfOk};
 ghost use Rattle.machine_defs.specs.Script.{Show};
 ghost use Rattle.machine_defs.specs.Machine.{Step};
 ghost use Rattle.machine_defs.specs.Text.{Shown};
@@ -9,7 +9,6 @@ use attr_rules::Hook;
 use list_text::Listing;
 use map_kind::Kind;
 use std::alloc::{AllocError, Global};
-use valued_map::{list_rows, list_values};
 
 impl<'h, K: Kind, H: Hook, const DIM: usize> Map<'h, K, H, DIM> {
     /// The listing of the map: its live darts, ascending, with their links, and its cells with a value, each by its
@@ -17,12 +16,6 @@ impl<'h, K: Kind, H: Hook, const DIM: usize> Map<'h, K, H, DIM> {
     pub fn listing(&self, alloc: Global) -> Result<Listing, AllocError>
         ensures { IfOk result (λ listing. Step (H.meaning self.now.hook) self.now.state Show (Shown listing) self.now.state) }
     {
-        Ok(Listing {
-            letter: K::letter(),
-            dim: self.links.dimension() as u32,
-            made: self.links.made(),
-            rows: list_rows(alloc, &self.links)?,
-            values: list_values(alloc, &self.links, &self.labels, &self.pool, &self.rules)?,
-        })
+        self.present.listing(alloc)
     }
 }

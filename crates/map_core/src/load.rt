@@ -8,16 +8,15 @@ ghost use Rattle.map_defs.specs.Laws.{Laws};
 ghost use Rattle.machine_defs.specs.State.{Content, empty_state};
 ghost use Rattle.machine_defs.specs.Loading.{first_state};
 ghost use Rattle.cell_walk.specs.CellLists.{AreCellsOf, lists_of};
-ghost use Rattle.map_core.specs.Made.{IsMadeOf};
+ghost use Rattle.valued_map.specs.Made.{IsMadeOf};
 
 use crate::map::{Done, Map};
-use attr_rules::{Hook, Merge, Split, TableRule};
+use attr_rules::Hook;
 use cell_walk::cells_of;
 use link_rows::{Edit, Links, MADE_MAX};
 use map_kind::{Dart, Kind, Place};
 use std::alloc::{AllocError, Global};
 use undo_journal::Journal;
-use valued_map::{give_cells, prepare, put_rule};
 
 impl<'h, K: Kind, H: Hook, const DIM: usize> Map<'h, K, H, DIM> {
     /// Makes a map from nothing by an edit, gives dimension 0 the rule `first copy` and each 0-cell its value: `places` has
@@ -38,7 +37,6 @@ impl<'h, K: Kind, H: Hook, const DIM: usize> Map<'h, K, H, DIM> {
             × (self.new.state ≡ first_state content)) }
         ensures err { OnErr result (self.new ≡ self.old) }
     {
-        let _ = &self.links;
         let links = links_after::<K, DIM>(alloc, edit)?;
         let darts = darts_of(alloc, places)?;
         let cells = cells_of(alloc, &links, 0, &darts)?;
@@ -68,18 +66,8 @@ impl<'h, K: Kind, H: Hook, const DIM: usize> Map<'h, K, H, DIM> {
         ensures err { OnErr result (self.new ≡ self.old) }
     {
         let made = links.made();
-        prepare::<DIM>(
-            alloc,
-            &mut self.labels,
-            &mut self.pool,
-            &mut self.rules,
-            made,
-            places.len(),
-        )?;
-        self.links = links;
+        self.present.load_links(alloc, links, places, cells)?;
         self.journal = Journal::new(alloc);
-        give_cells(&mut self.labels, &mut self.pool, places, cells);
-        put_rule(&mut self.rules, 0, FIRST_COPY);
         Ok(Done {
             first: made.min(1),
             count: made,
@@ -112,9 +100,3 @@ fn darts_of(alloc: Global, places: &[Place]) -> Result<Vec<Dart>, AllocError>
 {
     places.iter().map(|place| place.dart).collect(alloc)
 }
-
-/// The rule by which points merge and split.
-const FIRST_COPY: TableRule = TableRule {
-    merge: Merge::First,
-    split: Split::Copied,
-};

@@ -1,18 +1,17 @@
 //! The map itself, and what all its calls share.
 ghost use Rattle.std.specs.Prelude.{◌≡◌, ℕ, ◌+◌, ◌≤◌, ◌↔◌, IsSome, IfSome, IsTrue};
 ghost use Rattle.map_defs.specs.Rows.{IsLive, IsSound, links_of, made};
-ghost use Rattle.map_defs.specs.Laws.{IsLawful};
+ghost use Rattle.map_defs.specs.Laws.{IsLawful, Laws};
 ghost use Rattle.machine_defs.specs.State.{empty_state};
 ghost use Rattle.machine_defs.specs.Kept.{IsLawfulContent};
 
-use attr_pool::{Labels, Pool};
 use attr_rules::Hook;
 use link_rows::{Links, MADE_MAX};
 use map_kind::{Dart, Kind};
 use std::alloc::Global;
 use std::marker::Model;
-use transport::RuleRow;
 use undo_journal::Journal;
+use valued_map::ValuedMap;
 
 /// What a changing line made: its first new dart and how many, the darts being numbered on from the first. Both are 0
 /// where no dart is made.
@@ -33,12 +32,7 @@ impl Done {
 /// all else from that.
 #[derive(Drop)]
 pub struct Map<'h, K: Kind, H: Hook, const DIM: usize> {
-    pub(crate) links: Links<K, DIM>,
-    // The darts of a cell with a value share an id; no other dart has one.
-    pub(crate) labels: Labels<DIM>,
-    pub(crate) pool: Pool,
-    // Without places until some dimension gets a rule.
-    pub(crate) rules: RuleRow,
+    pub(crate) present: ValuedMap<K, DIM>,
     pub(crate) hook: &'h H,
     // The steps since the first mark. Without a mark none is noted.
     pub(crate) journal: Journal,
@@ -46,15 +40,13 @@ pub struct Map<'h, K: Kind, H: Hook, const DIM: usize> {
 
 impl<'h, K: Kind, H: Hook, const DIM: usize> Model for Map<'h, K, H, DIM> {
     ghost use Rattle.map_core.specs.Views.{MapView};
-    ghost use Rattle.label_laws.specs.Contents.{content_of};
-    ghost use Rattle.trail_laws.specs.Told.{told};
-    ghost use Rattle.map_core.specs.Noted.{IsJournaled};
+    ghost use Rattle.trail_laws.specs.Told.{told, IsTraced};
 
     ghost Value = { MapView H };
 
-    ghost view = { λ map. record { state = told (content_of K.kind DIM map.links.rows map.labels map.pool map.rules) map.journal.trail; hook = map.hook.now } };
+    ghost view = { λ map. record { state = told map.present map.journal.trail; hook = map.hook.now } };
 
-    ghost invariant = { λ map. IsJournaled K.kind DIM map.links.rows map.labels map.pool map.rules map.journal.trail };
+    ghost invariant = { λ map. IsTraced map.present map.journal.trail };
 }
 
 impl<'h, K: Kind, H: Hook, const DIM: usize> Map<'h, K, H, DIM> {
@@ -66,12 +58,7 @@ impl<'h, K: Kind, H: Hook, const DIM: usize> Map<'h, K, H, DIM> {
         ensures hook { result.hook ≡ hook.now }
     {
         Map {
-            links: Links::new(alloc),
-            labels: Labels::new(alloc),
-            pool: Pool::new(alloc),
-            rules: RuleRow {
-                rules: Vec::new(alloc),
-            },
+            present: ValuedMap::new(alloc),
             hook,
             journal: Journal::new(alloc),
         }
@@ -85,9 +72,10 @@ impl<'h, K: Kind, H: Hook, const DIM: usize> Map<'h, K, H, DIM> {
         ensures dim { self.now.state.present.dim ≡ DIM }
         ensures sound { IsSound K.kind DIM self.now.state.present.rows }
         ensures lawful { IsLawful K.kind (links_of self.now.state.present.rows) }
+        ensures laws { Laws K.kind (links_of result.now.rows) }
         ensures kept { IsLawfulContent self.now.state.present }
     {
-        &self.links
+        self.present.links()
     }
 
     /// The live dart of this number; none exactly where no live dart has it.
@@ -95,11 +83,12 @@ impl<'h, K: Kind, H: Hook, const DIM: usize> Map<'h, K, H, DIM> {
         ensures live { IsSome result ↔ IsLive self.now.state.present.rows number }
         ensures same { IfSome result (λ dart. dart ≡ number) }
     {
-        if number > u64::from(self.links.made()) {
+        let links = self.links();
+        if number > u64::from(links.made()) {
             return None;
         }
         let dart = Dart::new(number as u32)?;
-        if self.links.is_live(dart) {
+        if links.is_live(dart) {
             Some(dart)
         } else {
             None
@@ -112,7 +101,7 @@ impl<'h, K: Kind, H: Hook, const DIM: usize> Map<'h, K, H, DIM> {
         ensures same { IfSome result (λ dim. dim ≡ number) }
         ensures high { IfSome result (λ dim. dim ≤ DIM) }
     {
-        let high = self.links.dimension();
+        let high = self.links().dimension();
         if number <= high as u64 {
             Some(number as usize)
         } else {
@@ -125,6 +114,6 @@ impl<'h, K: Kind, H: Hook, const DIM: usize> Map<'h, K, H, DIM> {
         requires { births ≤ MADE_MAX }
         ensures { IsTrue result ↔ (made self.now.state.present.rows + births ≤ MADE_MAX) }
     {
-        self.links.made() + births <= MADE_MAX
+        self.links().made() + births <= MADE_MAX
     }
 }

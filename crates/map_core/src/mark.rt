@@ -5,6 +5,7 @@ ghost use Rattle.machine_defs.specs.Text.{Logged};
 ghost use Rattle.map_core.specs.Calls.{Does, AnswersAtOnce};
 
 use crate::map::{Done, Map};
+use crate::note::see_order;
 use attr_rules::Hook;
 use map_kind::{Kind, Refusal, Refused};
 use undo_journal::Step;
@@ -18,8 +19,7 @@ impl<'h, K: Kind, H: Hook, const DIM: usize> Map<'h, K, H, DIM> {
         ensures hook { self.new.hook ≡ self.old.hook }
         ensures does { Does (H.meaning self.old.hook) self.old.state (Mark name.now) result self.new.state }
     {
-        // Marks and steps are in order.
-        let _ = self.journal.mark_count();
+        see_order(&self.journal);
         self.journal.mark(name)?;
         Ok(Done::NONE)
     }
@@ -31,8 +31,7 @@ impl<'h, K: Kind, H: Hook, const DIM: usize> Map<'h, K, H, DIM> {
     pub fn log(&self, name: &str) -> Result<&[Step], Refusal>
         ensures { AnswersAtOnce (H.meaning self.now.hook) self.now.state (Log name.now) (λ steps. Logged steps.now) result }
     {
-        // Marks and steps are in order.
-        let _ = self.journal.mark_count();
+        see_order(&self.journal);
         match self.journal.entries_since(name) {
             Ok(steps) => Ok(steps),
             Err(refusal) => Err(refusal),

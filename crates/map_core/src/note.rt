@@ -1,26 +1,19 @@
-//! What a step changes, as the journal keeps it. Without a mark nothing is looked at, and no memory is taken.
-ghost use Rattle.std.specs.Prelude.{◌≡◌, ◌≢◌, ℕ, ◌+◌, ◌≤◌, ◌<◌, ◌⊎◌, ◌↔◌, ◌==◌, ◌++◌, ◌∷◌, [], if◌then◌else◌, map, filter, length, IsTrue, Some, Contains, AllPairs, IfOk, OnOk};
-ghost use Rattle.std.specs.List.Sorted.{IsStrictlyIncreasing};
-ghost use Rattle.map_defs.specs.Rows.{links_of, IsLive};
-ghost use Rattle.map_defs.specs.Cells.{InCell};
-ghost use Rattle.map_defs.specs.Edits.{Change as LinkChange};
-ghost use Rattle.machine_defs.specs.Difference.{IsLinkBefore, RuleChange as ChangedRule};
-ghost use Rattle.store_defs.specs.Groups.{group_at, rule_at};
+//! Steps are noted where a mark stands. Without a mark nothing is looked at, and no memory is taken.
+ghost use Rattle.std.specs.Prelude.{◌≡◌, ◌<◌, ◌≤◌, ◌↔◌, IsTrue, IsSome, IfOk, OnOk};
 ghost use Rattle.trail_laws.specs.Trails.{IsOrdered};
-ghost use Rattle.label_laws.specs.Stored.{stored_value};
-ghost use Rattle.map_core.specs.Noted.{first_number, step_of, advanced, IsSorted, IsRelabelledPlace, AreOldValues, AreNewValues, IsOneRule, old_value};
+ghost use Rattle.map_core.specs.Noted.{advanced};
 
-use attr_pool::{Labels, Pool};
-use attr_rules::TableRule;
-use cell_walk::cell;
-use link_rows::{Change, Edit, Links, MADE_MAX};
-use map_kind::{Dart, Kind};
-use std::alloc::{AllocError, Global};
-use transport::{Group, RuleRow};
-use undo_journal::{Journal, RuleChange, Step, ValueChange};
-use valued_map::stored_value;
+use std::alloc::AllocError;
+use undo_journal::{Journal, Step};
 
-/// Whether a mark stands, so that steps are noted. Here can be read what holds of every trail.
+/// Marks and steps are in order: so it is in every trail.
+pub(crate) fn see_order(journal: &Journal)
+    ensures { IsOrdered journal.now.trail }
+{
+    let _ = journal.mark_count();
+}
+
+/// Whether a mark stands, so that steps are noted.
 pub(crate) fn is_noting(journal: &Journal) -> bool
     ensures noting { IsTrue result ↔ (0 < journal.now.trail.standing) }
     ensures ordered { IsOrdered journal.now.trail }
@@ -28,256 +21,26 @@ pub(crate) fn is_noting(journal: &Journal) -> bool
     journal.mark_count() > 0
 }
 
-/// Makes room for a step.
-pub(crate) fn reserve_step(journal: &mut Journal) -> Result<(), AllocError>
+/// Makes room for a step where a mark stands, and answers whether one does.
+pub(crate) fn begin(journal: &mut Journal) -> Result<bool, AllocError>
     ensures trail { journal.new.trail ≡ journal.old.trail }
     ensures ordered { IsOrdered journal.old.trail }
+    ensures noting { IfOk result (λ noting. IsTrue noting ↔ (0 < journal.old.trail.standing)) }
     ensures room { OnOk result (0 < journal.old.trail.standing → 1 ≤ journal.new.room) }
 {
     if !is_noting(journal) {
-        return Ok(());
-    }
-    journal.reserve()
-}
-
-/// Notes a step after so many darts were made. It takes no memory: room was reserved.
-pub(crate) fn keep(
-    journal: &mut Journal,
-    made: u32,
-    edit: Edit,
-    values: Vec<ValueChange>,
-    rules: Vec<RuleChange>,
-)
-    requires made { made ≤ MADE_MAX }
-    requires room { 0 < journal.old.trail.standing → 1 ≤ journal.old.room }
-    ensures { journal.new.trail ≡ advanced journal.old.trail (step_of made edit values.items rules.items) }
-{
-    if !is_noting(journal) {
-        return;
-    }
-    let first = first_number(made, edit.births);
-    journal.note(Step {
-        first,
-        edit,
-        values,
-        rules,
-    });
-}
-
-/// The number of the first of so many new darts, or 0 where none is born.
-fn first_number(made: u32, births: u32) -> u32
-    requires { made ≤ MADE_MAX }
-    ensures { result ≡ first_number made births }
-{
-    if births == 0 { 0 } else { made + 1 }
-}
-
-/// The edit that changes nothing.
-pub(crate) fn no_edit(alloc: Global) -> Edit
-    ensures { result ≡ record { births = 0; deaths = []; changes = [] } }
-{
-    Edit {
-        births: 0,
-        deaths: Vec::new(alloc),
-        changes: Vec::new(alloc),
-    }
-}
-
-/// Makes room for the step of an edit, and gives the edit as a log has it. It costs the size of the edit times a
-/// logarithm.
-pub(crate) fn noted_edit(
-    alloc: Global,
-    journal: &mut Journal,
-    edit: &Edit,
-) -> Result<Edit, AllocError>
-    requires once { AllPairs (λ b c. b.dart ≡ c.dart → b.link ≡ c.link → ⊥) edit.now.changes }
-    requires ends { AllPairs (λ c d. c ≢ d) edit.now.deaths }
-    ensures trail { journal.new.trail ≡ journal.old.trail }
-    ensures ordered { IsOrdered journal.old.trail }
-    ensures room { OnOk result (0 < journal.old.trail.standing → 1 ≤ journal.new.room) }
-    ensures sorted { IfOk result (λ noted. 0 < journal.old.trail.standing → IsSorted edit.now noted) }
-{
-    if !is_noting(journal) {
-        return Ok(no_edit(alloc));
+        return Ok(false);
     }
     journal.reserve()?;
-    Ok(Edit {
-        births: edit.births,
-        deaths: ascending(alloc, &edit.deaths)?,
-        changes: changes_in_order(alloc, &edit.changes)?,
-    })
+    Ok(true)
 }
 
-/// The same darts, ascending, each once.
-fn ascending(alloc: Global, darts: &[Dart]) -> Result<Vec<Dart>, AllocError>
-    ensures members { IfOk result (λ ascending. (d : ℕ) → Contains ascending.items d ↔ Contains darts.now d) }
-    ensures ascending { IfOk result (λ ascending. IsStrictlyIncreasing ascending.items) }
+/// Notes a step, if there is one. It takes no memory: room was made.
+pub(crate) fn finish(journal: &mut Journal, step: Option<Step>)
+    requires { IsSome step → 1 ≤ journal.old.room }
+    ensures { journal.new.trail ≡ advanced journal.old.trail step }
 {
-    let mut ascending = Vec::from_slice(alloc, darts)?;
-    ascending.sort_unstable();
-    ascending.dedup();
-    Ok(ascending)
-}
-
-/// The changes that change something, in the order of a log.
-fn changes_in_order(alloc: Global, changes: &[Change]) -> Result<Vec<Change>, AllocError>
-    requires { AllPairs (λ b c. b.dart ≡ c.dart → b.link ≡ c.link → ⊥) changes.now }
-    ensures members { IfOk result (λ kept. (c : LinkChange) → Contains kept.items c ↔ (Contains changes.now c × (c.old ≢ c.new))) }
-    ensures ordered { IfOk result (λ kept. AllPairs IsLinkBefore kept.items) }
-{
-    let mut kept = Vec::from_slice(alloc, changes)?;
-    kept.retain(|change| change.old != change.new);
-    kept.sort_unstable_by_key(|change| (change.dart, change.link));
-    Ok(kept)
-}
-
-/// The values that the darts have whose ids a change of links gives anew, in the order of a log. It costs these darts
-/// times a logarithm, and the groups, for each dimension.
-pub(crate) fn old_values<const DIM: usize>(
-    alloc: Global,
-    journal: &Journal,
-    labels: &Labels<DIM>,
-    pool: &Pool,
-    ended: &[Dart],
-    groups: &[Group],
-) -> Result<Vec<ValueChange>, AllocError>
-    requires high { DIM ≤ 8 }
-    requires groups { (n : ℕ) → n < length groups.now → (group_at groups.now n).dim ≤ DIM }
-    ensures { IfOk result (λ values. 0 < journal.now.trail.standing
-        → AreOldValues (IsRelabelledPlace DIM ended.now groups.now) labels.now pool.now values.items) }
-{
-    if !is_noting(journal) {
-        return Ok(Vec::new(alloc));
-    }
-    let mut values = Vec::new(alloc);
-    for dim in 0..DIM + 1 {
-        let darts = darts_in(alloc, dim, ended, groups)?;
-        add_values(labels, pool, dim, &darts, &mut values)?;
-    }
-    Ok(values)
-}
-
-/// The darts that ended, and those of the groups of a dimension, ascending, each once.
-fn darts_in(
-    alloc: Global,
-    dim: usize,
-    ended: &[Dart],
-    groups: &[Group],
-) -> Result<Vec<Dart>, AllocError>
-    ensures members { IfOk result (λ darts. (d : ℕ) → Contains darts.items d
-        ↔ (Contains ended.now d ⊎ ((n : ℕ) × (n < length groups.now) × ((group_at groups.now n).dim ≡ dim) × Contains (group_at groups.now n).darts d))) }
-    ensures ascending { IfOk result (λ darts. IsStrictlyIncreasing darts.items) }
-{
-    let mut darts = Vec::from_slice(alloc, ended)?;
-    for group in groups {
-        add_group(dim, group, &mut darts)?;
-    }
-    ascending(alloc, &darts)
-}
-
-/// Adds the darts of a group, if it is of the dimension.
-fn add_group(dim: usize, group: &Group, darts: &mut Vec<Dart>) -> Result<(), AllocError>
-    ensures { OnOk result (darts.new.items ≡ darts.old.items ++ (if group.now.dim == dim then group.now.darts else [])) }
-{
-    if group.dim != dim {
-        return Ok(());
-    }
-    darts.extend_from_slice(&group.darts)
-}
-
-/// The values that the darts of a cell have, in the order of a log. It costs the size of the cell times a logarithm.
-pub(crate) fn cell_values<K: Kind, const DIM: usize>(
-    alloc: Global,
-    journal: &Journal,
-    links: &Links<K, DIM>,
-    labels: &Labels<DIM>,
-    pool: &Pool,
-    dim: usize,
-    dart: Dart,
-) -> Result<Vec<ValueChange>, AllocError>
-    requires dim { dim ≤ DIM }
-    requires live { IsLive links.now.rows dart }
-    ensures { IfOk result (λ values. 0 < journal.now.trail.standing
-        → AreOldValues (λ i d. (i ≡ dim) × InCell K.kind (links_of links.now.rows) dim dart d) labels.now pool.now values.items) }
-{
-    if !is_noting(journal) {
-        return Ok(Vec::new(alloc));
-    }
-    let mut values = Vec::new(alloc);
-    let darts = cell(alloc, links, dim, dart)?;
-    add_values(labels, pool, dim, &darts, &mut values)?;
-    Ok(values)
-}
-
-/// Adds the values that darts have in a dimension.
-fn add_values<const DIM: usize>(
-    labels: &Labels<DIM>,
-    pool: &Pool,
-    dim: usize,
-    darts: &[Dart],
-    values: &mut Vec<ValueChange>,
-) -> Result<(), AllocError>
-    ensures { OnOk result (values.new.items ≡ values.old.items ++ map (old_value labels.now pool.now dim) darts.now) }
-{
-    for dart in darts {
-        let old = stored_value(labels, pool, dim, *dart);
-        let new = old;
-        values.push(ValueChange {
-            dim,
-            dart: *dart,
-            old,
-            new,
-        })?;
-    }
-    Ok(())
-}
-
-/// Those of the values that are others now, with the new ones. It takes no memory.
-pub(crate) fn new_values<const DIM: usize>(
-    labels: &Labels<DIM>,
-    pool: &Pool,
-    olds: Vec<ValueChange>,
-) -> Vec<ValueChange>
-    ensures { AreNewValues labels.now pool.now olds.items result.items }
-{
-    let mut values = olds;
-    for place in 0..values.len() {
-        let change = values[place];
-        values[place].new = stored_value(labels, pool, change.dim, change.dart);
-    }
-    values.retain(|change| change.old != change.new);
-    values
-}
-
-/// The change of the rule of a dimension to this one, unless it has it.
-pub(crate) fn rule_changes(
-    alloc: Global,
-    journal: &Journal,
-    rules: &RuleRow,
-    dim: usize,
-    rule: TableRule,
-) -> Result<Vec<RuleChange>, AllocError>
-    ensures { IfOk result (λ changes. 0 < journal.now.trail.standing → IsOneRule rules.now dim rule changes.items) }
-{
-    let old = rule_of(rules, dim);
-    if !is_noting(journal) || old == Some(rule) {
-        return Ok(Vec::new(alloc));
-    }
-    Ok(vec![in alloc;
-        RuleChange {
-            dim,
-            old,
-            new: Some(rule)
-        },
-    ]?)
-}
-
-/// The rule of a dimension, if it has one.
-pub(crate) fn rule_of(rules: &RuleRow, dim: usize) -> Option<TableRule>
-    ensures { result ≡ rule_at rules.now dim }
-{
-    match rules.rules.get(dim) {
-        Some(rule) => *rule,
-        None => None,
+    if let Some(step) = step {
+        journal.note(step);
     }
 }

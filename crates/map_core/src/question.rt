@@ -24,7 +24,7 @@ impl<'h, K: Kind, H: Hook, const DIM: usize> Map<'h, K, H, DIM> {
         let Some(dart) = self.live_dart(dart) else {
             return Err(Refused::Line(Refusal::NoDart));
         };
-        Ok(cell_walk::cell(alloc, &self.links, dim, dart)?)
+        Ok(cell_walk::cell(alloc, self.links(), dim, dart)?)
     }
 
     /// Whether two darts lie in the same cell of a dimension. It costs the size of the first dart's cell times a
@@ -44,7 +44,7 @@ impl<'h, K: Kind, H: Hook, const DIM: usize> Map<'h, K, H, DIM> {
         let Some(other) = self.live_dart(other) else {
             return Err(Refused::Line(Refusal::NoDart));
         };
-        Ok(cell_walk::same(alloc, &self.links, dim, dart, other)?)
+        Ok(cell_walk::same(alloc, self.links(), dim, dart, other)?)
     }
 
     /// Whether a link of a dart is free. It takes no memory.
@@ -60,13 +60,13 @@ impl<'h, K: Kind, H: Hook, const DIM: usize> Map<'h, K, H, DIM> {
         let Some(dart) = self.live_dart(dart) else {
             return Err(Refusal::NoDart);
         };
-        Ok(self.links.is_free(dart, link))
+        Ok(self.links().is_free(dart, link))
     }
 
     /// How many live darts, cells of dimensions 0 to `DIM`, and components there are, in this order.
     pub fn count(&self, alloc: Global) -> Result<Vec<u64>, AllocError>
         ensures { IfOk result (λ counts. Step (H.meaning self.now.hook) self.now.state Count (Counts counts.items) self.now.state) }
     {
-        cell_walk::counts(alloc, &self.links)
+        cell_walk::counts(alloc, self.links())
     }
 }

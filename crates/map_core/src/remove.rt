@@ -32,7 +32,7 @@ impl<'h, H: Hook, const DIM: usize> Map<'h, Alpha, H, DIM> {
         let Some(dart) = self.live_dart(dart) else {
             return Err(Refused::Line(Refusal::NoDart));
         };
-        let edit = remove_plan(alloc, &self.links, dim, dart)?;
+        let edit = remove_plan(alloc, self.links(), dim, dart)?;
         self.relink(alloc, &edit)?;
         Ok(Done::NONE)
     }
@@ -57,7 +57,7 @@ impl<'h, H: Hook, const DIM: usize> Map<'h, Alpha, H, DIM> {
         let Some(dart) = self.live_dart(dart) else {
             return Err(Refused::Line(Refusal::NoDart));
         };
-        let edit = contract_plan(alloc, &self.links, dim, dart)?;
+        let edit = contract_plan(alloc, self.links(), dim, dart)?;
         self.relink(alloc, &edit)?;
         Ok(Done::NONE)
     }
@@ -76,7 +76,7 @@ impl<'h, H: Hook, const DIM: usize> Map<'h, Alpha, H, DIM> {
         let Some(dart) = self.live_dart(dart) else {
             return Err(Refused::Line(Refusal::NoDart));
         };
-        Ok(removable(alloc, &self.links, dim, dart)?)
+        Ok(removable(alloc, self.links(), dim, dart)?)
     }
 
     /// Whether a dart's cell of a dimension can be contracted: whether `contract` would not be refused as
@@ -93,6 +93,6 @@ impl<'h, H: Hook, const DIM: usize> Map<'h, Alpha, H, DIM> {
         let Some(dart) = self.live_dart(dart) else {
             return Err(Refused::Line(Refusal::NoDart));
         };
-        Ok(contractible(alloc, &self.links, dim, dart)?)
+        Ok(contractible(alloc, self.links(), dim, dart)?)
     }
 }

@@ -26,7 +26,7 @@ impl<'h, K: Kind, H: Hook, const DIM: usize> Map<'h, K, H, DIM> {
         ensures hook { self.new.hook ≡ self.old.hook }
         ensures does { Does (H.meaning self.old.hook) self.old.state (Sew link dart other) result self.new.state }
     {
-        let Some(link) = sewing_link(&self.links, link) else {
+        let Some(link) = sewing_link(self.links(), link) else {
             return Err(Refused::Line(Refusal::BadDim));
         };
         let Some(dart) = self.live_dart(dart) else {
@@ -35,7 +35,7 @@ impl<'h, K: Kind, H: Hook, const DIM: usize> Map<'h, K, H, DIM> {
         let Some(other) = self.live_dart(other) else {
             return Err(Refused::Line(Refusal::NoDart));
         };
-        let edit = sew_plan(alloc, &self.links, link, dart, other)?;
+        let edit = sew_plan(alloc, self.links(), link, dart, other)?;
         self.relink(alloc, &edit)?;
         Ok(Done::NONE)
     }
@@ -52,13 +52,13 @@ impl<'h, K: Kind, H: Hook, const DIM: usize> Map<'h, K, H, DIM> {
         ensures hook { self.new.hook ≡ self.old.hook }
         ensures does { Does (H.meaning self.old.hook) self.old.state (Unsew link dart) result self.new.state }
     {
-        let Some(link) = sewing_link(&self.links, link) else {
+        let Some(link) = sewing_link(self.links(), link) else {
             return Err(Refused::Line(Refusal::BadDim));
         };
         let Some(dart) = self.live_dart(dart) else {
             return Err(Refused::Line(Refusal::NoDart));
         };
-        let edit = unsew_plan(alloc, &self.links, link, dart)?;
+        let edit = unsew_plan(alloc, self.links(), link, dart)?;
         self.relink(alloc, &edit)?;
         Ok(Done::NONE)
     }
@@ -71,7 +71,7 @@ impl<'h, K: Kind, H: Hook, const DIM: usize> Map<'h, K, H, DIM> {
     pub fn sewable(&self, alloc: Global, link: u64, dart: u64, other: u64) -> Result<bool, Refused>
         ensures { AnswersQuestion (H.meaning self.now.hook) self.now.state (Sewable link dart other) Truth result }
     {
-        let Some(link) = sewing_link(&self.links, link) else {
+        let Some(link) = sewing_link(self.links(), link) else {
             return Err(Refused::Line(Refusal::BadDim));
         };
         let Some(dart) = self.live_dart(dart) else {
@@ -80,7 +80,7 @@ impl<'h, K: Kind, H: Hook, const DIM: usize> Map<'h, K, H, DIM> {
         let Some(other) = self.live_dart(other) else {
             return Err(Refused::Line(Refusal::NoDart));
         };
-        Ok(sewable(alloc, &self.links, link, dart, other)?)
+        Ok(sewable(alloc, self.links(), link, dart, other)?)
     }
 }
 

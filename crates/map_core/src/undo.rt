@@ -4,10 +4,10 @@ ghost use Rattle.machine_defs.specs.Script.{Undo};
 ghost use Rattle.map_core.specs.Calls.{Does};
 
 use crate::map::{Done, Map};
+use crate::note::see_order;
 use attr_rules::Hook;
 use map_kind::{Kind, Refused};
 use std::alloc::Global;
-use valued_map::take_back;
 
 impl<'h, K: Kind, H: Hook, const DIM: usize> Map<'h, K, H, DIM> {
     /// Goes back to the mark of this name: links, numbers of darts, values and rules are as they stood when it was set. The
@@ -19,18 +19,9 @@ impl<'h, K: Kind, H: Hook, const DIM: usize> Map<'h, K, H, DIM> {
         ensures hook { self.new.hook ≡ self.old.hook }
         ensures does { Does (H.meaning self.old.hook) self.old.state (Undo name.now) result self.new.state }
     {
-        // Marks and steps are in order, and darts that ended have room to live again.
-        let _ = self.journal.mark_count();
-        let _ = self.links.live_count();
+        see_order(&self.journal);
         match self.journal.entries_since(name) {
-            Ok(steps) => take_back(
-                alloc,
-                &mut self.links,
-                &mut self.labels,
-                &mut self.pool,
-                &mut self.rules,
-                steps,
-            )?,
+            Ok(steps) => self.present.take_back(alloc, steps)?,
             Err(refusal) => return Err(Refused::Line(refusal)),
         }
         match self.journal.back_to(name) {

@@ -1,5 +1,5 @@
 //! The lines that set rules and values.
-ghost use Rattle.std.specs.Prelude.{◌≡◌, ◌≤◌, ◌<◌, Some, None, IsSome, OnOk, OnErr};
+ghost use Rattle.std.specs.Prelude.{◌≡◌, ◌≤◌, IsSome, OnOk, OnErr};
 ghost use Rattle.map_defs.specs.Rows.{IsLive};
 ghost use Rattle.machine_defs.specs.State.{Content, steps_to, rule_at};
 ghost use Rattle.machine_defs.specs.Valuing.{IsValued};
@@ -9,11 +9,10 @@ ghost use Rattle.machine_defs.specs.Text.{CellValue};
 ghost use Rattle.map_core.specs.Calls.{Does, AnswersAtOnce};
 
 use crate::map::{Done, Map};
-use crate::note::{cell_values, keep, new_values, no_edit, reserve_step, rule_changes};
+use crate::note::{begin, finish};
 use attr_rules::{Hook, TableRule, merge_named, split_named};
 use map_kind::{Dart, Kind, Refusal, Refused, Value};
 use std::alloc::{AllocError, Global};
-use valued_map::{drop_value, has_rule, make_places, put_rule, put_value, stored_value};
 
 impl<'h, K: Kind, H: Hook, const DIM: usize> Map<'h, K, H, DIM> {
     /// Gives a dimension a rule, by the names of its merge and its split, in place of the one that it had. The values
@@ -59,10 +58,10 @@ impl<'h, K: Kind, H: Hook, const DIM: usize> Map<'h, K, H, DIM> {
         let Some(dart) = self.live_dart(dart) else {
             return Err(Refused::Line(Refusal::NoDart));
         };
-        if !has_rule(&self.rules, dim) {
+        if self.present.rule(dim).is_none() {
             return Err(Refused::Line(Refusal::NoRule));
         }
-        self.set_value(alloc, dim, dart, value)?;
+        self.set_value(alloc, dim, dart, Some(value))?;
         Ok(Done::NONE)
     }
 
@@ -81,10 +80,10 @@ impl<'h, K: Kind, H: Hook, const DIM: usize> Map<'h, K, H, DIM> {
         let Some(dart) = self.live_dart(dart) else {
             return Err(Refused::Line(Refusal::NoDart));
         };
-        if !has_rule(&self.rules, dim) {
+        if self.present.rule(dim).is_none() {
             return Err(Refused::Line(Refusal::NoRule));
         }
-        self.clear_value(alloc, dim, dart)?;
+        self.set_value(alloc, dim, dart, None)?;
         Ok(Done::NONE)
     }
 
@@ -101,7 +100,7 @@ impl<'h, K: Kind, H: Hook, const DIM: usize> Map<'h, K, H, DIM> {
         let Some(dart) = self.live_dart(dart) else {
             return Err(Refusal::NoDart);
         };
-        Ok(stored_value(&self.labels, &self.pool, dim, dart))
+        Ok(self.present.value(dim, dart))
     }
 
     /// Gives a dimension a rule. All memory is taken before anything changes.
@@ -111,108 +110,31 @@ impl<'h, K: Kind, H: Hook, const DIM: usize> Map<'h, K, H, DIM> {
         ensures set { OnOk result (self.new.state ≡ steps_to self.old.state (with_rule self.old.state.present dim rule)) }
         ensures err { OnErr result (self.new ≡ self.old) }
     {
-        let dimension = self.links.dimension();
-        let made = self.links.made();
-        reserve_step(&mut self.journal)?;
-        let changes = rule_changes(alloc, &self.journal, &self.rules, dim, rule)?;
-        self.labels.open(dim)?;
-        make_places(alloc, &mut self.rules, dimension + 1)?;
-        put_rule(&mut self.rules, dim, rule);
-        keep(
-            &mut self.journal,
-            made,
-            no_edit(alloc),
-            Vec::new(alloc),
-            changes,
-        );
+        let noting = begin(&mut self.journal)?;
+        let step = self.present.set_rule(alloc, dim, rule, noting)?;
+        finish(&mut self.journal, step);
         Ok(())
     }
 
-    /// Gives the cell of a live dart a value.
+    /// Gives the cell of a live dart a value, or takes its value away.
     fn set_value(
         &mut self,
         alloc: Global,
         dim: usize,
         dart: Dart,
-        value: Value,
+        value: Option<Value>,
     ) -> Result<(), AllocError>
         requires dim { dim ≤ DIM }
         requires live { IsLive self.old.state.present.rows dart }
         requires ruled { IsSome (rule_at self.old.state.present dim) }
         ensures hook { self.new.hook ≡ self.old.hook }
-        ensures set { OnOk result ((next : Content) × IsValued self.old.state.present dim dart (Some value) next
+        ensures set { OnOk result ((next : Content) × IsValued self.old.state.present dim dart value next
             × (self.new.state ≡ steps_to self.old.state next)) }
         ensures err { OnErr result (self.new ≡ self.old) }
     {
-        reserve_step(&mut self.journal)?;
-        let made = self.links.made();
-        let olds = cell_values(
-            alloc,
-            &self.journal,
-            &self.links,
-            &self.labels,
-            &self.pool,
-            dim,
-            dart,
-        )?;
-        put_value(
-            alloc,
-            &self.links,
-            &mut self.labels,
-            &mut self.pool,
-            &self.rules,
-            dim,
-            dart,
-            value,
-        )?;
-        let values = new_values(&self.labels, &self.pool, olds);
-        keep(
-            &mut self.journal,
-            made,
-            no_edit(alloc),
-            values,
-            Vec::new(alloc),
-        );
-        Ok(())
-    }
-
-    /// Takes the value of the cell of a live dart away.
-    fn clear_value(&mut self, alloc: Global, dim: usize, dart: Dart) -> Result<(), AllocError>
-        requires dim { dim ≤ DIM }
-        requires live { IsLive self.old.state.present.rows dart }
-        ensures hook { self.new.hook ≡ self.old.hook }
-        ensures cleared { OnOk result ((next : Content) × IsValued self.old.state.present dim dart None next
-            × (self.new.state ≡ steps_to self.old.state next)) }
-        ensures err { OnErr result (self.new ≡ self.old) }
-    {
-        reserve_step(&mut self.journal)?;
-        let made = self.links.made();
-        let olds = cell_values(
-            alloc,
-            &self.journal,
-            &self.links,
-            &self.labels,
-            &self.pool,
-            dim,
-            dart,
-        )?;
-        drop_value(
-            alloc,
-            &self.links,
-            &mut self.labels,
-            &mut self.pool,
-            &self.rules,
-            dim,
-            dart,
-        )?;
-        let values = new_values(&self.labels, &self.pool, olds);
-        keep(
-            &mut self.journal,
-            made,
-            no_edit(alloc),
-            values,
-            Vec::new(alloc),
-        );
+        let noting = begin(&mut self.journal)?;
+        let step = self.present.set_value(alloc, dim, dart, value, noting)?;
+        finish(&mut self.journal, step);
         Ok(())
     }
 }

@@ -12,3 +12,13 @@ pub mod RestoredGroups
 pub mod RulesBack
 pub mod TakenBack
 pub mod Roomed
+pub mod Parts
+pub mod SortedEdit
+pub mod ListedValues
+pub mod GroupedDarts
+pub mod Retained
+pub mod Edited
+pub mod Revalued
+pub mod Dualled
+pub mod Loaded
+pub mod KindNames

@@ -1,3 +1,5 @@
 pub mod Changing
 pub mod Placed
 pub mod Undoing
+pub mod Made
+pub mod Told

@@ -8,8 +8,8 @@ ghost use Rattle.store_defs.specs.Groups.{group_at, HasCarriedValue};
 ghost use Rattle.label_laws.specs.Maps.{IsStoredMap};
 ghost use Rattle.label_laws.specs.Touching.{AreAllTouched};
 
+use crate::rules::has_places;
 use crate::touched::touched_darts;
-use crate::value::has_places;
 use attr_pool::{Labels, Pool};
 use attr_rules::Hook;
 use link_rows::{Edit, Links};
@@ -19,7 +19,7 @@ use transport::{Group, RuleRow, carry};
 
 /// The cells whose darts the edit touched, with the values that are carried to them, and room in the pool for these
 /// values. Where no dimension has a rule there are none, and nothing is looked at.
-pub fn carried<K: Kind, H: Hook, const DIM: usize>(
+pub(crate) fn carried<K: Kind, H: Hook, const DIM: usize>(
     alloc: Global,
     links: &Links<K, DIM>,
     labels: &Labels<DIM>,

@@ -14,7 +14,7 @@ use transport::Group;
 
 /// Gives the darts of each group an id of their own for its value, in place of the ids that they had, and takes the ids
 /// of the darts that ended away. It takes no memory: room was made.
-pub fn relabel<const DIM: usize>(
+pub(crate) fn relabel<const DIM: usize>(
     labels: &mut Labels<DIM>,
     pool: &mut Pool,
     ended: &[Dart],
@@ -54,7 +54,7 @@ fn give_groups<const DIM: usize>(labels: &mut Labels<DIM>, pool: &mut Pool, grou
 }
 
 /// Gives the darts of each 0-cell an id for the value of its place.
-pub fn give_cells<const DIM: usize>(
+pub(crate) fn give_cells<const DIM: usize>(
     labels: &mut Labels<DIM>,
     pool: &mut Pool,
     places: &[Place],
@@ -71,7 +71,7 @@ pub fn give_cells<const DIM: usize>(
 }
 
 /// Takes the ids of darts away, in all dimensions.
-pub fn end_ids<const DIM: usize>(labels: &mut Labels<DIM>, pool: &mut Pool, darts: &[Dart])
+pub(crate) fn end_ids<const DIM: usize>(labels: &mut Labels<DIM>, pool: &mut Pool, darts: &[Dart])
     requires high { DIM ≤ 8 }
     requires darts { (d : ℕ) → Contains darts.now d → d ≤ labels.old.made }
     ensures { AreTaken (λ i d. (i < DIM + 1) × Contains darts.now d) labels.old labels.new pool.old pool.new }
@@ -164,7 +164,7 @@ fn put_id<const DIM: usize>(labels: &mut Labels<DIM>, dim: usize, darts: &[Dart]
 }
 
 /// The value of the cell of a dart, by its id.
-pub fn stored_value<const DIM: usize>(
+pub(crate) fn stored_value<const DIM: usize>(
     labels: &Labels<DIM>,
     pool: &Pool,
     dim: usize,

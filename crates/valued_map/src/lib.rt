@@ -1,21 +1,21 @@
-//! The links of a map with the values of its cells, and what changes both together.
+//! The links of a map with the values of its cells and the rules by which these are carried, and all that changes them
+//! together.
 //!
-//! Nothing is known here of the lines of a script, nor of marks.
+//! Nothing is known here of the lines of a script, nor of marks. A change answers what it changed where it is asked for, as
+//! the step that a log shows, and steps can be taken back.
 #![tactic(auto)]
 
 mod carrying;
+mod change;
+mod dual;
 mod ids;
 mod list;
 mod load;
+mod map;
 mod restore;
+mod rules;
+mod told;
 mod touched;
-mod turn;
 mod value;
 
-pub use carrying::carried;
-pub use ids::{end_ids, give_cells, relabel, stored_value};
-pub use list::{list_rows, list_values};
-pub use load::prepare;
-pub use restore::take_back;
-pub use turn::{turn_labels, turn_rules};
-pub use value::{drop_value, has_rule, make_places, put_rule, put_value};
+pub use map::ValuedMap;

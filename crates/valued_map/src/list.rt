@@ -9,7 +9,7 @@ ghost use Rattle.label_laws.specs.Stored.{stored_value};
 ghost use Rattle.label_laws.specs.Lists.{AreListed, IsNamed, listed};
 
 use crate::ids::stored_value;
-use crate::value::has_rule;
+use crate::rules::has_rule;
 use attr_pool::{Labels, Pool};
 use link_rows::Links;
 use list_text::{ListRow, ListValue};
@@ -18,7 +18,7 @@ use std::alloc::{AllocError, Global};
 use transport::RuleRow;
 
 /// The rows of the live darts, ascending.
-pub fn list_rows<K: Kind, const DIM: usize>(
+pub(crate) fn list_rows<K: Kind, const DIM: usize>(
     alloc: Global,
     links: &Links<K, DIM>,
 ) -> Result<Vec<ListRow>, AllocError>
@@ -59,24 +59,13 @@ fn entries<K: Kind, const DIM: usize>(
 {
     let mut entries = Vec::new(alloc);
     for link in 0..links.dimension() + 1 {
-        entries.push(entry(links, dart, link))?;
+        entries.push(links.number_at(dart, link))?;
     }
     Ok(entries)
 }
 
-/// The number of the dart at a link of a dart, 0 where the link is free.
-fn entry<K: Kind, const DIM: usize>(links: &Links<K, DIM>, dart: Dart, link: usize) -> u32
-    requires { link ≤ DIM }
-    ensures { result ≡ links_of links.now.rows link dart }
-{
-    match links.link(dart, link) {
-        Some(other) => other.number(),
-        None => 0,
-    }
-}
-
 /// The cells with a value, each by its least dart, ascending by dimension, then by dart.
-pub fn list_values<K: Kind, const DIM: usize>(
+pub(crate) fn list_values<K: Kind, const DIM: usize>(
     alloc: Global,
     links: &Links<K, DIM>,
     labels: &Labels<DIM>,

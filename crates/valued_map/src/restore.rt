@@ -20,8 +20,9 @@ ghost use Rattle.valued_map.specs.Undoing.{AreStepsTo, AreEditsTo, HasRoomFor, r
 
 use crate::carrying::make_room;
 use crate::ids::{relabel, stored_value, take_id};
+use crate::map::ValuedMap;
+use crate::rules::{has_places, has_rule, make_places};
 use crate::touched::{add_at_change, add_live};
-use crate::value::{has_places, has_rule, make_places};
 use attr_pool::{Labels, Pool};
 use link_rows::{Change, Edit, Links};
 use map_kind::{Dart, Kind, Value};
@@ -30,10 +31,37 @@ use std::collections::BTreeMap;
 use transport::{Group, RuleRow, touched_cells};
 use undo_journal::{RuleChange, Step, ValueChange};
 
+impl<K: Kind, const DIM: usize> ValuedMap<K, DIM> {
+    /// Takes steps back that led to the map, the last first. All memory is taken before a value changes. It costs the cells
+    /// that the steps touched times a logarithm, whatever the size of the map.
+    pub fn take_back(&mut self, alloc: Global, steps: &[Step]) -> Result<(), AllocError>
+        requires steps { AreStepsTo self.old steps.now }
+        ensures back { OnOk result (self.new ≡ all_taken_back steps.now self.old) }
+        ensures err { OnErr result (self.new ≡ self.old) }
+    {
+        see_room_for_the_dead(&self.links);
+        take_back(
+            alloc,
+            &mut self.links,
+            &mut self.labels,
+            &mut self.pool,
+            &mut self.rules,
+            steps,
+        )
+    }
+}
+
+/// Darts that ended have room to live again: there is room for all that were made.
+fn see_room_for_the_dead<K: Kind, const DIM: usize>(links: &Links<K, DIM>)
+    ensures { made links.now.rows ≤ live_count links.now.rows + links.now.room }
+{
+    let _ = links.live_count();
+}
+
 /// Takes steps back, the last first, so that the parts are those of the map before the steps. All memory is taken before
 /// an id changes; where it is wanting, the links are put forward again. It costs the cells that the steps touched times a
 /// logarithm, whatever the size of the map.
-pub fn take_back<K: Kind, const DIM: usize>(
+fn take_back<K: Kind, const DIM: usize>(
     alloc: Global,
     links: &mut Links<K, DIM>,
     labels: &mut Labels<DIM>,

@@ -1,114 +1,110 @@
-//! The value of one cell, and the rule of one dimension.
-ghost use Rattle.std.specs.Prelude.{◌≡◌, ◌==◌, ◌≤◌, ◌<◌, ◌↔◌, cond, length, replicate, slice_set, Some, None, IsSome, IsTrue, OnOk, OnErr};
+//! The value of one cell.
+ghost use Rattle.std.specs.Prelude.{◌≡◌, ◌≤◌, Some, None, IsSome, IfOk, OnOk, OnErr};
 ghost use Rattle.map_defs.specs.Rows.{IsLive};
+ghost use Rattle.machine_defs.specs.State.{rule_at};
 ghost use Rattle.machine_defs.specs.Valuing.{IsValued};
-ghost use Rattle.store_defs.specs.Groups.{rule_at as rule_of};
-ghost use Rattle.label_laws.specs.Contents.{content_of};
-ghost use Rattle.label_laws.specs.Maps.{IsStoredMap};
+ghost use Rattle.valued_map.specs.Told.{IsStep};
 
 use crate::carrying::make_room;
 use crate::ids::{give_id, take_ids};
-use attr_pool::{Labels, Pool};
-use attr_rules::TableRule;
+use crate::map::ValuedMap;
+use crate::told::{begin_step, cell_values, finish_step, new_values, no_edit};
 use cell_walk::cell;
-use link_rows::Links;
 use map_kind::{Dart, Kind, Value};
 use std::alloc::{AllocError, Global};
-use transport::RuleRow;
+use undo_journal::Step;
 
-/// Lets the darts of the cell of a live dart have an id for this value. Where the cell has an id, it takes no memory;
-/// else all memory is taken before anything changes.
-pub fn put_value<K: Kind, const DIM: usize>(
-    alloc: Global,
-    links: &Links<K, DIM>,
-    labels: &mut Labels<DIM>,
-    pool: &mut Pool,
-    rules: &RuleRow,
-    dim: usize,
-    dart: Dart,
-    value: Value,
-) -> Result<(), AllocError>
-    requires dim { dim ≤ DIM }
-    requires live { IsLive links.now.rows dart }
-    requires ruled { IsSome (rule_of rules.now dim) }
-    requires stored { IsStoredMap K.kind DIM links.now.rows labels.old pool.old rules.now }
-    ensures stored { IsStoredMap K.kind DIM links.now.rows labels.new pool.new rules.now }
-    ensures valued { OnOk result (IsValued (content_of K.kind DIM links.now.rows labels.old pool.old rules.now) dim dart (Some value)
-        (content_of K.kind DIM links.now.rows labels.new pool.new rules.now)) }
-    ensures err { OnErr result (content_of K.kind DIM links.now.rows labels.new pool.new rules.now
-        ≡ content_of K.kind DIM links.now.rows labels.old pool.old rules.now) }
-{
-    let _ = rules;
-    if let Some(id) = labels.id(dim, dart) {
-        pool.replace(id, value);
-        return Ok(());
+impl<K: Kind, const DIM: usize> ValuedMap<K, DIM> {
+    /// Gives the cell of a live dart a value in place of the one that it had, or takes its value away. The step is answered
+    /// where it is asked for. Where it is not, it takes no memory to give a value to a cell that has one, nor to take the
+    /// value of a cell that has none.
+    pub fn set_value(
+        &mut self,
+        alloc: Global,
+        dim: usize,
+        dart: Dart,
+        value: Option<Value>,
+        asked: bool,
+    ) -> Result<Option<Step>, AllocError>
+        requires dim { dim ≤ DIM }
+        requires live { IsLive self.old.rows dart }
+        requires ruled { IsSome (rule_at self.old dim) }
+        ensures valued { OnOk result (IsValued self.old dim dart value self.new) }
+        ensures step { IfOk result (λ step. IsStep asked self.old self.new step) }
+        ensures err { OnErr result (self.new ≡ self.old) }
+    {
+        let draft = begin_step(alloc, self.links.made(), &no_edit(alloc), asked)?;
+        let olds = cell_values(
+            alloc,
+            &self.links,
+            &self.labels,
+            &self.pool,
+            dim,
+            dart,
+            asked,
+        )?;
+        self.put_value(alloc, dim, dart, value)?;
+        let values = new_values(&self.labels, &self.pool, olds);
+        Ok(finish_step(draft, values, Vec::new(alloc)))
     }
-    let darts = cell(alloc, links, dim, dart)?;
-    make_room(pool, 1)?;
-    give_id(labels, pool, dim, &darts, value);
-    Ok(())
-}
 
-/// Takes the ids of the darts of the cell of a live dart away.
-pub fn drop_value<K: Kind, const DIM: usize>(
-    alloc: Global,
-    links: &Links<K, DIM>,
-    labels: &mut Labels<DIM>,
-    pool: &mut Pool,
-    rules: &RuleRow,
-    dim: usize,
-    dart: Dart,
-) -> Result<(), AllocError>
-    requires dim { dim ≤ DIM }
-    requires live { IsLive links.now.rows dart }
-    requires stored { IsStoredMap K.kind DIM links.now.rows labels.old pool.old rules.now }
-    ensures stored { IsStoredMap K.kind DIM links.now.rows labels.new pool.new rules.now }
-    ensures valued { OnOk result (IsValued (content_of K.kind DIM links.now.rows labels.old pool.old rules.now) dim dart None
-        (content_of K.kind DIM links.now.rows labels.new pool.new rules.now)) }
-    ensures err { OnErr result (content_of K.kind DIM links.now.rows labels.new pool.new rules.now
-        ≡ content_of K.kind DIM links.now.rows labels.old pool.old rules.now) }
-{
-    let _ = rules;
-    if labels.id(dim, dart).is_none() {
-        return Ok(());
+    /// Lets the darts of the cell of a live dart have an id for this value, or none. All memory is taken before anything
+    /// changes.
+    fn put_value(
+        &mut self,
+        alloc: Global,
+        dim: usize,
+        dart: Dart,
+        value: Option<Value>,
+    ) -> Result<(), AllocError>
+        requires dim { dim ≤ DIM }
+        requires live { IsLive self.old.rows dart }
+        requires ruled { IsSome (rule_at self.old dim) }
+        ensures valued { OnOk result (IsValued self.old dim dart value self.new) }
+        ensures err { OnErr result (self.new ≡ self.old) }
+    {
+        match value {
+            Some(value) => self.give_value(alloc, dim, dart, value),
+            None => self.drop_value(alloc, dim, dart),
+        }
     }
-    let darts = cell(alloc, links, dim, dart)?;
-    take_ids(labels, pool, dim, &darts);
-    Ok(())
-}
 
-/// Whether a dimension has a rule.
-pub fn has_rule(rules: &RuleRow, dim: usize) -> bool
-    ensures { IsTrue result ↔ IsSome (rule_of rules.now dim) }
-{
-    match rules.rules.get(dim) {
-        Some(rule) => rule.is_some(),
-        None => false,
+    /// Lets the darts of the cell of a live dart have an id for this value. Where the cell has an id, it takes no memory.
+    fn give_value(
+        &mut self,
+        alloc: Global,
+        dim: usize,
+        dart: Dart,
+        value: Value,
+    ) -> Result<(), AllocError>
+        requires dim { dim ≤ DIM }
+        requires live { IsLive self.old.rows dart }
+        requires ruled { IsSome (rule_at self.old dim) }
+        ensures valued { OnOk result (IsValued self.old dim dart (Some value) self.new) }
+        ensures err { OnErr result (self.new ≡ self.old) }
+    {
+        if let Some(id) = self.labels.id(dim, dart) {
+            self.pool.replace(id, value);
+            return Ok(());
+        }
+        let darts = cell(alloc, &self.links, dim, dart)?;
+        make_room(&mut self.pool, 1)?;
+        give_id(&mut self.labels, &mut self.pool, dim, &darts, value);
+        Ok(())
     }
-}
 
-/// Whether there are places for rules.
-pub(crate) fn has_places(rules: &RuleRow) -> bool
-    ensures { IsTrue result ↔ (0 < length rules.now) }
-{
-    !rules.rules.is_empty()
-}
-
-/// Gives a dimension a rule.
-pub fn put_rule(rules: &mut RuleRow, dim: usize, rule: TableRule)
-    requires { dim < length rules.old }
-    ensures { rules.new ≡ slice_set rules.old dim (Some rule) }
-{
-    rules.rules[dim] = Some(rule);
-}
-
-/// Makes a place for the rule of each dimension, if there are none.
-pub fn make_places(alloc: Global, rules: &mut RuleRow, places: usize) -> Result<(), AllocError>
-    ensures made { OnOk result (rules.new ≡ cond (length rules.old == 0) (replicate places None) rules.old) }
-    ensures err { OnErr result (rules.new ≡ rules.old) }
-{
-    if rules.rules.is_empty() {
-        rules.rules = vec![in alloc; None; places]?;
+    /// Takes the ids of the darts of the cell of a live dart away, if they have some.
+    fn drop_value(&mut self, alloc: Global, dim: usize, dart: Dart) -> Result<(), AllocError>
+        requires dim { dim ≤ DIM }
+        requires live { IsLive self.old.rows dart }
+        ensures valued { OnOk result (IsValued self.old dim dart None self.new) }
+        ensures err { OnErr result (self.new ≡ self.old) }
+    {
+        if self.labels.id(dim, dart).is_none() {
+            return Ok(());
+        }
+        let darts = cell(alloc, &self.links, dim, dart)?;
+        take_ids(&mut self.labels, &mut self.pool, dim, &darts);
+        Ok(())
     }
-    Ok(())
 }

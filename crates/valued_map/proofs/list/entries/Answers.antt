@@ -7,4 +7,4 @@ pub loop-link-preserved : goal.loop-link-preserved
 loop-link-preserved g c =
     let entry : ℕ → ℕ = λ i. links_of c.args.links.now.rows i c.args.dart in
     let more = map-range_with_len_more entry 0 c.loop-link.link c.loop-link.link (omega arith) in
-    rw (c.in_ok-push.ensures.items, c.loop-link.invariant, c.entry.ensures) (sym more)
+    rw (c.in_ok-push.ensures.items, c.loop-link.invariant, c.number_at.ensures) (sym more)

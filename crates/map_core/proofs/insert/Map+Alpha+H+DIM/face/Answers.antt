@@ -4,7 +4,6 @@ use Rattle.map_kind.specs.declared.refusal.Refused.{Refused}
 use Rattle.map_defs.specs.Kind.{Kind, alpha}
 use Rattle.map_defs.specs.Rows.{Rows}
 use Rattle.machine_defs.specs.Script.{Face}
-use Rattle.label_laws.specs.Contents.{content_of}
 use Rattle.map_core.specs.declared.map.Done.{Done}
 use Rattle.map_core.specs.Calls.{Does}
 use Rattle.map_core.proofs.Planned.{PlansFace, planned, face-plan-refused}
@@ -15,8 +14,7 @@ pub returns-in_err-edit-clause-does : goal.returns-in_err-edit-clause-does
 returns-in_err-edit-clause-does g c =
     let k : Kind = alpha in
     let n : ℕ = g.row.DIM in
-    let rows : Rows = c.self.inside.links.rows in
-    let view : content_of k n rows c.self.inside.labels c.self.inside.pool c.self.inside.rules ≡ c.args.self.now.state.present = rw (← c.self.view_is) refl in
+    let rows : Rows = c.links-2.result.now.rows in
     let darts = c.in_ok-darts.ensures in
     let path : c.deref.result.now ≡ c.args.path.now = c.deref.ensures.value ∙ darts.0 in
     let high : n < 3 → ⊥ = λ low. (let above = c.if-dimension-lt3.false in omega (arith, above, c.dimension.ensures.dimension)) in
@@ -26,20 +24,19 @@ returns-in_err-edit-clause-does g c =
     (λ is. c.in_err-edit.ensures.unpaired (ap Err is)) c.in_err-edit.ensures.refusals) in
     let p = err_from_is_err_and c.from_residual-in_err-edit.result c.from_residual-in_err-edit.ensures.1 in
     subst (λ (r : Result Done Refused). Does (g.H.Rule.meaning c.args.self.now.hook) c.args.self.now.state (Face c.args.path.now) r c.args.self.now.state) (sym (p.1 ∙ ap Err p.2))
-    (face-refused k n rows c.self.inside.labels c.self.inside.pool c.self.inside.rules (g.H.Rule.meaning c.args.self.now.hook) c.args.self.now.state view c.self.invariant.stored.sound c.self.invariant.stored.begun
+    (face-refused k n rows (g.H.Rule.meaning c.args.self.now.hook) c.args.self.now.state c.links-2.ensures.kind c.links-2.ensures.dim c.links-2.ensures.rows c.links-2.ensures.kept
     c.args.path.now high darts.1 c.in_err-edit.field-0.0 plan)
 
 pub returns-clause-does : goal.returns-clause-does
 returns-clause-does g c =
     let k : Kind = alpha in
     let n : ℕ = g.row.DIM in
-    let rows : Rows = c.self.inside.links.rows in
-    let view : content_of k n rows c.self.inside.labels c.self.inside.pool c.self.inside.rules ≡ c.args.self.now.state.present = rw (← c.self.view_is) refl in
+    let rows : Rows = c.links-2.result.now.rows in
     let darts = c.in_ok-darts.ensures in
     let path : c.deref.result.now ≡ c.args.path.now = c.deref.ensures.value ∙ darts.0 in
     let high : n < 3 → ⊥ = λ low. (let above = c.if-dimension-lt3.false in omega (arith, above, c.dimension.ensures.dimension)) in
     let plan : PlansFace k n rows c.args.path.now (Ok c.in_ok-edit.edit) =
     subst (λ (ds : List ℕ). PlansFace k n rows ds (Ok c.in_ok-edit.edit)) path
     (c.in_ok-edit.ensures.one_volume, c.in_ok-edit.ensures.closed, c.in_ok-edit.ensures.paired, planned n rows _ _ c.in_ok-edit.edit c.in_ok-edit.ensures.inserts) in
-    face-does k n rows c.self.inside.labels c.self.inside.pool c.self.inside.rules (g.H.Rule.meaning c.args.self.now.hook) c.args.self.now.state view c.self.invariant.stored.sound c.self.invariant.stored.begun
+    face-does k n rows (g.H.Rule.meaning c.args.self.now.hook) c.args.self.now.state c.links-2.ensures.kind c.links-2.ensures.dim c.links-2.ensures.rows c.links-2.ensures.kept
     c.args.path.now high darts.1 c.in_ok-edit.edit plan c.insert.result c.insert.new.self.state c.insert.ensures.grows

@@ -1,20 +1,8 @@
-use Rattle.std.proofs.Common.{ℕ, refl, ap}
-use Rattle.map_defs.specs.Kind.{Kind}
-use Rattle.map_defs.specs.Rows.{Rows, made}
-use Rattle.machine_defs.specs.Listing.{live_rows_from}
+use Rattle.std.proofs.Common.{refl, ap}
+use Rattle.std.proofs.lemmas.Result.{IfOk-weaker}
 use Rattle.machine_defs.specs.Text.{Shown}
-use Rattle.label_laws.proofs.ListedValues.{lists-values}
-use Rattle.map_core.proofs.KindNames.{letter-names}
 use Rattle.map_core.proofs.map.Map.listing.Goals as goal
 
 pub returns : goal.returns
 returns g c =
-    let rows : Rows = c.self.inside.links.rows in
-    let n : ℕ = g.row.DIM in
-    let values = c.in_ok-list_values.field-0.items in
-    rw (← c.self.view_is, c.letter.ensures, c.dimension.ensures.dimension, c.made.ensures.made, c.in_ok-list_rows.ensures) (
-      values,
-      lists-values g.K.Kind.kind n rows c.self.inside.labels c.self.inside.pool c.self.inside.rules c.self.invariant.stored values c.in_ok-list_values.ensures,
-      ap (λ (k : Kind). Shown (record { kind = k; dim = n; made = made rows; rows = live_rows_from 0 rows; values = values })) (letter-names g.K.Kind.kind),
-      refl,
-    )
+    rw (← c.self.view_is) (IfOk-weaker c.listing.result _ _ (λ listing told. (told.0, told.1, ap Shown told.2, refl)) c.listing.ensures)

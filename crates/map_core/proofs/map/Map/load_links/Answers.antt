@@ -1,96 +1,17 @@
-use Rattle.std.proofs.Common.{◌≡◌, ℕ, ◌≤◌, List, slice_set, Option, Some, refl, sym, ap, ◌∙◌, lit<, arith}
-use Rattle.std.proofs.lemmas.List.{length-map}
+use Rattle.std.proofs.Common.{ap, sym, subst, ◌∙◌, lit<}
 use Rattle.std.proofs.lemmas.Result.{err_from_is_err_and}
-use Rattle.map_defs.specs.Rows.{Rows, made as made_of}
-use Rattle.map_defs.specs.Values.{Rule}
 use Rattle.machine_defs.specs.State.{State}
-use Rattle.machine_defs.specs.Loading.{first_copy}
-use Rattle.cell_walk.specs.CellLists.{items_of, lists_of}
-use Rattle.label_laws.specs.Contents.{content_of}
-use Rattle.trail_laws.specs.Told.{told}
-use Rattle.trail_laws.proofs.Noting.{told-begun}
-use Rattle.label_laws.proofs.Same.{content-alike}
-use Rattle.map_core.proofs.Journaled.{begun-journaled, journaled-shown, roomier-stored}
-use Rattle.label_laws.proofs.LineSteps.{made_rules}
-use Rattle.map_core.proofs.Loaded.{load-labelled, load-long, load-stored, load-made}
+use Rattle.trail_laws.specs.Trails.{Trail}
+use Rattle.trail_laws.specs.Told.{told, IsTraced}
+use Rattle.trail_laws.proofs.Noting.{told-begun, traced-begun}
 use Rattle.map_core.proofs.map.Map.load_links.Goals as goal
 
-pub returns-in_err-prepare-clause-err : goal.returns-in_err-prepare-clause-err
-returns-in_err-prepare-clause-err g c =
-    let k = g.K.Kind.kind in
-    let n : ℕ = g.row.DIM in
-    let rows : Rows = c.self.inside.links.rows in
-    let rules : List (Option Rule) = c.self.inside.rules in
-    let same = ap (λ x. told x c.self.inside.journal.trail) (ap (λ (rs : List (Option Rule)). content_of k n rows c.prepare.new.labels c.prepare.new.pool rs) c.in_err-prepare.ensures.err
-    ∙ content-alike k n rows c.self.inside.labels c.prepare.new.labels c.self.inside.pool c.prepare.new.pool rules c.prepare.ensures.ids c.prepare.ensures.slots) in
-    let error = err_from_is_err_and c.from_residual.result c.from_residual.ensures.1 in
-    rw (error.1, ← c.self.view_is) (ap (λ (s : State). record { state = s; hook = c.self.inside.hook.now }) same)
-
-pub invariant_of-self : goal.invariant_of-self
-invariant_of-self g c =
-    let k = g.K.Kind.kind in
-    let n : ℕ = g.row.DIM in
-    let rows : Rows = c.self.inside.links.rows in
-    let rules : List (Option Rule) = c.self.inside.rules in
-    let t = c.self.inside.journal.trail in
-    journaled-shown k n rows c.self.inside.labels c.prepare.new.labels c.self.inside.pool c.prepare.new.pool rules c.prepare.new.rules t t refl c.in_err-prepare.ensures.err
-    (content-alike k n rows c.self.inside.labels c.prepare.new.labels c.self.inside.pool c.prepare.new.pool rules c.prepare.ensures.ids c.prepare.ensures.slots)
-    (roomier-stored k n rows c.self.inside.labels c.prepare.new.labels c.self.inside.pool c.prepare.new.pool rules c.self.invariant.stored c.prepare.ensures.ids c.prepare.ensures.places_stay c.prepare.ensures.longer c.prepare.ensures.slots)
-    c.self.invariant
-
-pub give_cells-requires : goal.give_cells-requires
-give_cells-requires g c =
-    let k = g.K.Kind.kind in
-    let n : ℕ = g.row.DIM in
-    let rows : Rows = c.self.inside.links.rows in
-    let new : Rows = c.args.links.rows in
-    let made = c.made-made.ensures in
-    let empty = ap (λ (s : State). s.present) (rw (← c.self.view_is) at c.requires.new) in
-    let long : made_of new ≤ c.prepare.new.labels.made = omega (arith, c.in_ok-prepare.ensures.long, made.made) in (
-      lit< tt,
-      (
-        sym (length-map c.args.cells.now items_of) ∙ load-long k n rows c.self.inside.labels c.self.inside.pool c.self.inside.rules c.self.invariant.stored empty new made.begun made.sound c.requires.laws
-            c.prepare.new.labels c.prepare.new.pool c.prepare.ensures.ids long c.in_ok-prepare.ensures.places c.args.places.now c.requires.members c.requires.ascending (lists_of c.args.cells.now) c.requires.cells,
-        (
-          load-labelled k n rows c.self.inside.labels c.self.inside.pool c.self.inside.rules c.self.invariant.stored empty new made.begun made.sound c.requires.laws
-              c.prepare.new.labels c.prepare.new.pool c.prepare.ensures.ids long c.in_ok-prepare.ensures.places c.args.places.now c.requires.members c.requires.ascending (lists_of c.args.cells.now) c.requires.cells,
-          c.in_ok-prepare.ensures.values,
-        ),
-      ),
-    )
+pub load_links-requires : goal.load_links-requires
+load_links-requires g c = (lit< tt, (lit< tt, (ap (λ (s : State). s.present) (rw (← c.self.view_is) at c.requires.new), (c.requires.laws, (c.requires.members, (c.requires.ascending, c.requires.cells))))))
 
 pub invariant_of-self-2 : goal.invariant_of-self-2
-invariant_of-self-2 g c =
-    let k = g.K.Kind.kind in
-    let n : ℕ = g.row.DIM in
-    let rows : Rows = c.self.inside.links.rows in
-    let new : Rows = c.args.links.rows in
-    let made = c.made-made.ensures in
-    let empty = ap (λ (s : State). s.present) (rw (← c.self.view_is) at c.requires.new) in
-    let long : made_of new ≤ c.prepare.new.labels.made = omega (arith, c.in_ok-prepare.ensures.long, made.made) in
-    let ruled : c.put_rule.new.rules ≡ slice_set (made_rules n c.self.inside.rules) 0 (Some first_copy) =
-    c.put_rule.ensures ∙ ap (λ (rs : List (Option Rule)). slice_set rs 0 (Some first_copy)) c.in_ok-prepare.ensures.rules in
-    begun-journaled k n new c.give_cells.new.labels c.give_cells.new.pool c.put_rule.new.rules c.new.result.trail c.new.ensures.trail
-    (rw ruled (load-stored k n rows c.self.inside.labels c.self.inside.pool c.self.inside.rules c.self.invariant.stored empty new made.begun made.sound c.requires.laws
-    c.prepare.new.labels c.prepare.new.pool c.prepare.ensures.ids long c.in_ok-prepare.ensures.places c.args.places.now c.requires.members c.requires.ascending (lists_of c.args.cells.now) c.requires.cells
-    c.give_cells.new.labels c.give_cells.new.pool c.give_cells.ensures))
+invariant_of-self-2 g c = subst (λ (t : Trail). IsTraced c.load_links.new.self t) (sym c.new.ensures.trail) (traced-begun c.load_links.new.self c.in_ok-load_links.ensures.loaded.kept)
 
 pub returns-clause-loaded : goal.returns-clause-loaded
 returns-clause-loaded g c =
-    let k = g.K.Kind.kind in
-    let n : ℕ = g.row.DIM in
-    let rows : Rows = c.self.inside.links.rows in
-    let new : Rows = c.args.links.rows in
-    let made = c.made-made.ensures in
-    let empty = ap (λ (s : State). s.present) (rw (← c.self.view_is) at c.requires.new) in
-    let long : made_of new ≤ c.prepare.new.labels.made = omega (arith, c.in_ok-prepare.ensures.long, made.made) in
-    let ruled : c.put_rule.new.rules ≡ slice_set (made_rules n c.self.inside.rules) 0 (Some first_copy) =
-    c.put_rule.ensures ∙ ap (λ (rs : List (Option Rule)). slice_set rs 0 (Some first_copy)) c.in_ok-prepare.ensures.rules in (
-      content_of k n new c.give_cells.new.labels c.give_cells.new.pool (slice_set (made_rules n c.self.inside.rules) 0 (Some first_copy)),
-      load-made k n rows c.self.inside.labels c.self.inside.pool c.self.inside.rules c.self.invariant.stored empty new made.begun made.sound c.requires.laws
-          c.prepare.new.labels c.prepare.new.pool c.prepare.ensures.ids long c.in_ok-prepare.ensures.places c.args.places.now c.requires.members c.requires.ascending (lists_of c.args.cells.now) c.requires.cells
-          c.give_cells.new.labels c.give_cells.new.pool c.give_cells.ensures,
-      ap (λ (rs : List (Option Rule)). told (content_of k n new c.give_cells.new.labels c.give_cells.new.pool rs) c.new.result.trail) ruled
-          ∙ ap (told (content_of k n new c.give_cells.new.labels c.give_cells.new.pool (slice_set (made_rules n c.self.inside.rules) 0 (Some first_copy)))) c.new.ensures.trail
-          ∙ told-begun (content_of k n new c.give_cells.new.labels c.give_cells.new.pool (slice_set (made_rules n c.self.inside.rules) 0 (Some first_copy))),
-    )
+    (c.load_links.new.self, c.in_ok-load_links.ensures.loaded, ap (told c.load_links.new.self) c.new.ensures.trail ∙ told-begun c.load_links.new.self)

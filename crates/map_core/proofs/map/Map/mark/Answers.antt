@@ -7,7 +7,6 @@ use Rattle.machine_defs.specs.Script.{Mark}
 use Rattle.trail_laws.specs.Trails.{Book, Trail, HasMark}
 use Rattle.trail_laws.specs.Told.{told, IsTraced}
 use Rattle.trail_laws.proofs.Marking.{traced-marked}
-use Rattle.label_laws.specs.Contents.{content_of}
 use Rattle.map_core.specs.Calls.{Does}
 use Rattle.map_core.specs.declared.map.Done.{Done}
 use Rattle.map_core.proofs.Marks.{mark-refused, mark-obeyed}
@@ -15,11 +14,11 @@ use Rattle.map_core.proofs.map.Map.mark.Goals as goal
 
 pub returns-in_err-mark-clause-does : goal.returns-in_err-mark-clause-does
 returns-in_err-mark-clause-does g c =
-    let now : Content = content_of g.K.Kind.kind g.row.DIM c.self.inside.links.rows c.self.inside.labels c.self.inside.pool c.self.inside.rules in
+    let now : Content = c.self.inside.present in
     let t : Trail = c.self.inside.journal.trail in
     let p = err_from_is_err_and c.from_residual.result c.from_residual.ensures.1 in
     let hook = g.H.Rule.meaning c.self.inside.hook.now in
-    let refused = mark-refused now t c.self.invariant.traced c.mark_count.ensures.ordered hook c.args.name.now c.in_err-mark.field-0.0
+    let refused = mark-refused now t c.self.invariant c.see_order.ensures hook c.args.name.now c.in_err-mark.field-0.0
     (λ refusal is. (c.in_err-mark.ensures.refused refusal).0 (ap Err is)) in
     let is = p.1 ∙ ap Err p.2 in
     let same = sym c.in_err-mark.ensures.err in
@@ -28,17 +27,14 @@ returns-in_err-mark-clause-does g c =
 
 pub invariant_of-self-2 : goal.invariant_of-self-2
 invariant_of-self-2 g c =
-    let now : Content = content_of g.K.Kind.kind g.row.DIM c.self.inside.links.rows c.self.inside.labels c.self.inside.pool c.self.inside.rules in
+    let now : Content = c.self.inside.present in
     let t : Trail = c.self.inside.journal.trail in
-    record {
-      stored = c.self.invariant.stored;
-      traced = subst (λ (u : Trail). IsTraced now u) (sym c.in_ok-mark.ensures.ok) (traced-marked now t c.args.name.now c.self.invariant.traced c.mark_count.ensures.ordered);
-    }
+    subst (λ (u : Trail). IsTraced now u) (sym c.in_ok-mark.ensures.ok) (traced-marked now t c.args.name.now c.self.invariant c.see_order.ensures)
 
 pub returns-clause-does : goal.returns-clause-does
 returns-clause-does g c =
-    let now : Content = content_of g.K.Kind.kind g.row.DIM c.self.inside.links.rows c.self.inside.labels c.self.inside.pool c.self.inside.rules in
+    let now : Content = c.self.inside.present in
     let t : Trail = c.self.inside.journal.trail in
     let free : HasMark t c.args.name.now → ⊥ = λ has. (let taken = (c.in_ok-mark.ensures.refused why.MarkTaken).1 (refl, has) in cc) in
     rw (← c.self.view_is)
-    (mark-obeyed now t c.self.invariant.traced c.mark_count.ensures.ordered (g.H.Rule.meaning c.self.inside.hook.now) c.args.name.now free c.mark.new.self.trail c.in_ok-mark.ensures.ok)
+    (mark-obeyed now t c.self.invariant c.see_order.ensures (g.H.Rule.meaning c.self.inside.hook.now) c.args.name.now free c.mark.new.self.trail c.in_ok-mark.ensures.ok)

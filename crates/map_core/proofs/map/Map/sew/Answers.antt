@@ -2,7 +2,6 @@ use Rattle.std.proofs.Common.{◌≡◌, ℕ, refl, ap, ◌∙◌, ◌⊎◌, �
 use Rattle.std.proofs.lemmas.Result.{err_from_is_err_and}
 use Rattle.map_defs.specs.Kind.{beta}
 use Rattle.map_defs.specs.Rows.{Rows}
-use Rattle.label_laws.specs.Contents.{content_of}
 use Rattle.map_core.proofs.SewingSteps.{sew-refused, sew-obeyed}
 use Rattle.map_core.proofs.map.Map.sew.Goals as goal
 
@@ -10,11 +9,10 @@ pub returns-in_err-edit-clause-does : goal.returns-in_err-edit-clause-does
 returns-in_err-edit-clause-does g c =
     let k = g.K.Kind.kind in
     let n : ℕ = g.row.DIM in
-    let rows : Rows = c.self.inside.links.rows in
-    let view : content_of k n rows c.self.inside.labels c.self.inside.pool c.self.inside.rules ≡ c.args.self.now.state.present = rw (← c.self.view_is) refl in
+    let rows : Rows = c.links.result.now.rows in
     let link : ((n < c.args.link) ⊎ ((k ≡ beta) × (c.args.link ≡ 0))) → ⊥ = λ out. let none = c.in-Some.ensures.none.1 out in cc in
     let p = err_from_is_err_and c.from_residual.result c.from_residual.ensures.1 in
-    sew-refused k n rows c.self.inside.labels c.self.inside.pool c.self.inside.rules (g.H.Rule.meaning c.args.self.now.hook) c.args.self.now.state view
+    sew-refused k n rows (g.H.Rule.meaning c.args.self.now.hook) c.args.self.now.state c.links.ensures.kind c.links.ensures.dim c.links.ensures.rows c.links.ensures.kept
     c.args.link c.args.dart link (c.in-Some-live_dart.ensures.live.0 refl)
     c.args.other (c.in-Some-live_dart-2.ensures.live.0 refl)
     c.in-Some.link c.in-Some-live_dart.dart c.in-Some-live_dart-2.other
@@ -28,13 +26,12 @@ pub returns-clause-does : goal.returns-clause-does
 returns-clause-does g c =
     let k = g.K.Kind.kind in
     let n : ℕ = g.row.DIM in
-    let rows : Rows = c.self.inside.links.rows in
-    let view : content_of k n rows c.self.inside.labels c.self.inside.pool c.self.inside.rules ≡ c.args.self.now.state.present = rw (← c.self.view_is) refl in
+    let rows : Rows = c.links.result.now.rows in
     let link : ((n < c.args.link) ⊎ ((k ≡ beta) × (c.args.link ≡ 0))) → ⊥ = λ out. let none = c.in-Some.ensures.none.1 out in cc in
     let made = c.in_ok-relink.ensures.made in
-    sew-obeyed k n rows c.self.inside.labels c.self.inside.pool c.self.inside.rules (g.H.Rule.meaning c.args.self.now.hook) c.args.self.now.state view
+    sew-obeyed k n rows (g.H.Rule.meaning c.args.self.now.hook) c.args.self.now.state c.links.ensures.kind c.links.ensures.dim c.links.ensures.rows c.links.ensures.kept
     c.args.link c.args.dart link (c.in-Some-live_dart.ensures.live.0 refl)
-    c.in_ok-edit.edit c.self.invariant.stored.sound c.self.invariant.stored.begun c.in_ok-edit.ensures.fits c.in_ok-edit.ensures.births c.in_ok-edit.ensures.deaths
+    c.in_ok-edit.edit c.in_ok-edit.ensures.fits c.in_ok-edit.ensures.births c.in_ok-edit.ensures.deaths
     c.relink.new.self.state made.0 made.1 made.2
     c.args.other (c.in-Some-live_dart-2.ensures.live.0 refl)
     c.in-Some.link c.in-Some-live_dart.dart c.in-Some-live_dart-2.other

@@ -1,6 +1,0 @@
-use Rattle.std.proofs.Common.{◌≡◌, ◌++◌, map, take}
-use Rattle.map_core.specs.Noted.{old_value}
-use Rattle.map_core.proofs.note.add_values.Given as goal
-
-abbrev pub invariant-loop-dart : goal.invariant-loop-dart
-invariant-loop-dart g l = l.values.items ≡ l.fn.values.items ++ map (old_value l.labels l.pool l.dim) (take l.dart-index l.darts)

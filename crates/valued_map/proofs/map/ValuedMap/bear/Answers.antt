@@ -1,0 +1,82 @@
+use Rattle.std.proofs.Common.{◌≡◌, ℕ, ◌+◌, [], max, refl, ap, sym, subst, ◌∙◌, arith}
+use Rattle.std.proofs.lemmas.Result.{err_from_is_err_and}
+use Rattle.map_defs.specs.Rows.{Rows, made}
+use Rattle.map_defs.specs.Edits.{Edit, after_edit}
+use Rattle.label_laws.specs.Contents.{content_of}
+use Rattle.label_laws.specs.Maps.{IsStoredMap}
+use Rattle.label_laws.proofs.Making.{bear-stored, bear-content}
+use Rattle.label_laws.proofs.Same.{content-alike}
+use Rattle.label_laws.proofs.LineSteps.{stored-grown}
+use Rattle.valued_map.specs.Told.{IsStep, finished}
+use Rattle.valued_map.proofs.Edited.{bear-step}
+use Rattle.valued_map.proofs.map.ValuedMap.bear.Goals as goal
+
+pub invariant_of-self-in_err-grow : goal.invariant_of-self-in_err-grow
+invariant_of-self-in_err-grow g c =
+    let k = g.K.Kind.kind in
+    let n : ℕ = g.row.DIM in
+    subst (λ (r : Rows). IsStoredMap k n r c.grow.new.self c.self.inside.pool c.self.inside.rules) (sym c.reserve.ensures.rows)
+    (stored-grown k n c.self.inside.links.rows c.self.inside.labels c.grow.new.self c.self.inside.pool c.self.inside.pool c.self.inside.rules c.self.invariant c.grow.ensures.ids c.grow.ensures.places
+    (omega (arith, c.in_err-grow.ensures.err)) refl)
+
+pub returns-in_err-grow-clause-err : goal.returns-in_err-grow-clause-err
+returns-in_err-grow-clause-err g c =
+    let k = g.K.Kind.kind in
+    let n : ℕ = g.row.DIM in
+    let error = err_from_is_err_and c.from_residual-in_err-grow.result c.from_residual-in_err-grow.ensures.1 in
+    rw (error.1, ← c.self.view_is)
+    (ap (λ (r : Rows). content_of k n r c.grow.new.self c.self.inside.pool c.self.inside.rules) c.reserve.ensures.rows
+    ∙ content-alike k n c.self.inside.links.rows c.self.inside.labels c.grow.new.self c.self.inside.pool c.self.inside.pool c.self.inside.rules c.grow.ensures.ids refl)
+
+pub invariant_of-self-2 : goal.invariant_of-self-2
+invariant_of-self-2 g c =
+    let k = g.K.Kind.kind in
+    let n : ℕ = g.row.DIM in
+    let rows : Rows = c.self.inside.links.rows in
+    let e : Edit = c.args.edit.now in
+    let is : c.apply.new.self.rows ≡ after_edit n e rows = c.apply.ensures.rows ∙ ap (after_edit n e) c.reserve.ensures.rows in
+    let births : c.edit.inside.births ≡ e.births = ap (λ (x : Edit). x.births) c.edit.view_is in
+    let grown : c.grow.new.self.made ≡ max c.self.inside.labels.made (made rows + e.births) =
+    c.in_ok-grow.ensures.made ∙ ap (λ (b : ℕ). max c.self.inside.labels.made (b + c.edit.inside.births)) c.made-made.ensures.made ∙ ap (λ (b : ℕ). max c.self.inside.labels.made (made rows + b)) births in
+    let fits = rw (← c.self.view_is) at c.requires.fits in
+    let few = rw (← c.self.view_is) at c.requires.few in
+    let laws = rw (← c.self.view_is) at c.requires.laws in
+    let born = rw (← c.self.view_is) at c.requires.born in
+    subst (λ (r : Rows). IsStoredMap k n r c.grow.new.self c.self.inside.pool c.self.inside.rules) (sym is)
+    (bear-stored k n rows e c.self.inside.labels c.self.inside.pool c.self.inside.rules c.self.invariant fits few laws c.grow.new.self c.grow.ensures.ids c.grow.ensures.places grown born.0 born.1)
+
+pub returns-clause-made : goal.returns-clause-made
+returns-clause-made g c =
+    let k = g.K.Kind.kind in
+    let n : ℕ = g.row.DIM in
+    let rows : Rows = c.self.inside.links.rows in
+    let e : Edit = c.args.edit.now in
+    let is : c.apply.new.self.rows ≡ after_edit n e rows = c.apply.ensures.rows ∙ ap (after_edit n e) c.reserve.ensures.rows in
+    let births : c.edit.inside.births ≡ e.births = ap (λ (x : Edit). x.births) c.edit.view_is in
+    let grown : c.grow.new.self.made ≡ max c.self.inside.labels.made (made rows + e.births) =
+    c.in_ok-grow.ensures.made ∙ ap (λ (b : ℕ). max c.self.inside.labels.made (b + c.edit.inside.births)) c.made-made.ensures.made ∙ ap (λ (b : ℕ). max c.self.inside.labels.made (made rows + b)) births in
+    let fits = rw (← c.self.view_is) at c.requires.fits in
+    let few = rw (← c.self.view_is) at c.requires.few in
+    let laws = rw (← c.self.view_is) at c.requires.laws in
+    rw (← c.self.view_is) (λ born same.
+    ap (λ (r : Rows). content_of k n r c.grow.new.self c.self.inside.pool c.self.inside.rules) is
+    ∙ bear-content k n rows e c.self.inside.labels c.self.inside.pool c.self.inside.rules c.self.invariant fits few laws c.grow.new.self c.grow.ensures.ids c.grow.ensures.places grown born same)
+
+pub returns-clause-step : goal.returns-clause-step
+returns-clause-step g c =
+    let k = g.K.Kind.kind in
+    let n : ℕ = g.row.DIM in
+    let rows : Rows = c.self.inside.links.rows in
+    let e : Edit = c.args.edit.now in
+    let is : c.apply.new.self.rows ≡ after_edit n e rows = c.apply.ensures.rows ∙ ap (after_edit n e) c.reserve.ensures.rows in
+    let births : c.edit.inside.births ≡ e.births = ap (λ (x : Edit). x.births) c.edit.view_is in
+    let grown : c.grow.new.self.made ≡ max c.self.inside.labels.made (made rows + e.births) =
+    c.in_ok-grow.ensures.made ∙ ap (λ (b : ℕ). max c.self.inside.labels.made (b + c.edit.inside.births)) c.made-made.ensures.made ∙ ap (λ (b : ℕ). max c.self.inside.labels.made (made rows + b)) births in
+    let fits = rw (← c.self.view_is) at c.requires.fits in
+    let few = rw (← c.self.view_is) at c.requires.few in
+    let laws = rw (← c.self.view_is) at c.requires.laws in
+    let born = rw (← c.self.view_is) at c.requires.born in
+    let begun = rw (c.made-made.ensures.made) at c.in_ok-draft.ensures in
+    rw (← c.self.view_is, c.finish_step.ensures, c.new.ensures.items, c.new-2.ensures.items)
+    (subst (λ (r : Rows). IsStep c.args.asked (content_of k n rows c.self.inside.labels c.self.inside.pool c.self.inside.rules) (content_of k n r c.grow.new.self c.self.inside.pool c.self.inside.rules) (finished c.in_ok-draft.draft [] [])) (sym is)
+    (bear-step k n rows e c.self.inside.labels c.self.inside.pool c.self.inside.rules c.self.invariant fits few laws c.args.asked c.in_ok-draft.draft begun c.grow.new.self c.grow.ensures.ids c.grow.ensures.places grown born.0 born.1))

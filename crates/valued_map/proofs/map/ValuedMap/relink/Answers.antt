@@ -1,0 +1,186 @@
+use Rattle.std.proofs.Common.{◌≡◌, ℕ, ◌+◌, ◌<◌, List, [], length, max, Option, refl, ap, sym, subst, ◌∙◌, lit<, arith}
+use Rattle.std.proofs.lemmas.Result.{err_from_is_err_and}
+use Rattle.map_defs.specs.Rows.{Rows, IsLive, links_of, made}
+use Rattle.map_defs.specs.Edits.{Edit, IsLed, after_edit}
+use Rattle.map_defs.specs.Values.{Rule}
+use Rattle.machine_defs.specs.Difference.{ValueChange}
+use Rattle.store_defs.specs.Labelings.{id_of}
+use Rattle.store_defs.specs.Groups.{group_at, HasCarriedValue}
+use Rattle.label_laws.specs.Contents.{content_of, IsCarriedOn}
+use Rattle.label_laws.specs.Maps.{IsStoredMap}
+use Rattle.label_laws.specs.Touching.{AreAllTouched}
+use Rattle.label_laws.proofs.Making.{led, ended-within, groups-labelled, relink-stored, relink-carried}
+use Rattle.label_laws.proofs.Same.{carried-pool, content-alike}
+use Rattle.valued_map.specs.Told.{IsStep, finished}
+use Rattle.label_laws.proofs.LineSteps.{stored-grown}
+use Rattle.valued_map.proofs.Edited.{relink-step}
+use Rattle.valued_map.proofs.map.ValuedMap.relink.Goals as goal
+
+pub invariant_of-self-in_err-grow : goal.invariant_of-self-in_err-grow
+invariant_of-self-in_err-grow g c =
+    let k = g.K.Kind.kind in
+    let n : ℕ = g.row.DIM in
+    subst (λ (r : Rows). IsStoredMap k n r c.grow.new.self c.self.inside.pool c.self.inside.rules) (sym c.reserve.ensures.rows)
+    (stored-grown k n c.self.inside.links.rows c.self.inside.labels c.grow.new.self c.self.inside.pool c.self.inside.pool c.self.inside.rules c.self.invariant c.grow.ensures.ids c.grow.ensures.places
+    (omega (arith, c.in_err-grow.ensures.err)) refl)
+
+pub returns-in_err-grow-clause-err : goal.returns-in_err-grow-clause-err
+returns-in_err-grow-clause-err g c =
+    let k = g.K.Kind.kind in
+    let n : ℕ = g.row.DIM in
+    let error = err_from_is_err_and c.from_residual-in_err-grow.result c.from_residual-in_err-grow.ensures.1 in
+    rw (error.1, ← c.self.view_is)
+    (ap (λ (r : Rows). content_of k n r c.grow.new.self c.self.inside.pool c.self.inside.rules) c.reserve.ensures.rows
+    ∙ content-alike k n c.self.inside.links.rows c.self.inside.labels c.grow.new.self c.self.inside.pool c.self.inside.pool c.self.inside.rules c.grow.ensures.ids refl)
+
+pub relabel-requires : goal.relabel-requires
+relabel-requires g c =
+    let k = g.K.Kind.kind in
+    let n : ℕ = g.row.DIM in
+    let rows : Rows = c.self.inside.links.rows in
+    let e : Edit = c.args.edit.now in
+    let rules : List (Option Rule) = c.self.inside.rules in
+    let is : c.apply.new.self.rows ≡ after_edit n e rows = c.apply.ensures.rows ∙ ap (after_edit n e) c.reserve.ensures.rows in
+    let births : c.edit.inside.births ≡ e.births = ap (λ (x : Edit). x.births) c.edit.view_is in
+    let grown : c.grow.new.self.made ≡ max c.self.inside.labels.made (made rows + e.births) =
+    c.in_ok-grow.ensures.made ∙ ap (λ (b : ℕ). max c.self.inside.labels.made (b + c.edit.inside.births)) c.made-made.ensures.made ∙ ap (λ (b : ℕ). max c.self.inside.labels.made (made rows + b)) births in
+    let fits = rw (← c.self.view_is) at c.requires.fits in
+    let few = rw (← c.self.view_is) at c.requires.few in
+    let laws = rw (← c.self.view_is) at c.requires.laws in
+    let here : IsLed k n e rows c.apply.new.self.rows =
+    subst (λ (r : Rows). IsLed k n e rows r) (sym is) (led k n rows e c.self.inside.labels c.self.inside.pool rules c.self.invariant fits few laws) in
+    let touched : AreAllTouched k rows (after_edit n e rows) rules c.in-Ok.groups.items =
+    subst (λ (r : Rows). AreAllTouched k rows r rules c.in-Ok.groups.items) is (c.in-Ok.ensures.cells rows here c.self.invariant.laws) in
+    let deaths : c.deref.result.now ≡ e.deaths = c.deref.ensures.value ∙ ap (λ (x : Edit). x.deaths) c.edit.view_is in
+    rw (deaths, c.deref-in-Ok.ensures.value) (
+      lit< tt,
+      (
+        c.self.invariant.high,
+        (
+          ended-within k n rows e c.self.inside.labels c.self.inside.pool rules c.self.invariant fits few laws c.grow.new.self c.grow.ensures.ids c.grow.ensures.places grown c.moved.new.pool c.moved.ensures.slots c.in-Ok.groups.items touched,
+          (
+            groups-labelled k n rows e c.self.inside.labels c.self.inside.pool rules c.self.invariant fits few laws c.grow.new.self c.grow.ensures.ids c.grow.ensures.places grown c.moved.new.pool c.moved.ensures.slots c.in-Ok.groups.items touched,
+            c.in-Ok.ensures.room,
+          ),
+        ),
+      ),
+    )
+
+pub invariant_of-self-in-Ok : goal.invariant_of-self-in-Ok
+invariant_of-self-in-Ok g c =
+    let k = g.K.Kind.kind in
+    let n : ℕ = g.row.DIM in
+    let rows : Rows = c.self.inside.links.rows in
+    let e : Edit = c.args.edit.now in
+    let rules : List (Option Rule) = c.self.inside.rules in
+    let is : c.apply.new.self.rows ≡ after_edit n e rows = c.apply.ensures.rows ∙ ap (after_edit n e) c.reserve.ensures.rows in
+    let births : c.edit.inside.births ≡ e.births = ap (λ (x : Edit). x.births) c.edit.view_is in
+    let grown : c.grow.new.self.made ≡ max c.self.inside.labels.made (made rows + e.births) =
+    c.in_ok-grow.ensures.made ∙ ap (λ (b : ℕ). max c.self.inside.labels.made (b + c.edit.inside.births)) c.made-made.ensures.made ∙ ap (λ (b : ℕ). max c.self.inside.labels.made (made rows + b)) births in
+    let fits = rw (← c.self.view_is) at c.requires.fits in
+    let few = rw (← c.self.view_is) at c.requires.few in
+    let laws = rw (← c.self.view_is) at c.requires.laws in
+    let here : IsLed k n e rows c.apply.new.self.rows =
+    subst (λ (r : Rows). IsLed k n e rows r) (sym is) (led k n rows e c.self.inside.labels c.self.inside.pool rules c.self.invariant fits few laws) in
+    let touched : AreAllTouched k rows (after_edit n e rows) rules c.in-Ok.groups.items =
+    subst (λ (r : Rows). AreAllTouched k rows r rules c.in-Ok.groups.items) is (c.in-Ok.ensures.cells rows here c.self.invariant.laws) in
+    let deaths : c.deref.result.now ≡ e.deaths = c.deref.ensures.value ∙ ap (λ (x : Edit). x.deaths) c.edit.view_is in
+    let relabelled = rw (deaths, c.deref-in-Ok.ensures.value) at c.relabel.ensures in
+    subst (λ (r : Rows). IsStoredMap k n r c.relabel.new.labels c.relabel.new.pool rules) (sym is)
+    (relink-stored k n rows e c.self.inside.labels c.self.inside.pool rules c.self.invariant fits few laws c.grow.new.self c.grow.ensures.ids c.grow.ensures.places grown c.moved.new.pool c.moved.ensures.slots
+    c.in-Ok.groups.items touched c.relabel.new.labels c.relabel.new.pool relabelled)
+
+pub invariant_of-self-in-Err : goal.invariant_of-self-in-Err
+invariant_of-self-in-Err g c =
+    let k = g.K.Kind.kind in
+    let n : ℕ = g.row.DIM in
+    let rows : Rows = c.self.inside.links.rows in
+    let e : Edit = c.args.edit.now in
+    let rules : List (Option Rule) = c.self.inside.rules in
+    let is : c.apply.new.self.rows ≡ after_edit n e rows = c.apply.ensures.rows ∙ ap (after_edit n e) c.reserve.ensures.rows in
+    let births : c.edit.inside.births ≡ e.births = ap (λ (x : Edit). x.births) c.edit.view_is in
+    let grown : c.grow.new.self.made ≡ max c.self.inside.labels.made (made rows + e.births) =
+    c.in_ok-grow.ensures.made ∙ ap (λ (b : ℕ). max c.self.inside.labels.made (b + c.edit.inside.births)) c.made-made.ensures.made ∙ ap (λ (b : ℕ). max c.self.inside.labels.made (made rows + b)) births in
+    let fits = rw (← c.self.view_is) at c.requires.fits in
+    let few = rw (← c.self.view_is) at c.requires.few in
+    let laws = rw (← c.self.view_is) at c.requires.laws in
+    let here : IsLed k n e rows c.apply.new.self.rows =
+    subst (λ (r : Rows). IsLed k n e rows r) (sym is) (led k n rows e c.self.inside.labels c.self.inside.pool rules c.self.invariant fits few laws) in
+    subst (λ (r : Rows). IsStoredMap k n r c.grow.new.self c.moved.new.pool rules) (sym (c.reverse.ensures.back rows here))
+    (stored-grown k n rows c.self.inside.labels c.grow.new.self c.self.inside.pool c.moved.new.pool rules c.self.invariant c.grow.ensures.ids c.grow.ensures.places (omega (arith, grown)) c.moved.ensures.slots)
+
+pub returns-in-Ok-clause-carried : goal.returns-in-Ok-clause-carried
+returns-in-Ok-clause-carried g c =
+    let k = g.K.Kind.kind in
+    let n : ℕ = g.row.DIM in
+    let rows : Rows = c.self.inside.links.rows in
+    let e : Edit = c.args.edit.now in
+    let rules : List (Option Rule) = c.self.inside.rules in
+    let is : c.apply.new.self.rows ≡ after_edit n e rows = c.apply.ensures.rows ∙ ap (after_edit n e) c.reserve.ensures.rows in
+    let births : c.edit.inside.births ≡ e.births = ap (λ (x : Edit). x.births) c.edit.view_is in
+    let grown : c.grow.new.self.made ≡ max c.self.inside.labels.made (made rows + e.births) =
+    c.in_ok-grow.ensures.made ∙ ap (λ (b : ℕ). max c.self.inside.labels.made (b + c.edit.inside.births)) c.made-made.ensures.made ∙ ap (λ (b : ℕ). max c.self.inside.labels.made (made rows + b)) births in
+    let fits = rw (← c.self.view_is) at c.requires.fits in
+    let few = rw (← c.self.view_is) at c.requires.few in
+    let laws = rw (← c.self.view_is) at c.requires.laws in
+    let here : IsLed k n e rows c.apply.new.self.rows =
+    subst (λ (r : Rows). IsLed k n e rows r) (sym is) (led k n rows e c.self.inside.labels c.self.inside.pool rules c.self.invariant fits few laws) in
+    let touched : AreAllTouched k rows (after_edit n e rows) rules c.in-Ok.groups.items =
+    subst (λ (r : Rows). AreAllTouched k rows r rules c.in-Ok.groups.items) is (c.in-Ok.ensures.cells rows here c.self.invariant.laws) in
+    let deaths : c.deref.result.now ≡ e.deaths = c.deref.ensures.value ∙ ap (λ (x : Edit). x.deaths) c.edit.view_is in
+    let relabelled = rw (deaths, c.deref-in-Ok.ensures.value) at c.relabel.ensures in
+    let hook = g.H.Rule.meaning c.args.hook.now in
+    let carried : (h : ℕ) → h < length c.in-Ok.groups.items → HasCarriedValue k (links_of (after_edit n e rows)) (IsLive (after_edit n e rows)) (id_of c.grow.new.self) c.moved.new.pool hook rules (group_at c.in-Ok.groups.items h) =
+    λ h lt. carried-pool k (links_of (after_edit n e rows)) (IsLive (after_edit n e rows)) c.grow.new.self c.self.inside.pool c.moved.new.pool hook rules (group_at c.in-Ok.groups.items h) c.moved.ensures.slots
+    (subst (λ (r : Rows). HasCarriedValue k (links_of r) (IsLive r) (id_of c.grow.new.self) c.self.inside.pool hook rules (group_at c.in-Ok.groups.items h)) is (c.in-Ok.ensures.values h lt)) in
+    let on = relink-carried k n rows e c.self.inside.labels c.self.inside.pool rules c.self.invariant fits few laws c.grow.new.self c.grow.ensures.ids c.grow.ensures.places grown c.moved.new.pool c.moved.ensures.slots
+    c.in-Ok.groups.items touched c.relabel.new.labels c.relabel.new.pool relabelled hook (g.met.H.Rule.whole c.args.hook.now) carried in
+    rw (← c.self.view_is)
+    (subst (λ (r : Rows). IsCarriedOn hook (content_of k n rows c.self.inside.labels c.self.inside.pool rules) (after_edit n e rows) (content_of k n r c.relabel.new.labels c.relabel.new.pool rules)) (sym is) on)
+
+pub returns-in-Ok-clause-step : goal.returns-in-Ok-clause-step
+returns-in-Ok-clause-step g c =
+    let k = g.K.Kind.kind in
+    let n : ℕ = g.row.DIM in
+    let rows : Rows = c.self.inside.links.rows in
+    let e : Edit = c.args.edit.now in
+    let rules : List (Option Rule) = c.self.inside.rules in
+    let is : c.apply.new.self.rows ≡ after_edit n e rows = c.apply.ensures.rows ∙ ap (after_edit n e) c.reserve.ensures.rows in
+    let births : c.edit.inside.births ≡ e.births = ap (λ (x : Edit). x.births) c.edit.view_is in
+    let grown : c.grow.new.self.made ≡ max c.self.inside.labels.made (made rows + e.births) =
+    c.in_ok-grow.ensures.made ∙ ap (λ (b : ℕ). max c.self.inside.labels.made (b + c.edit.inside.births)) c.made-made.ensures.made ∙ ap (λ (b : ℕ). max c.self.inside.labels.made (made rows + b)) births in
+    let fits = rw (← c.self.view_is) at c.requires.fits in
+    let few = rw (← c.self.view_is) at c.requires.few in
+    let laws = rw (← c.self.view_is) at c.requires.laws in
+    let here : IsLed k n e rows c.apply.new.self.rows =
+    subst (λ (r : Rows). IsLed k n e rows r) (sym is) (led k n rows e c.self.inside.labels c.self.inside.pool rules c.self.invariant fits few laws) in
+    let touched : AreAllTouched k rows (after_edit n e rows) rules c.in-Ok.groups.items =
+    subst (λ (r : Rows). AreAllTouched k rows r rules c.in-Ok.groups.items) is (c.in-Ok.ensures.cells rows here c.self.invariant.laws) in
+    let deaths : c.deref.result.now ≡ e.deaths = c.deref.ensures.value ∙ ap (λ (x : Edit). x.deaths) c.edit.view_is in
+    let relabelled = rw (deaths, c.deref-in-Ok.ensures.value) at c.relabel.ensures in
+    let begun = rw (c.made-made.ensures.made) at c.in_ok-draft.ensures in
+    let values : List ValueChange = c.new_values-values.result.items in
+    rw (← c.self.view_is, c.finish_step.ensures, c.new.ensures.items)
+    (subst (λ (r : Rows). IsStep c.args.asked (content_of k n rows c.self.inside.labels c.self.inside.pool rules) (content_of k n r c.relabel.new.labels c.relabel.new.pool rules) (finished c.in_ok-draft.draft values [])) (sym is)
+    (relink-step k n rows e c.self.inside.labels c.self.inside.pool rules c.self.invariant fits few laws c.args.asked c.in_ok-draft.draft begun c.grow.new.self c.grow.ensures.ids c.grow.ensures.places grown c.moved.new.pool c.moved.ensures.slots
+    c.in-Ok.groups.items touched c.relabel.new.labels c.relabel.new.pool relabelled c.in-Ok.olds.items values c.in-Ok.ensures.olds c.new_values-values.ensures))
+
+pub returns-in-Err-clause-err : goal.returns-in-Err-clause-err
+returns-in-Err-clause-err g c =
+    let k = g.K.Kind.kind in
+    let n : ℕ = g.row.DIM in
+    let rows : Rows = c.self.inside.links.rows in
+    let e : Edit = c.args.edit.now in
+    let rules : List (Option Rule) = c.self.inside.rules in
+    let is : c.apply.new.self.rows ≡ after_edit n e rows = c.apply.ensures.rows ∙ ap (after_edit n e) c.reserve.ensures.rows in
+    let births : c.edit.inside.births ≡ e.births = ap (λ (x : Edit). x.births) c.edit.view_is in
+    let grown : c.grow.new.self.made ≡ max c.self.inside.labels.made (made rows + e.births) =
+    c.in_ok-grow.ensures.made ∙ ap (λ (b : ℕ). max c.self.inside.labels.made (b + c.edit.inside.births)) c.made-made.ensures.made ∙ ap (λ (b : ℕ). max c.self.inside.labels.made (made rows + b)) births in
+    let fits = rw (← c.self.view_is) at c.requires.fits in
+    let few = rw (← c.self.view_is) at c.requires.few in
+    let laws = rw (← c.self.view_is) at c.requires.laws in
+    let here : IsLed k n e rows c.apply.new.self.rows =
+    subst (λ (r : Rows). IsLed k n e rows r) (sym is) (led k n rows e c.self.inside.labels c.self.inside.pool rules c.self.invariant fits few laws) in
+    rw (← c.self.view_is)
+    (ap (λ (r : Rows). content_of k n r c.grow.new.self c.moved.new.pool rules) (c.reverse.ensures.back rows here)
+    ∙ content-alike k n rows c.self.inside.labels c.grow.new.self c.self.inside.pool c.moved.new.pool rules c.grow.ensures.ids c.moved.ensures.slots)

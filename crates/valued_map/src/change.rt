@@ -1,0 +1,157 @@
+//! How an edit of the links is made, and the values with it.
+ghost use Rattle.std.specs.Prelude.{◌≡◌, ℕ, ◌+◌, ◌≤◌, ◌++◌, ◌<◌, List, Some, map, length, OnOk, OnErr, IfOk, IsTrue};
+ghost use Rattle.map_defs.specs.Rows.{Rows, IsLive, links_of, made};
+ghost use Rattle.map_defs.specs.Laws.{Laws};
+ghost use Rattle.map_defs.specs.Edits.{Fits, after_edit, IsLed};
+ghost use Rattle.machine_defs.specs.State.{with_born, without_dart};
+ghost use Rattle.store_defs.specs.Labelings.{id_of};
+ghost use Rattle.store_defs.specs.Groups.{group_at, HasCarriedValue};
+ghost use Rattle.label_laws.specs.Maps.{IsStoredMap};
+ghost use Rattle.label_laws.specs.Contents.{IsCarriedOn};
+ghost use Rattle.label_laws.specs.Touching.{AreAllTouched};
+ghost use Rattle.valued_map.specs.Told.{AreOldValues, IsRelabelledPlace, IsStep};
+
+use crate::carrying::carried;
+use crate::ids::{end_ids, relabel};
+use crate::map::ValuedMap;
+use crate::told::{begin_step, finish_step, new_values, old_values};
+use attr_pool::{Labels, Pool};
+use attr_rules::Hook;
+use link_rows::{Edit, Links, MADE_MAX};
+use map_kind::{Dart, Kind};
+use std::alloc::{AllocError, Global};
+use transport::{Group, RuleRow};
+use undo_journal::{Step, ValueChange};
+
+impl<K: Kind, const DIM: usize> ValuedMap<K, DIM> {
+    /// Makes an edit that only adds darts, linked among each other alone. They have no values, and no value changes. The
+    /// step is answered where it is asked for. All memory is taken before anything changes.
+    pub fn bear(
+        &mut self,
+        alloc: Global,
+        edit: &Edit,
+        asked: bool,
+    ) -> Result<Option<Step>, AllocError>
+        requires fits { Fits K.kind DIM self.old.rows edit.now }
+        requires laws { Laws K.kind (links_of (after_edit DIM edit.now self.old.rows)) }
+        requires few { made self.old.rows + edit.now.births ≤ MADE_MAX }
+        requires born { (born : List (List ℕ)) × (after_edit DIM edit.now self.old.rows ≡ self.old.rows ++ map Some born) }
+        ensures made { (born : List (List ℕ)) → after_edit DIM edit.now self.old.rows ≡ self.old.rows ++ map Some born
+            → OnOk result (self.new ≡ with_born self.old born) }
+        ensures step { IfOk result (λ step. IsStep asked self.old self.new step) }
+        ensures err { OnErr result (self.new ≡ self.old) }
+    {
+        let made = self.links.made();
+        let draft = begin_step(alloc, made, edit, asked)?;
+        if self.links.reserve(edit.births).is_err() {
+            return Err(AllocError);
+        }
+        self.labels.grow(made + edit.births)?;
+        self.links.apply(edit);
+        Ok(finish_step(draft, Vec::new(alloc), Vec::new(alloc)))
+    }
+
+    /// Makes an edit and carries the values to the new cells. The step is answered where it is asked for. Where memory is
+    /// wanting, the edit is taken back.
+    pub fn relink<H: Hook>(
+        &mut self,
+        alloc: Global,
+        hook: &H,
+        edit: &Edit,
+        asked: bool,
+    ) -> Result<Option<Step>, AllocError>
+        requires ready { H.ready hook.now }
+        requires fits { Fits K.kind DIM self.old.rows edit.now }
+        requires laws { Laws K.kind (links_of (after_edit DIM edit.now self.old.rows)) }
+        requires few { made self.old.rows + edit.now.births ≤ MADE_MAX }
+        ensures carried { OnOk result (IsCarriedOn (H.meaning hook.now) self.old (after_edit DIM edit.now self.old.rows) self.new) }
+        ensures step { IfOk result (λ step. IsStep asked self.old self.new step) }
+        ensures err { OnErr result (self.new ≡ self.old) }
+    {
+        let made = self.links.made();
+        let draft = begin_step(alloc, made, edit, asked)?;
+        if self.links.reserve(edit.births).is_err() {
+            return Err(AllocError);
+        }
+        self.labels.grow(made + edit.births)?;
+        self.links.apply(edit);
+        match moved(
+            alloc,
+            &self.links,
+            &self.labels,
+            &mut self.pool,
+            &self.rules,
+            hook,
+            edit,
+            asked,
+        ) {
+            Ok((groups, olds)) => {
+                relabel(&mut self.labels, &mut self.pool, &edit.deaths, &groups);
+                let values = new_values(&self.labels, &self.pool, olds);
+                Ok(finish_step(draft, values, Vec::new(alloc)))
+            }
+            Err(error) => {
+                drop(draft);
+                self.links.reverse(edit);
+                Err(error)
+            }
+        }
+    }
+
+    /// Ends a dart without links, and the values of its cells with it. The step is answered where it is asked for.
+    pub fn bury(
+        &mut self,
+        alloc: Global,
+        dart: Dart,
+        asked: bool,
+    ) -> Result<Option<Step>, AllocError>
+        requires live { IsLive self.old.rows dart }
+        requires alone { (i : ℕ) → links_of self.old.rows i dart ≡ 0 }
+        ensures buried { OnOk result (self.new ≡ without_dart self.old dart) }
+        ensures step { IfOk result (λ step. IsStep asked self.old self.new step) }
+        ensures err { OnErr result (self.new ≡ self.old) }
+    {
+        let edit = Edit {
+            births: 0,
+            deaths: vec![in alloc; dart]?,
+            changes: Vec::new(alloc),
+        };
+        let draft = begin_step(alloc, self.links.made(), &edit, asked)?;
+        let olds = old_values(alloc, &self.labels, &self.pool, &edit.deaths, &[], asked)?;
+        self.links.apply(&edit);
+        end_ids(&mut self.labels, &mut self.pool, &edit.deaths);
+        let values = new_values(&self.labels, &self.pool, olds);
+        Ok(finish_step(draft, values, Vec::new(alloc)))
+    }
+}
+
+/// The cells whose darts the edit touched, with the values that are carried to them, and room in the pool for these
+/// values; and where it is asked for, the values that change with them, as they were.
+fn moved<K: Kind, H: Hook, const DIM: usize>(
+    alloc: Global,
+    links: &Links<K, DIM>,
+    labels: &Labels<DIM>,
+    pool: &mut Pool,
+    rules: &RuleRow,
+    hook: &H,
+    edit: &Edit,
+    asked: bool,
+) -> Result<(Vec<Group>, Vec<ValueChange>), AllocError>
+    requires ready { H.ready hook.now }
+    requires led { (old : Rows) × IsLed K.kind DIM edit.now old links.now.rows
+        × IsStoredMap K.kind DIM old labels.now pool.old rules.now }
+    requires laws { Laws K.kind (links_of links.now.rows) }
+    ensures cells { IfOk result (λ moved. (old : Rows) → IsLed K.kind DIM edit.now old links.now.rows
+        → Laws K.kind (links_of old) → AreAllTouched K.kind old links.now.rows rules.now moved.0.items) }
+    ensures values { IfOk result (λ moved. (n : ℕ) → n < length moved.0.items
+        → HasCarriedValue K.kind (links_of links.now.rows) (IsLive links.now.rows) (id_of labels.now) pool.old
+        (H.meaning hook.now) rules.now (group_at moved.0.items n)) }
+    ensures room { IfOk result (λ moved. length moved.0.items ≤ pool.new.spare) }
+    ensures slots { pool.new.slots ≡ pool.old.slots }
+    ensures olds { IfOk result (λ moved. IsTrue asked
+        → AreOldValues (IsRelabelledPlace DIM edit.now.deaths moved.0.items) labels.now pool.new moved.1.items) }
+{
+    let groups = carried(alloc, links, labels, pool, rules, hook, edit)?;
+    let olds = old_values(alloc, labels, pool, &edit.deaths, &groups, asked)?;
+    Ok((groups, olds))
+}

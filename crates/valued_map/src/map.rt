@@ -1,0 +1,104 @@
+//! The map with values, and what is read of it.
+ghost use Rattle.std.specs.Prelude.{◌≡◌, ◌≤◌, List, IfOk};
+ghost use Rattle.map_defs.specs.Laws.{Laws};
+ghost use Rattle.map_defs.specs.Rows.{IsSound, links_of};
+ghost use Rattle.machine_defs.specs.State.{empty_content, rule_at, value_at};
+ghost use Rattle.machine_defs.specs.Listing.{ListValue, ListsValues, listing_with};
+ghost use Rattle.machine_defs.specs.Kept.{IsLawfulContent};
+
+use crate::ids::stored_value;
+use crate::list::{list_rows, list_values};
+use crate::rules::rule_of;
+use attr_pool::{Labels, Pool};
+use attr_rules::TableRule;
+use link_rows::Links;
+use list_text::Listing;
+use map_kind::{Dart, Kind, Value};
+use std::alloc::{AllocError, Global};
+use std::marker::Model;
+use transport::RuleRow;
+
+/// The links of a map of a kind and a dimension from 2 to 8, with the values of its cells and the rules by which they are
+/// carried, seen as a content of the plain map machine. Its type keeps that this is a lawful one: the links obey the laws
+/// of a map, and the darts of a cell have one value or none.
+#[derive(Drop)]
+pub struct ValuedMap<K: Kind, const DIM: usize> {
+    pub(crate) links: Links<K, DIM>,
+    // The darts of a cell with a value share an id; no other dart has one.
+    pub(crate) labels: Labels<DIM>,
+    pub(crate) pool: Pool,
+    // Without places until some dimension gets a rule.
+    pub(crate) rules: RuleRow,
+}
+
+impl<K: Kind, const DIM: usize> Model for ValuedMap<K, DIM> {
+    ghost use Rattle.machine_defs.specs.State.{Content};
+    ghost use Rattle.label_laws.specs.Contents.{content_of};
+    ghost use Rattle.label_laws.specs.Maps.{IsStoredMap};
+
+    ghost Value = { Content };
+
+    ghost view = { λ map. content_of K.kind DIM map.links.rows map.labels map.pool map.rules };
+
+    ghost invariant = { λ map. IsStoredMap K.kind DIM map.links.rows map.labels map.pool map.rules };
+}
+
+impl<K: Kind, const DIM: usize> ValuedMap<K, DIM> {
+    /// The map without darts, values and rules. It takes no memory.
+    pub fn new(alloc: Global) -> Self
+        requires low { 2 ≤ DIM }
+        requires high { DIM ≤ 8 }
+        ensures empty { result ≡ empty_content K.kind DIM }
+        ensures lawful { IsLawfulContent result }
+    {
+        ValuedMap {
+            links: Links::new(alloc),
+            labels: Labels::new(alloc),
+            pool: Pool::new(alloc),
+            rules: RuleRow {
+                rules: Vec::new(alloc),
+            },
+        }
+    }
+
+    /// The links, to be read. Here can be read what the type keeps.
+    pub fn links(&self) -> &Links<K, DIM>
+        ensures rows { result.now.rows ≡ self.now.rows }
+        ensures kind { self.now.kind ≡ K.kind }
+        ensures dim { self.now.dim ≡ DIM }
+        ensures sound { IsSound K.kind DIM self.now.rows }
+        ensures laws { Laws K.kind (links_of result.now.rows) }
+        ensures lawful { IsLawfulContent self.now }
+    {
+        &self.links
+    }
+
+    /// The value of the cell of a dart in a dimension, if it has one.
+    pub fn value(&self, dim: usize, dart: Dart) -> Option<Value>
+        ensures { result ≡ value_at self.now dim dart }
+    {
+        stored_value(&self.labels, &self.pool, dim, dart)
+    }
+
+    /// The rule of a dimension, if it has one.
+    pub fn rule(&self, dim: usize) -> Option<TableRule>
+        ensures { result ≡ rule_at self.now dim }
+    {
+        rule_of(&self.rules, dim)
+    }
+
+    /// The listing of the map: its live darts, ascending, with their links, and its cells with a value, each by its
+    /// least dart, ascending by dimension, then by dart. It costs the size of the map times a logarithm.
+    pub fn listing(&self, alloc: Global) -> Result<Listing, AllocError>
+        ensures { IfOk result (λ listing. (values : List ListValue) × ListsValues self.now values
+            × (listing ≡ listing_with self.now values)) }
+    {
+        Ok(Listing {
+            letter: K::letter(),
+            dim: self.links.dimension() as u32,
+            made: self.links.made(),
+            rows: list_rows(alloc, &self.links)?,
+            values: list_values(alloc, &self.links, &self.labels, &self.pool, &self.rules)?,
+        })
+    }
+}
