@@ -23,7 +23,8 @@ use Rattle.map_core.proofs.Present.{seen_as, seen-is, seen-sound, seen-begun, re
 use Rattle.machine_laws.proofs.Answers.{count-one}
 use Rattle.map_core.specs.Calls.{Does}
 use Rattle.map_core.specs.Growing.{Grows}
-use Rattle.map_core.proofs.Planned.{IsPlanned, PlansVertex, PlansEdge, PlansFace}
+use Rattle.cell_edit.specs.Inserting.{PlansInsertion}
+use Rattle.cell_edit.specs.Planning.{PlansVertex, PlansEdge, PlansFace}
 use Rattle.map_core.specs.declared.map.Done.{Done}
 
 module _ (k : Kind) (n : ℕ) (rows : Rows) (hook : Meaning) where
@@ -35,7 +36,7 @@ module _ (k : Kind) (n : ℕ) (rows : Rows) (hook : Meaning) where
     view : Here ≡ s.present
     view = seen-is k n rows s.present kind dim same
 
-    module _ (K : Content → ℕ → Type 0) (Becomes : Content → (ℕ → ℕ) → Links → Type 0) (edit : Edit) (plan : IsPlanned k n rows (K Here) (Becomes Here) edit) where
+    module _ (K : Content → ℕ → Type 0) (Becomes : Content → (ℕ → ℕ) → Links → Type 0) (edit : Edit) (plan : PlansInsertion k n rows (K Here) (Becomes Here) edit) where
       counted : HasCount (K Here) edit.births
       counted = record { numbers = plan.keys; ascending = plan.numbered.ascending; members = plan.numbered.members; counted = sym plan.births }
 

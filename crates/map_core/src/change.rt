@@ -61,9 +61,7 @@ impl<'h, K: Kind, H: Hook, const DIM: usize> Map<'h, K, H, DIM> {
         ensures hook { self.new.hook ≡ self.old.hook }
         ensures does { Does (H.meaning self.old.hook) self.old.state (Del dart) result self.new.state }
     {
-        let Some(dart) = self.live_dart(dart) else {
-            return Err(Refused::Line(Refusal::NoDart));
-        };
+        let dart = self.live_dart(dart)?;
         if !is_alone(self.links(), dart) {
             return Err(Refused::Line(Refusal::Linked));
         }

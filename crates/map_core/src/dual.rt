@@ -1,4 +1,4 @@
-//! The dual of a generalized map.
+//! The dual.
 ghost use Rattle.std.specs.Prelude.{◌≡◌};
 ghost use Rattle.machine_defs.specs.Script.{Dual};
 ghost use Rattle.map_core.specs.Calls.{Does};
@@ -7,15 +7,18 @@ use crate::map::{Done, Map};
 use crate::note::{begin, finish, is_noting};
 use attr_rules::Hook;
 use dual_map::dual_plan;
-use map_kind::{Alpha, Refused};
+use kind_edit::Edits;
+use map_kind::Refused;
 use std::alloc::Global;
 
-impl<'h, H: Hook, const DIM: usize> Map<'h, Alpha, H, DIM> {
-    /// Makes the map its dual: the darts stay, link i of each becomes its link `DIM - i`, so the cells of dimension
-    /// `DIM - i` become those of dimension i, and their values and the rule of their dimension go with them. No value is
-    /// merged or split. Without a mark it takes no memory; it costs a few steps for each link of the darts that were made.
+impl<'h, K: Edits<DIM>, H: Hook, const DIM: usize> Map<'h, K, H, DIM> {
+    /// Makes the map its dual: the darts stay, and the cells of dimension `DIM - i` become those of dimension i, with their
+    /// values and the rule of their dimension. No value is merged or split. Link i of a dart becomes its link `DIM - i`; in
+    /// a combinatorial map link `DIM` stays, and a link between leads along link `DIM` first. In a generalized map without a
+    /// mark it takes no memory. It costs a few steps for each link of the darts that were made.
     ///
-    /// Refused as `Boundary` exactly where some link of a live dart is free.
+    /// Refused as `Boundary` exactly where some link of a live dart is free, or where, in a combinatorial map, the dual would
+    /// join a dart to itself.
     pub fn dual(&mut self, alloc: Global) -> Result<Done, Refused>
         ensures hook { self.new.hook ≡ self.old.hook }
         ensures does { Does (H.meaning self.old.hook) self.old.state Dual result self.new.state }
@@ -23,10 +26,8 @@ impl<'h, H: Hook, const DIM: usize> Map<'h, Alpha, H, DIM> {
         if is_noting(&self.journal) {
             return self.noted_dual(alloc);
         }
-        match self.present.take_dual() {
-            Ok(()) => Ok(Done::NONE),
-            Err(refusal) => Err(Refused::Line(refusal)),
-        }
+        self.present.take_dual(alloc)?;
+        Ok(Done::NONE)
     }
 
     /// The same by an edit, whose step can be noted. All memory is taken before anything changes.

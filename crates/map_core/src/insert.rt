@@ -1,4 +1,4 @@
-//! Inserting a vertex, an edge and a face into a generalized map.
+//! Inserting a vertex, an edge and a face.
 ghost use Rattle.std.specs.Prelude.{◌≡◌, ◌≤◌, length};
 ghost use Rattle.map_defs.specs.Rows.{links_of};
 ghost use Rattle.map_defs.specs.Laws.{Laws};
@@ -8,13 +8,13 @@ ghost use Rattle.map_core.specs.Calls.{Does};
 ghost use Rattle.map_core.specs.Growing.{Grows, AreLiveDarts};
 
 use crate::map::{Done, Map};
-use alpha_edit::{edge_plan, face_plan, vertex_plan};
 use attr_rules::Hook;
+use kind_edit::Edits;
 use link_rows::{Edit, MADE_MAX};
-use map_kind::{Alpha, Dart, Kind, Refusal, Refused};
+use map_kind::{Dart, Kind, Refusal, Refused};
 use std::alloc::Global;
 
-impl<'h, H: Hook, const DIM: usize> Map<'h, Alpha, H, DIM> {
+impl<'h, K: Edits<DIM>, H: Hook, const DIM: usize> Map<'h, K, H, DIM> {
     /// Puts a vertex on the edge of a dart. Each dart of the edge gets a new dart beyond the vertex, numbered on from those
     /// that were made in the order of the edge's darts; the answer tells them. The values of the cells are carried to the
     /// new cells. It costs the darts of the edge, and the cells of these darts where a dimension has a rule, times a
@@ -27,10 +27,8 @@ impl<'h, H: Hook, const DIM: usize> Map<'h, Alpha, H, DIM> {
         ensures hook { self.new.hook ≡ self.old.hook }
         ensures does { Does (H.meaning self.old.hook) self.old.state (Vertex dart) result self.new.state }
     {
-        let Some(dart) = self.live_dart(dart) else {
-            return Err(Refused::Line(Refusal::NoDart));
-        };
-        let edit = vertex_plan(alloc, self.links(), dart)?;
+        let dart = self.live_dart(dart)?;
+        let edit = K::vertex_plan(alloc, self.links(), dart)?;
         self.insert(alloc, &edit)
     }
 
@@ -49,13 +47,9 @@ impl<'h, H: Hook, const DIM: usize> Map<'h, Alpha, H, DIM> {
         ensures hook { self.new.hook ≡ self.old.hook }
         ensures does { Does (H.meaning self.old.hook) self.old.state (Edge dart other) result self.new.state }
     {
-        let Some(dart) = self.live_dart(dart) else {
-            return Err(Refused::Line(Refusal::NoDart));
-        };
-        let Some(other) = self.live_dart(other) else {
-            return Err(Refused::Line(Refusal::NoDart));
-        };
-        let edit = edge_plan(alloc, self.links(), dart, other)?;
+        let dart = self.live_dart(dart)?;
+        let other = self.live_dart(other)?;
+        let edit = K::edge_plan(alloc, self.links(), dart, other)?;
         self.insert(alloc, &edit)
     }
 
@@ -81,7 +75,7 @@ impl<'h, H: Hook, const DIM: usize> Map<'h, Alpha, H, DIM> {
             return Err(Refused::Line(Refusal::BadDim));
         }
         let darts = self.live_darts(alloc, path)?;
-        let edit = face_plan(alloc, self.links(), &darts)?;
+        let edit = K::face_plan(alloc, self.links(), &darts)?;
         self.insert(alloc, &edit)
     }
 }
@@ -112,9 +106,7 @@ impl<'h, K: Kind, H: Hook, const DIM: usize> Map<'h, K, H, DIM> {
     {
         let mut darts = Vec::new(alloc);
         for number in numbers {
-            let Some(dart) = self.live_dart(*number) else {
-                return Err(Refused::Line(Refusal::NoDart));
-            };
+            let dart = self.live_dart(*number)?;
             darts.push(dart)?;
         }
         Ok(darts)

@@ -21,5 +21,6 @@ mod sew;
 mod undo;
 mod value;
 
+pub use kind_edit::{Edits, LinkStore, Plans};
 pub use map::{Done, Map};
 pub use undo_journal::{RuleChange, Step, ValueChange};

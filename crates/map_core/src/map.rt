@@ -1,13 +1,14 @@
 //! The map itself, and what all its calls share.
-ghost use Rattle.std.specs.Prelude.{◌≡◌, ℕ, ◌+◌, ◌≤◌, ◌↔◌, IsSome, IfSome, IsTrue};
-ghost use Rattle.map_defs.specs.Rows.{IsLive, IsSound, links_of, made};
+ghost use Rattle.std.specs.Prelude.{◌≡◌, ℕ, ◌+◌, ◌≤◌, ◌↔◌, IfOk, IsTrue};
+ghost use Rattle.map_defs.specs.Rows.{IsSound, links_of, made};
 ghost use Rattle.map_defs.specs.Laws.{IsLawful, Laws};
 ghost use Rattle.machine_defs.specs.State.{empty_state};
 ghost use Rattle.machine_defs.specs.Kept.{IsLawfulContent};
+ghost use Rattle.map_core.specs.Numbers.{NamesDart, NamesDimension};
 
 use attr_rules::Hook;
 use link_rows::{Links, MADE_MAX};
-use map_kind::{Dart, Kind};
+use map_kind::{Dart, Kind, Refusal};
 use std::alloc::Global;
 use std::marker::Model;
 use undo_journal::Journal;
@@ -78,34 +79,33 @@ impl<'h, K: Kind, H: Hook, const DIM: usize> Map<'h, K, H, DIM> {
         self.present.links()
     }
 
-    /// The live dart of this number; none exactly where no live dart has it.
-    pub(crate) fn live_dart(&self, number: u64) -> Option<Dart>
-        ensures live { IsSome result ↔ IsLive self.now.state.present.rows number }
-        ensures same { IfSome result (λ dart. dart ≡ number) }
+    /// The live dart of this number. `NoDart` comes exactly where no live dart has it.
+    pub(crate) fn live_dart(&self, number: u64) -> Result<Dart, Refusal>
+        ensures { NamesDart self.now.state.present.rows number result }
     {
-        let links = self.links();
-        if number > u64::from(links.made()) {
-            return None;
+        if number > u64::from(self.links().made()) {
+            return Err(Refusal::NoDart);
         }
-        let dart = Dart::new(number as u32)?;
-        if links.is_live(dart) {
-            Some(dart)
+        let Some(dart) = Dart::new(number as u32) else {
+            return Err(Refusal::NoDart);
+        };
+        if self.links().is_live(dart) {
+            Ok(dart)
         } else {
-            None
+            Err(Refusal::NoDart)
         }
     }
 
-    /// The dimension, or the link, of this number; none exactly where it is above the map's dimension.
-    pub(crate) fn dimension(&self, number: u64) -> Option<usize>
-        ensures within { IsSome result ↔ (number ≤ self.now.state.present.dim) }
-        ensures same { IfSome result (λ dim. dim ≡ number) }
-        ensures high { IfSome result (λ dim. dim ≤ DIM) }
+    /// The dimension, or the link, of this number. `BadDim` comes exactly where it is above the map's dimension.
+    pub(crate) fn dimension(&self, number: u64) -> Result<usize, Refusal>
+        ensures named { NamesDimension self.now.state.present.dim number result }
+        ensures high { IfOk result (λ dim. dim ≤ DIM) }
     {
         let high = self.links().dimension();
         if number <= high as u64 {
-            Some(number as usize)
+            Ok(number as usize)
         } else {
-            None
+            Err(Refusal::BadDim)
         }
     }
 

@@ -18,12 +18,8 @@ impl<'h, K: Kind, H: Hook, const DIM: usize> Map<'h, K, H, DIM> {
     pub fn cell(&self, alloc: Global, dim: u64, dart: u64) -> Result<Vec<Dart>, Refused>
         ensures { AnswersQuestion (H.meaning self.now.hook) self.now.state (Cell dim dart) (λ darts. Darts darts.items) result }
     {
-        let Some(dim) = self.dimension(dim) else {
-            return Err(Refused::Line(Refusal::BadDim));
-        };
-        let Some(dart) = self.live_dart(dart) else {
-            return Err(Refused::Line(Refusal::NoDart));
-        };
+        let dim = self.dimension(dim)?;
+        let dart = self.live_dart(dart)?;
         Ok(cell_walk::cell(alloc, self.links(), dim, dart)?)
     }
 
@@ -35,15 +31,9 @@ impl<'h, K: Kind, H: Hook, const DIM: usize> Map<'h, K, H, DIM> {
     pub fn same(&self, alloc: Global, dim: u64, dart: u64, other: u64) -> Result<bool, Refused>
         ensures { AnswersQuestion (H.meaning self.now.hook) self.now.state (Same dim dart other) Truth result }
     {
-        let Some(dim) = self.dimension(dim) else {
-            return Err(Refused::Line(Refusal::BadDim));
-        };
-        let Some(dart) = self.live_dart(dart) else {
-            return Err(Refused::Line(Refusal::NoDart));
-        };
-        let Some(other) = self.live_dart(other) else {
-            return Err(Refused::Line(Refusal::NoDart));
-        };
+        let dim = self.dimension(dim)?;
+        let dart = self.live_dart(dart)?;
+        let other = self.live_dart(other)?;
         Ok(cell_walk::same(alloc, self.links(), dim, dart, other)?)
     }
 
@@ -54,12 +44,8 @@ impl<'h, K: Kind, H: Hook, const DIM: usize> Map<'h, K, H, DIM> {
     pub fn free(&self, link: u64, dart: u64) -> Result<bool, Refusal>
         ensures { AnswersAtOnce (H.meaning self.now.hook) self.now.state (Free link dart) Truth result }
     {
-        let Some(link) = self.dimension(link) else {
-            return Err(Refusal::BadDim);
-        };
-        let Some(dart) = self.live_dart(dart) else {
-            return Err(Refusal::NoDart);
-        };
+        let link = self.dimension(link)?;
+        let dart = self.live_dart(dart)?;
         Ok(self.links().is_free(dart, link))
     }
 

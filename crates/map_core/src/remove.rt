@@ -1,63 +1,58 @@
-//! Removing and contracting the cells of a generalized map.
+//! Removing and contracting cells.
 ghost use Rattle.std.specs.Prelude.{◌≡◌};
 ghost use Rattle.machine_defs.specs.Script.{Remove, Contract, Removable, Contractible};
 ghost use Rattle.machine_defs.specs.Text.{Truth};
 ghost use Rattle.map_core.specs.Calls.{Does, AnswersQuestion};
 
 use crate::map::{Done, Map};
-use alpha_edit::{contract_plan, contractible, removable, remove_plan};
 use attr_rules::Hook;
-use map_kind::{Alpha, Kind, Refusal, Refused};
+use kind_edit::Edits;
+use map_kind::Refused;
 use std::alloc::Global;
 
-impl<'h, H: Hook, const DIM: usize> Map<'h, Alpha, H, DIM> {
+impl<'h, K: Edits<DIM>, H: Hook, const DIM: usize> Map<'h, K, H, DIM> {
     /// Removes a dart's cell of a dimension: its darts end, and the cells of the next dimension that met there become one.
     /// The link of the dimension of each remaining dart that led into the cell leads to the first dart outside it, on the
-    /// walk across the cell; where that is the dart itself, the link is free. The values of the cells are carried to the
-    /// new cells. It costs the darts of the cell and the walks across it, and the cells of the darts whose links change
+    /// walk across the cell; in a generalized map the link is free where that is the dart itself. A vertex of a combinatorial
+    /// map is taken out of its edges: a remaining dart takes the links of the last dart of its run into the vertex. The values
+    /// of the cells are carried to the new cells. It costs the darts of the cell and the walks across it, and the cells of the darts whose links change
     /// where a dimension has a rule, times a logarithm.
     ///
     /// Refused as `BadDim` exactly where the dimension is above the map's, then as `NoDart` exactly where no live dart has
-    /// the number, and then as `NotRemovable` exactly where at some dart of the cell the next two links do not commute, so
-    /// that more than two cells of the next dimension meet there. A cell of the map's dimension, or of the one below, can
+    /// the number, and then as `NotRemovable` exactly where the cell cannot be removed: where at some dart of it the next two
+    /// links do not commute, so that more than two cells of the next dimension meet there, and in a combinatorial map also
+    /// where a remaining dart would be joined to itself. A cell of a generalized map's dimension, or of the one below, can
     /// always be removed.
     pub fn remove(&mut self, alloc: Global, dim: u64, dart: u64) -> Result<Done, Refused>
         requires { H.ready self.old.hook }
         ensures hook { self.new.hook ≡ self.old.hook }
         ensures does { Does (H.meaning self.old.hook) self.old.state (Remove dim dart) result self.new.state }
     {
-        let Some(dim) = self.dimension(dim) else {
-            return Err(Refused::Line(Refusal::BadDim));
-        };
-        let Some(dart) = self.live_dart(dart) else {
-            return Err(Refused::Line(Refusal::NoDart));
-        };
-        let edit = remove_plan(alloc, self.links(), dim, dart)?;
+        let dim = self.dimension(dim)?;
+        let dart = self.live_dart(dart)?;
+        let edit = K::remove_plan(alloc, self.links(), dim, dart)?;
         self.relink(alloc, &edit)?;
         Ok(Done::NONE)
     }
 
     /// Contracts a dart's cell of a dimension: its darts end, and the cells of the dimension below that it joined become
     /// one. The link of the dimension of each remaining dart that led into the cell leads to the first dart outside it, on
-    /// the walk across the cell; where that is the dart itself, the link is free. The values of the cells are carried to
-    /// the new cells. It costs the darts of the cell and the walks across it, and the cells of the darts whose links change
-    /// where a dimension has a rule, times a logarithm.
+    /// the walk across the cell; in a generalized map the link is free where that is the dart itself. The values of the
+    /// cells are carried to the new cells. It costs the darts of the cell and the walks across it, and the cells of the darts
+    /// whose links change where a dimension has a rule, times a logarithm.
     ///
     /// Refused as `BadDim` exactly where the dimension is above the map's, then as `NoDart` exactly where no live dart has
-    /// the number, and then as `NotContractible` exactly where the cell is a vertex, or is no edge and at some dart of it
-    /// the two links below do not commute. An edge can always be contracted.
+    /// the number, and then as `NotContractible` exactly where the cell cannot be contracted: where it is a vertex, or is no
+    /// edge and at some dart of it the two links below do not commute, and in a combinatorial map also where a remaining dart
+    /// would be joined to itself. An edge can always be contracted.
     pub fn contract(&mut self, alloc: Global, dim: u64, dart: u64) -> Result<Done, Refused>
         requires { H.ready self.old.hook }
         ensures hook { self.new.hook ≡ self.old.hook }
         ensures does { Does (H.meaning self.old.hook) self.old.state (Contract dim dart) result self.new.state }
     {
-        let Some(dim) = self.dimension(dim) else {
-            return Err(Refused::Line(Refusal::BadDim));
-        };
-        let Some(dart) = self.live_dart(dart) else {
-            return Err(Refused::Line(Refusal::NoDart));
-        };
-        let edit = contract_plan(alloc, self.links(), dim, dart)?;
+        let dim = self.dimension(dim)?;
+        let dart = self.live_dart(dart)?;
+        let edit = K::contract_plan(alloc, self.links(), dim, dart)?;
         self.relink(alloc, &edit)?;
         Ok(Done::NONE)
     }
@@ -70,13 +65,9 @@ impl<'h, H: Hook, const DIM: usize> Map<'h, Alpha, H, DIM> {
     pub fn removable(&self, alloc: Global, dim: u64, dart: u64) -> Result<bool, Refused>
         ensures { AnswersQuestion (H.meaning self.now.hook) self.now.state (Removable dim dart) Truth result }
     {
-        let Some(dim) = self.dimension(dim) else {
-            return Err(Refused::Line(Refusal::BadDim));
-        };
-        let Some(dart) = self.live_dart(dart) else {
-            return Err(Refused::Line(Refusal::NoDart));
-        };
-        Ok(removable(alloc, self.links(), dim, dart)?)
+        let dim = self.dimension(dim)?;
+        let dart = self.live_dart(dart)?;
+        Ok(K::removable(alloc, self.links(), dim, dart)?)
     }
 
     /// Whether a dart's cell of a dimension can be contracted: whether `contract` would not be refused as
@@ -87,12 +78,8 @@ impl<'h, H: Hook, const DIM: usize> Map<'h, Alpha, H, DIM> {
     pub fn contractible(&self, alloc: Global, dim: u64, dart: u64) -> Result<bool, Refused>
         ensures { AnswersQuestion (H.meaning self.now.hook) self.now.state (Contractible dim dart) Truth result }
     {
-        let Some(dim) = self.dimension(dim) else {
-            return Err(Refused::Line(Refusal::BadDim));
-        };
-        let Some(dart) = self.live_dart(dart) else {
-            return Err(Refused::Line(Refusal::NoDart));
-        };
-        Ok(contractible(alloc, self.links(), dim, dart)?)
+        let dim = self.dimension(dim)?;
+        let dart = self.live_dart(dart)?;
+        Ok(K::contractible(alloc, self.links(), dim, dart)?)
     }
 }

@@ -1,9 +1,9 @@
 //! Sewing and unsewing.
-ghost use Rattle.std.specs.Prelude.{◌≡◌, ℕ, ◌≤◌, ◌<◌, ◌⊎◌, ◌↔◌, IsNone, IfSome};
-ghost use Rattle.map_defs.specs.Kind.{beta};
+ghost use Rattle.std.specs.Prelude.{◌≡◌};
 ghost use Rattle.machine_defs.specs.Script.{Sew, Unsew, Sewable};
 ghost use Rattle.machine_defs.specs.Text.{Truth};
 ghost use Rattle.map_core.specs.Calls.{Does, AnswersQuestion};
+ghost use Rattle.map_core.specs.Numbers.{NamesSewingLink};
 
 use crate::map::{Done, Map};
 use attr_rules::Hook;
@@ -26,15 +26,9 @@ impl<'h, K: Kind, H: Hook, const DIM: usize> Map<'h, K, H, DIM> {
         ensures hook { self.new.hook ≡ self.old.hook }
         ensures does { Does (H.meaning self.old.hook) self.old.state (Sew link dart other) result self.new.state }
     {
-        let Some(link) = sewing_link(self.links(), link) else {
-            return Err(Refused::Line(Refusal::BadDim));
-        };
-        let Some(dart) = self.live_dart(dart) else {
-            return Err(Refused::Line(Refusal::NoDart));
-        };
-        let Some(other) = self.live_dart(other) else {
-            return Err(Refused::Line(Refusal::NoDart));
-        };
+        let link = sewing_link(self.links(), link)?;
+        let dart = self.live_dart(dart)?;
+        let other = self.live_dart(other)?;
         let edit = sew_plan(alloc, self.links(), link, dart, other)?;
         self.relink(alloc, &edit)?;
         Ok(Done::NONE)
@@ -52,12 +46,8 @@ impl<'h, K: Kind, H: Hook, const DIM: usize> Map<'h, K, H, DIM> {
         ensures hook { self.new.hook ≡ self.old.hook }
         ensures does { Does (H.meaning self.old.hook) self.old.state (Unsew link dart) result self.new.state }
     {
-        let Some(link) = sewing_link(self.links(), link) else {
-            return Err(Refused::Line(Refusal::BadDim));
-        };
-        let Some(dart) = self.live_dart(dart) else {
-            return Err(Refused::Line(Refusal::NoDart));
-        };
+        let link = sewing_link(self.links(), link)?;
+        let dart = self.live_dart(dart)?;
         let edit = unsew_plan(alloc, self.links(), link, dart)?;
         self.relink(alloc, &edit)?;
         Ok(Done::NONE)
@@ -71,30 +61,26 @@ impl<'h, K: Kind, H: Hook, const DIM: usize> Map<'h, K, H, DIM> {
     pub fn sewable(&self, alloc: Global, link: u64, dart: u64, other: u64) -> Result<bool, Refused>
         ensures { AnswersQuestion (H.meaning self.now.hook) self.now.state (Sewable link dart other) Truth result }
     {
-        let Some(link) = sewing_link(self.links(), link) else {
-            return Err(Refused::Line(Refusal::BadDim));
-        };
-        let Some(dart) = self.live_dart(dart) else {
-            return Err(Refused::Line(Refusal::NoDart));
-        };
-        let Some(other) = self.live_dart(other) else {
-            return Err(Refused::Line(Refusal::NoDart));
-        };
+        let link = sewing_link(self.links(), link)?;
+        let dart = self.live_dart(dart)?;
+        let other = self.live_dart(other)?;
         Ok(sewable(alloc, self.links(), link, dart, other)?)
     }
 }
 
-/// The link of this number; none exactly where it cannot be sewn: it is above the map's dimension, or is link 0 of a
-/// combinatorial map, which follows link 1.
-fn sewing_link<K: Kind, const DIM: usize>(links: &Links<K, DIM>, number: u64) -> Option<usize>
-    ensures none { IsNone result ↔ ((DIM < number) ⊎ ((K.kind ≡ beta) × (number ≡ 0))) }
-    ensures same { IfSome result (λ link. link ≡ number) }
+/// The link of this number. `BadDim` comes exactly where no darts can be sewn at it: it is above the map's dimension, or is
+/// link 0 of a combinatorial map, which follows link 1.
+fn sewing_link<K: Kind, const DIM: usize>(
+    links: &Links<K, DIM>,
+    number: u64,
+) -> Result<usize, Refusal>
+    ensures { NamesSewingLink K.kind DIM number result }
 {
     if number > links.dimension() as u64 {
-        return None;
+        return Err(Refusal::BadDim);
     }
     if number == 0 && K::inverse(0) != 0 {
-        return None;
+        return Err(Refusal::BadDim);
     }
-    Some(number as usize)
+    Ok(number as usize)
 }

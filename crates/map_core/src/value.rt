@@ -30,9 +30,7 @@ impl<'h, K: Kind, H: Hook, const DIM: usize> Map<'h, K, H, DIM> {
         ensures hook { self.new.hook ≡ self.old.hook }
         ensures does { Does (H.meaning self.old.hook) self.old.state (SetRule dim merge.now split.now) result self.new.state }
     {
-        let Some(dim) = self.dimension(dim) else {
-            return Err(Refused::Line(Refusal::BadDim));
-        };
+        let dim = self.dimension(dim)?;
         let Some(merge) = merge_named(merge) else {
             return Err(Refused::Line(Refusal::NoRule));
         };
@@ -52,13 +50,9 @@ impl<'h, K: Kind, H: Hook, const DIM: usize> Map<'h, K, H, DIM> {
         ensures hook { self.new.hook ≡ self.old.hook }
         ensures does { Does (H.meaning self.old.hook) self.old.state (Set dim dart value) result self.new.state }
     {
-        let Some(dim) = self.dimension(dim) else {
-            return Err(Refused::Line(Refusal::BadDim));
-        };
-        let Some(dart) = self.live_dart(dart) else {
-            return Err(Refused::Line(Refusal::NoDart));
-        };
-        if self.present.rule(dim).is_none() {
+        let dim = self.dimension(dim)?;
+        let dart = self.live_dart(dart)?;
+        if !has_rule(&self.rules, dim) {
             return Err(Refused::Line(Refusal::NoRule));
         }
         self.set_value(alloc, dim, dart, Some(value))?;
@@ -74,13 +68,9 @@ impl<'h, K: Kind, H: Hook, const DIM: usize> Map<'h, K, H, DIM> {
         ensures hook { self.new.hook ≡ self.old.hook }
         ensures does { Does (H.meaning self.old.hook) self.old.state (Clear dim dart) result self.new.state }
     {
-        let Some(dim) = self.dimension(dim) else {
-            return Err(Refused::Line(Refusal::BadDim));
-        };
-        let Some(dart) = self.live_dart(dart) else {
-            return Err(Refused::Line(Refusal::NoDart));
-        };
-        if self.present.rule(dim).is_none() {
+        let dim = self.dimension(dim)?;
+        let dart = self.live_dart(dart)?;
+        if !has_rule(&self.rules, dim) {
             return Err(Refused::Line(Refusal::NoRule));
         }
         self.set_value(alloc, dim, dart, None)?;
@@ -94,13 +84,9 @@ impl<'h, K: Kind, H: Hook, const DIM: usize> Map<'h, K, H, DIM> {
     pub fn value(&self, dim: u64, dart: u64) -> Result<Option<Value>, Refusal>
         ensures { AnswersAtOnce (H.meaning self.now.hook) self.now.state (AskValue dim dart) CellValue result }
     {
-        let Some(dim) = self.dimension(dim) else {
-            return Err(Refusal::BadDim);
-        };
-        let Some(dart) = self.live_dart(dart) else {
-            return Err(Refusal::NoDart);
-        };
-        Ok(self.present.value(dim, dart))
+        let dim = self.dimension(dim)?;
+        let dart = self.live_dart(dart)?;
+        Ok(stored_value(&self.labels, &self.pool, dim, dart))
     }
 
     /// Gives a dimension a rule. All memory is taken before anything changes.

@@ -11,17 +11,17 @@ ghost use Rattle.map_run.specs.Writing.{AnswersLine, Says};
 use crate::answer::{Answer, cell_value, counts, darts, done, logged, told, truth};
 use crate::reply;
 use attr_rules::Hook;
-use map_core::{Done, Map};
+use map_core::{Done, Edits, Map};
 use map_io::{PutFault, Sink};
-use map_kind::{Alpha, Refusal, Refused};
+use map_kind::{Refusal, Refused};
 use script_text::{Change, Line, Question, Reply, read_line};
 use std::alloc::{AllocError, Global};
 
 /// Obeys one line, writes its reply, and answers whether it was refused.
-pub fn obey_line<H: Hook, const DIM: usize, S: Sink>(
+pub fn obey_line<K: Edits<DIM>, H: Hook, const DIM: usize, S: Sink>(
     alloc: Global,
     line: &[u8],
-    map: &mut Map<'_, Alpha, H, DIM>,
+    map: &mut Map<'_, K, H, DIM>,
     out: &mut S,
 ) -> Result<bool, PutFault>
     requires { H.ready map.old.hook }
@@ -58,10 +58,10 @@ fn say<S: Sink>(
 }
 
 /// Has the map obey a line that changes it, and answers what it made.
-fn change<H: Hook, const DIM: usize>(
+fn change<K: Edits<DIM>, H: Hook, const DIM: usize>(
     alloc: Global,
     line: &Change,
-    map: &mut Map<'_, Alpha, H, DIM>,
+    map: &mut Map<'_, K, H, DIM>,
 ) -> Result<Done, Refused>
     requires ready { H.ready map.old.hook }
     requires told { IsTold line.now }
@@ -89,10 +89,10 @@ fn change<H: Hook, const DIM: usize>(
 }
 
 /// Has the map answer a line that asks; the steps of a log are lent.
-fn ask<'a, H: Hook, const DIM: usize>(
+fn ask<'a, K: Edits<DIM>, H: Hook, const DIM: usize>(
     alloc: Global,
     line: &Question,
-    map: &'a Map<'_, Alpha, H, DIM>,
+    map: &'a Map<'_, K, H, DIM>,
 ) -> Result<Answer<'a>, AllocError>
     ensures { IfOk result (λ answer. Step (H.meaning map.now.hook) map.now.state (question_meaning line.now) (answer_meaning answer) map.now.state) }
 {

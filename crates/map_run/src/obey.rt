@@ -1,6 +1,5 @@
 //! A script, obeyed from the map of a mesh or from the empty map.
 ghost use Rattle.std.specs.Prelude.{◌≡◌, ℕ, ◌≤◌, ◌||◌, List, Some, IfOk, IfErr, IsErrOf};
-ghost use Rattle.map_defs.specs.Kind.{alpha};
 ghost use Rattle.machine_defs.specs.Outside.{Rose};
 ghost use Rattle.map_io.specs.Cause.{HasCause};
 ghost use Rattle.map_run.specs.Going.{ObeysScript};
@@ -14,14 +13,14 @@ use crate::files::Texts;
 use crate::mesh::{LoadFault, load_mesh, refuse_mesh};
 use crate::{machine, script};
 use attr_rules::Hook;
-use map_core::Map;
+use map_core::{Edits, Map};
 use map_io::{PutFault, Sink};
-use map_kind::{Alpha, Kind};
+use map_kind::Kind;
 use std::alloc::Global;
 
-/// Obeys a script from the generalized map of a dimension that a mesh makes, or else from the empty one, writes the replies
-/// or the line that refuses the mesh, and answers the status.
-pub fn obey_in_dimension<S: Sink, H: Hook>(
+/// Obeys a script from the map of a kind and a dimension that a mesh makes, or else from the empty one, writes the replies or
+/// the line that refuses the mesh, and answers the status.
+pub fn obey_in_dimension<K: Edits<2> + Edits<3> + Edits<4>, S: Sink, H: Hook>(
     alloc: Global,
     dimension: Dimension,
     texts: &Texts,
@@ -30,20 +29,20 @@ pub fn obey_in_dimension<S: Sink, H: Hook>(
 ) -> u8
     requires ready { H.ready hook.now }
     requires short { AreShort texts.now }
-    ensures ends { EndsTexts (H.meaning hook.now) alpha (number dimension) (mesh_bytes texts.now.mesh) texts.now.script.items
+    ensures ends { EndsTexts (H.meaning hook.now) K.kind (number dimension) (mesh_bytes texts.now.mesh) texts.now.script.items
         (Rose (S.faults out.old) (S.faults out.new)) (S.written out.old) (S.written out.new) result }
     ensures unwritten { result ≡ 6 → Rose (S.faults out.old) (S.faults out.new) }
     ensures later { S.faults out.old ≤ S.faults out.new }
 {
     match dimension {
-        Dimension::Two => obey_texts::<H, 2, S>(alloc, texts, out, hook),
-        Dimension::Three => obey_texts::<H, 3, S>(alloc, texts, out, hook),
-        Dimension::Four => obey_texts::<H, 4, S>(alloc, texts, out, hook),
+        Dimension::Two => obey_texts::<K, H, 2, S>(alloc, texts, out, hook),
+        Dimension::Three => obey_texts::<K, H, 3, S>(alloc, texts, out, hook),
+        Dimension::Four => obey_texts::<K, H, 4, S>(alloc, texts, out, hook),
     }
 }
 
 /// The same, in one dimension.
-fn obey_texts<H: Hook, const DIM: usize, S: Sink>(
+fn obey_texts<K: Edits<DIM>, H: Hook, const DIM: usize, S: Sink>(
     alloc: Global,
     texts: &Texts,
     out: &mut S,
@@ -53,12 +52,12 @@ fn obey_texts<H: Hook, const DIM: usize, S: Sink>(
     requires low { 2 ≤ DIM }
     requires high { DIM ≤ 8 }
     requires short { AreShort texts.now }
-    ensures ends { EndsTexts (H.meaning hook.now) alpha DIM (mesh_bytes texts.now.mesh) texts.now.script.items
+    ensures ends { EndsTexts (H.meaning hook.now) K.kind DIM (mesh_bytes texts.now.mesh) texts.now.script.items
         (Rose (S.faults out.old) (S.faults out.new)) (S.written out.old) (S.written out.new) result }
     ensures unwritten { result ≡ 6 → Rose (S.faults out.old) (S.faults out.new) }
     ensures later { S.faults out.old ≤ S.faults out.new }
 {
-    match first_map::<Alpha, H, DIM>(alloc, texts, hook) {
+    match first_map::<K, H, DIM>(alloc, texts, hook) {
         Ok(map) => script_status(obey_script(alloc, map, &texts.script, out)),
         Err(fault) => refuse_mesh(alloc, out, fault),
     }
@@ -88,9 +87,9 @@ fn first_map<'h, K: Kind, H: Hook, const DIM: usize>(
 }
 
 /// Obeys a script from a map, writes the replies, and answers whether some line was refused.
-fn obey_script<H: Hook, const DIM: usize, S: Sink>(
+fn obey_script<K: Edits<DIM>, H: Hook, const DIM: usize, S: Sink>(
     alloc: Global,
-    map: Map<'_, Alpha, H, DIM>,
+    map: Map<'_, K, H, DIM>,
     script: &[u8],
     out: &mut S,
 ) -> Result<bool, PutFault>

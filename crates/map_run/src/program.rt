@@ -11,6 +11,7 @@ use crate::last::write_last;
 use crate::obey::obey_in_dimension;
 use attr_rules::Hook;
 use map_io::{FetchFault, Shelf, Sink};
+use map_kind::Alpha;
 use std::alloc::Global;
 
 /// Fetches the files of the command, obeys the script and writes the replies; or writes the line that says why a file was
@@ -35,7 +36,10 @@ fn run_script<F: Shelf, S: Sink, H: Hook>(
     ensures later { S.faults out.old ≤ S.faults out.new }
 {
     match fetch_texts(alloc, command, shelf) {
-        Ok(texts) => obey_in_dimension(alloc, command.dimension, &texts, out, hook),
+        // The command offers generalized maps alone.
+        Ok(texts) => {
+            obey_in_dimension::<Alpha, S, H>(alloc, command.dimension, &texts, out, hook)
+        }
         Err(FetchFault::Failed) => write_last(out, b"cannot read\n", 5),
         Err(FetchFault::TooLong { .. }) => write_last(out, b"too long\n", 4),
         Err(FetchFault::NoMemory) => 7,

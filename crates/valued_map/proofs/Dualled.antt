@@ -1,7 +1,9 @@
 -- What the dual makes of a map with values, and the step that is told.
-use Rattle.std.proofs.Common.{◌≡◌, ◌≢◌, ℕ, ◌+◌, ◌-◌, ◌<◌, ◌≤◌, ◌⊎◌, ◌↔◌, Bool, false, List, [], length, reverse, IsTrue, Option, None, is_some, refl, sym, ap, ◌∙◌, inl, inr, arith, Contains}
+use Rattle.std.proofs.Common.{◌≡◌, ◌≢◌, ℕ, ◌+◌, ◌-◌, ◌<◌, ◌≤◌, ◌⊎◌, ◌↔◌, Bool, false, List, [], length, reverse, IsTrue, Option, None, Err, is_some, refl, sym, ap, ◌∙◌, inl, inr, arith, Contains}
 use Rattle.std.proofs.lemmas.Bool.{cases_eq, cases_lt, false≢true}
 use Rattle.std.proofs.lemmas.List.{get_or_past, length-reverse}
+use Rattle.map_kind.specs.declared.refusal.Refused.{Refused}
+use Rattle.map_kind.specs.declared.refusal.Refused.TheVariants as why
 use Rattle.map_defs.specs.Kind.{Kind}
 use Rattle.map_defs.specs.Laws.{Laws}
 use Rattle.map_defs.specs.Rows.{Rows, IsLive, IsSound, row_at, links_of, made, made_max}
@@ -25,11 +27,24 @@ use Rattle.label_laws.specs.Maps.{IsStoredMap}
 use Rattle.label_laws.specs.Turning.{AreTurned}
 use Rattle.label_laws.proofs.Showing.{value-shown, places-shown, kept-shown, rule-shown, rules-long, value-low}
 use Rattle.label_laws.proofs.DualLabels.{stored-turned, shown-turned}
+use Rattle.kind_edit.specs.Turning.{TakesDual}
+use Rattle.valued_map.specs.TakingDual.{BecomesDual}
 use Rattle.valued_map.specs.Told.{IsStep, IsBegun, IsSorted, finished, step_of, AreDiffering, AreRuleChanges, IsPlaceBelow, turned_value}
 use Rattle.valued_map.proofs.Parts.{parts-differ, told-finished}
 use Rattle.valued_map.proofs.SortedEdit.{sorted-difference}
 use Rattle.valued_map.proofs.ListedValues.{values-differ}
 use Rattle.valued_map.proofs.Edited.{edit-follows}
+
+-- where the dual is not made, the rows are as they were
+pub dual-unmade : (k : Kind) (n : ℕ) (old new : Rows) (r : Refused) → TakesDual k n old new (Err r) → new ≡ old
+dual-unmade k n old new (why.Line refusal) taken = taken.2
+dual-unmade k n old new why.NoMemory taken = taken
+
+-- and so is the map with its values
+pub dual-untold : (k : Kind) (n : ℕ) (old new : Rows) (l : Labeling) (p : Store) (rules : List (Option Rule)) (r : Refused) → TakesDual k n old new (Err r)
+    → BecomesDual (content_of k n old l p rules) (content_of k n new l p rules) (Err r)
+dual-untold k n old new l p rules (why.Line refusal) taken = (taken.0, taken.1, ap (λ (rows : Rows). content_of k n rows l p rules) taken.2)
+dual-untold k n old new l p rules why.NoMemory taken = ap (λ (rows : Rows). content_of k n rows l p rules) taken
 
 -- the rows after an edit by which no dart is born and none ends
 module _ (k : Kind) (n : ℕ) (rows : Rows) (edit : Edit) (begun : 0 < length rows) (sound : IsSound k n rows) (fits : Fits k n rows edit) (births : edit.births ≡ 0) (deaths : edit.deaths ≡ []) where

@@ -3,3 +3,4 @@ pub mod Placed
 pub mod Undoing
 pub mod Made
 pub mod Told
+pub mod TakingDual

@@ -8,6 +8,7 @@ ghost use Rattle.machine_defs.specs.Dualling.{IsDualOf};
 ghost use Rattle.label_laws.specs.Turning.{AreTurned};
 ghost use Rattle.store_defs.specs.Groups.{rule_at};
 ghost use Rattle.label_laws.specs.Stored.{stored_value};
+ghost use Rattle.valued_map.specs.TakingDual.{BecomesDual};
 ghost use Rattle.valued_map.specs.Told.{AreDiffering, AreRuleChanges, IsValueAdded, IsRuleAdded, IsPlaceBelow, turned_value, IsStep};
 
 use crate::ids::stored_value;
@@ -15,34 +16,24 @@ use crate::map::ValuedMap;
 use crate::rules::rule_of;
 use crate::told::{begin_step, finish_step};
 use attr_pool::{Labels, Pool};
-use dual_map::take_dual;
+use kind_edit::Edits;
 use link_rows::{Edit, MADE_MAX};
-use map_kind::{Alpha, Dart, Kind, Refusal};
+use map_kind::{Dart, Kind, Refused};
 use std::alloc::{AllocError, Global};
 use transport::RuleRow;
 use undo_journal::{RuleChange, Step, ValueChange};
 
-impl<const DIM: usize> ValuedMap<Alpha, DIM> {
-    /// Makes a generalized map its dual, in place: the darts stay, link i of each becomes its link `DIM - i`, and values
-    /// and rules go with their cells. `Boundary` comes exactly where the map has no dual. It takes no memory, and costs a few
-    /// steps for each link of the darts that were made.
-    pub fn take_dual(&mut self) -> Result<(), Refusal>
-        ensures dualable { OnOk result (IsDualable self.old.kind self.old.dim (links_of self.old.rows) (IsLive self.old.rows)) }
-        ensures dual { OnOk result (IsDualOf self.old self.new) }
-        ensures step { OnOk result (IsStep false self.old self.new None) }
-        ensures boundary { IsErrOf result Refusal.Boundary
-            ↔ (IsDualable self.old.kind self.old.dim (links_of self.old.rows) (IsLive self.old.rows) → ⊥) }
-        ensures refusal { IfErr result (λ refusal. refusal ≡ Refusal.Boundary) }
-        ensures err { OnErr result (self.new ≡ self.old) }
+impl<K: Edits<DIM>, const DIM: usize> ValuedMap<K, DIM> {
+    /// Makes the map its dual: the darts stay, and values and rules go with their cells. `Boundary` comes exactly where the
+    /// map has no dual, memory aside. It takes the memory that the kind's own `take_dual` takes, none in a generalized map,
+    /// and costs a few steps for each link of the darts that were made. A refusal leaves the map as it was.
+    pub fn take_dual(&mut self, alloc: Global) -> Result<(), Refused>
+        ensures { BecomesDual self.old self.new result }
     {
-        match take_dual(&mut self.links) {
-            Ok(()) => {
-                turn_labels(&mut self.labels);
-                turn_rules(&mut self.rules);
-                Ok(())
-            }
-            Err(refusal) => Err(refusal),
-        }
+        K::take_dual(alloc, &mut self.links)?;
+        turn_labels(&mut self.labels);
+        turn_rules(&mut self.rules);
+        Ok(())
     }
 }
 

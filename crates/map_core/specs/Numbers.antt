@@ -1,0 +1,22 @@
+-- What the numbers of a line name.
+use Rattle.std.specs.Prelude.{ℕ, ◌≡◌, ◌<◌, ◌≤◌, ◌⊎◌, Result, Ok, Err}
+use Rattle.map_kind.specs.declared.refusal.Refusal.{Refusal}
+use Rattle.map_kind.specs.declared.refusal.Refusal.TheVariants as told
+use Rattle.map_defs.specs.Kind.{Kind, beta}
+use Rattle.map_defs.specs.Rows.{Rows, IsLive}
+
+-- the live dart of a number, or no live dart has it
+abbrev pub NamesDart : Rows → ℕ → Result ℕ Refusal → Type 0
+NamesDart rows number (Ok dart) = (dart ≡ number) × IsLive rows number
+NamesDart rows number (Err refusal) = (refusal ≡ told.NoDart) × (IsLive rows number → ⊥)
+
+-- the dimension or the link of a number, or it is above the map's dimension
+abbrev pub NamesDimension : ℕ → ℕ → Result ℕ Refusal → Type 0
+NamesDimension n number (Ok dim) = (dim ≡ number) × (number ≤ n)
+NamesDimension n number (Err refusal) = (refusal ≡ told.BadDim) × (n < number)
+
+-- the link of a number at which darts can be sewn, or it is above the map's dimension, or link 0 of a combinatorial map,
+-- which follows link 1
+abbrev pub NamesSewingLink : Kind → ℕ → ℕ → Result ℕ Refusal → Type 0
+NamesSewingLink k n number (Ok link) = (link ≡ number) × (((n < number) ⊎ ((k ≡ beta) × (number ≡ 0))) → ⊥)
+NamesSewingLink k n number (Err refusal) = (refusal ≡ told.BadDim) × ((n < number) ⊎ ((k ≡ beta) × (number ≡ 0)))
