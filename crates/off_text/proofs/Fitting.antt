@@ -1,14 +1,13 @@
 -- The faces of a mesh that is read are faces of its points.
-use Rattle.std.proofs.Common.{◌≡◌, ℕ, zero, suc, ◌+◌, ◌-◌, ◌^◌, ◌<◌, ◌≤◌, nat_lt, nat_le, Bool, true, false, cond, ◌&&◌, List, [], ◌∷◌, length, get_or, take, map, Result, Ok, Err, refl, sym, ap, subst, ◌∙◌, arith}
+use Rattle.std.proofs.Common.{◌≡◌, ℕ, zero, suc, ◌^◌, ◌<◌, ◌≤◌, nat_lt, nat_le, Bool, true, false, cond, ◌&&◌, List, [], ◌∷◌, length, get_or, take, map, Result, Ok, Err, refl, sym, ap, subst, ◌∙◌, arith}
 use Rattle.std.specs.Prelude.{All, IfOk, codes}
 use Rattle.std.specs.Str.{bytes_eq}
 use Rattle.std.specs.List.{list_all}
 use Rattle.std.proofs.lemmas.Bool.{and_parts, ltb-true, ltb-false, leb-true}
 use Rattle.std.proofs.lemmas.List.{length-map, length-take}
 use Rattle.std.proofs.lemmas.List.Elements.{All-nil, All-cons}
-use Rattle.map_defs.specs.Values.{Value}
 use Rattle.map_defs.specs.TextWords.{value_of}
-use Rattle.map_defs.specs.Off.{What, TextFault, Short, BadIndex, BadFace, BadCounts, ◌>>=◌, Left, Row, Mesh, Counts, next, on_line, bad, line_read, is_natural, is_below, three, counts, counts_of, counts_behind, header, corners, is_side_count, face, point, many, ended, checked, mesh_left, mesh_of, left_of, lines_of, NoHeader, HasFaces}
+use Rattle.map_defs.specs.Off.{What, TextFault, Short, BadIndex, BadFace, BadCounts, ◌>>=◌, Left, Row, Mesh, Counts, next, on_line, line_read, is_natural, is_below, three, counts, counts_of, counts_behind, header, corners, is_side_count, face, point, many, ended, checked, mesh_left, mesh_of, left_of, lines_of, NoHeader, HasFaces}
 use Rattle.off_text.specs.declared.mesh.Mesh as told
 use Rattle.off_text.specs.declared.fault.OffFault.{OffFault}
 use Rattle.off_text.specs.Meanings.{mesh_view, Gives}

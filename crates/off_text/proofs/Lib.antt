@@ -1,4 +1,3 @@
-pub mod FirstPlaces
 pub mod Cuts
 pub mod Counted
 pub mod Corners

@@ -1,7 +1,6 @@
 -- What the meshes and the faults of the code stand for.
 use Rattle.std.specs.Prelude.{ℕ, ◌≡◌, List, map, Vec, Result, Ok, Err}
 use Rattle.std.specs.declared.alloc.Global.{Global}
-use Rattle.map_defs.specs.Values.{Value}
 use Rattle.map_defs.specs.Off as off
 use Rattle.off_text.specs.declared.mesh.Mesh.{Mesh}
 use Rattle.off_text.specs.declared.fault.OffWhat.{OffWhat}

@@ -1,11 +1,11 @@
 -- Rows and cursors as the rows that are left.
-use Rattle.std.specs.Prelude.{ℕ, ◌≡◌, ◌+◌, ◌-◌, ◌<◌, ◌^◌, List, [], ◌∷◌, Result, Ok, Err}
+use Rattle.std.specs.Prelude.{ℕ, ◌≡◌, ◌-◌, ◌<◌, ◌^◌, List, [], ◌∷◌, Result, Ok, Err}
 use Rattle.std.specs.Borrow.{Bor}
 use Rattle.map_defs.specs.Off as off
 use Rattle.off_text.specs.declared.cursor.Row.{Row}
 use Rattle.off_text.specs.declared.cursor.Cursor.{Cursor}
 use Rattle.off_text.specs.declared.read.Counts.{Counts}
-use Rattle.off_text.specs.Reading.{words_in}
+use Rattle.text_words.specs.Taking.{words_in}
 
 abbrev pub row_view : Row → off.Row
 row_view row = record { line = row.line; first = row.first.now; others = words_in row.others.now }

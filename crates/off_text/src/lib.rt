@@ -9,8 +9,7 @@ mod read;
 mod rows;
 #[cfg(test)]
 mod tests;
-mod word;
 
 pub use fault::{OffFault, OffWhat};
 pub use mesh::Mesh;
-pub use read::read_off;
+pub use read::{CORNERS_MAX, TEXT_MAX, read_off};

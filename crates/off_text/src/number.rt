@@ -1,5 +1,5 @@
 //! The numbers that words write.
-ghost use Rattle.std.specs.Prelude.{◌≡◌, ◌==◌, ℕ, pos, neg_ℤ, ◌+◌, ◌*◌, ◌^◌, ◌<◌, ◌≤◌, min, Some, None, option_map, IsTrue, length, if◌then◌else◌};
+ghost use Rattle.std.specs.Prelude.{◌≡◌, ◌==◌, pos, neg_ℤ, ◌+◌, ◌*◌, ◌^◌, ◌<◌, ◌≤◌, min, Some, None, option_map, IsTrue, length, if◌then◌else◌};
 ghost use Rattle.std.specs.List.{list_all, position_or_len};
 ghost use Rattle.std.specs.Char.{is_ascii_digit};
 ghost use Rattle.map_defs.specs.TextWords.{value_of};
@@ -7,22 +7,17 @@ ghost use Rattle.map_defs.specs.Off.{is_natural, is_below, is_point, magnitude, 
 ghost use Rattle.off_text.specs.Meanings.{Finds};
 
 use crate::OffWhat;
+use text_words::is_digits;
 
 /// The natural number that a word writes, or `u64::MAX` where it is greater; none exactly where the word is not one or more
 /// digits.
 pub fn read_natural(word: &[u8]) -> Option<u64>
     ensures { result ≡ (if is_natural word.now then Some (min (value_of word.now) u64.MAX) else None) }
 {
-    if word.is_empty() || !are_digits(word) {
+    if word.is_empty() || !is_digits(word) {
         return None;
     }
     Some(capped_value(word))
-}
-
-fn are_digits(word: &[u8]) -> bool
-    ensures { result ≡ list_all is_ascii_digit word.now }
-{
-    word.iter().all(|byte| byte.is_ascii_digit())
 }
 
 /// The number of a word of digits, or `u64::MAX` where it is greater.

@@ -1,18 +1,25 @@
 //! The mesh that a text tells.
-ghost use Rattle.std.specs.Prelude.{◌≡◌, ℕ, ◌+◌, ◌-◌, ◌≤◌, ◌<◌, ◌^◌, length, nat_lt, Ok, Some, None, option_map, IfOk, if◌then◌else◌};
+ghost use Rattle.std.specs.Prelude.{◌≡◌, ◌+◌, ◌-◌, ◌≤◌, ◌<◌, length, nat_lt, Ok, Some, None, IfOk, if◌then◌else◌};
 ghost use Rattle.map_defs.specs.Off.{three, counts, counts_behind, header, on_line, line_read, point, face, corners, many, ended, mesh_left, mesh_of, HasFaces, is_side_count, Short, BadIndex};
 ghost use Rattle.map_defs.specs.TextWords.{value_of};
 ghost use Rattle.off_text.specs.Meanings.{meaning, mesh_view, items_of, faces_view, Gives, Finds};
-ghost use Rattle.off_text.specs.Reading.{words_in, corner_of, pushed};
+ghost use Rattle.text_words.specs.Taking.{words_in};
+ghost use Rattle.off_text.specs.Reading.{corner_of, pushed};
 ghost use Rattle.off_text.specs.Views.{row_view, cursor_view, counts_view, words_view};
 
 use crate::cursor::{Cursor, Row};
 use crate::number::{read_below, read_coordinate, read_count};
 use crate::rows::{check_text, next, next_row};
-use crate::word::take_word;
 use crate::{Mesh, OffFault, OffWhat};
 use map_kind::Value;
 use std::alloc::Global;
+use text_words::take_word;
+
+/// How many bytes a text has at most.
+pub const TEXT_MAX: u64 = 16_777_216;
+
+/// How many corners a face has at most.
+pub const CORNERS_MAX: u32 = 65_536;
 
 /// How many points and faces follow.
 #[derive(Clone, Copy)]
@@ -29,7 +36,7 @@ pub(crate) struct Counts {
 /// points, of three coordinates each, and then the faces, each with the number of its corners, its corners, and colours,
 /// which are not read.
 pub fn read_off(alloc: Global, bytes: &[u8]) -> Result<Mesh, OffFault>
-    requires { length bytes.now ≤ 16777216 }
+    requires { length bytes.now ≤ TEXT_MAX }
     // A mesh is the one that the text tells, and a fault is the first one of the text.
     ensures exact { Gives mesh_view result (mesh_of bytes.now) }
     // Faces have 3 to 65,536 corners, which are places of points.
@@ -244,7 +251,7 @@ fn read_face(alloc: Global, points: u32, row: Row) -> Result<Vec<u32>, OffFault>
 fn read_side_count(word: &[u8]) -> Option<u32>
     ensures { result ≡ (if is_side_count word.now then Some (value_of word.now) else None) }
 {
-    let count = read_below(65537, word)?;
+    let count = read_below(CORNERS_MAX + 1, word)?;
     if count < 3 {
         return None;
     }

@@ -1,5 +1,5 @@
 //! The rows of a text: its lines that have words, one after the other.
-ghost use Rattle.std.specs.Prelude.{◌≡◌, ℕ, ◌+◌, ◌-◌, ◌≤◌, ◌<◌, ◌^◌, ◌∷◌, length};
+ghost use Rattle.std.specs.Prelude.{◌≡◌, ◌+◌, ◌-◌, ◌≤◌, ◌<◌, ◌∷◌, length};
 ghost use Rattle.std.specs.List.{position_or_len};
 ghost use Rattle.map_defs.specs.Off.{lines_of, next, checked};
 ghost use Rattle.off_text.specs.Meanings.{meaning, Gives};
@@ -7,8 +7,8 @@ ghost use Rattle.off_text.specs.Reading.{is_line_feed};
 ghost use Rattle.off_text.specs.Views.{row_view, cursor_view, IsNext};
 
 use crate::cursor::{Cursor, Row};
-use crate::word::{are_text, is_text, take_word, without_comment};
 use crate::{OffFault, OffWhat};
+use text_words::{are_text, is_text, take_word, without_comment};
 
 /// The next row, and what is left behind it. Where the text ends, `missing` is the fault, on the line behind the last.
 pub fn next(cursor: Cursor, missing: OffWhat) -> Result<(Row, Cursor), OffFault>

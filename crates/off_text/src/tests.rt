@@ -1,7 +1,7 @@
 //! What no clause says: that texts are read where memory is there, and that the grammar is as meant.
 ghost use Rattle.std.specs.Prelude.{◌≤◌, length};
 
-use crate::{OffFault, OffWhat, read_off};
+use crate::{OffFault, OffWhat, TEXT_MAX, read_off};
 use map_kind::Value;
 use std::alloc::Global;
 use std::test::Fail;
@@ -33,7 +33,7 @@ fn at(a: i64, b: i64, c: i64) -> Value {
 }
 
 fn fault_of(alloc: Global, text: &[u8]) -> Option<(u32, OffWhat)>
-    requires { length text.now ≤ 16777216 }
+    requires { length text.now ≤ TEXT_MAX }
 {
     match read_off(alloc, text) {
         Err(OffFault::Bad { line, what }) => Some((line, what)),

@@ -9,7 +9,7 @@ mod reply;
 mod tests;
 mod word;
 
-pub use line::{Change, Line, Question};
+pub use line::{Change, Line, PATH_MAX, Question};
 pub use log::{
     append_born, append_dead, append_link_change, append_log_end, append_log_header,
     append_rule_change, append_step_line, append_value_change, log_text,

@@ -1,6 +1,9 @@
 //! What a line of a script tells, as plain data.
 use map_kind::Value;
 
+/// How many darts the path of a face has at most.
+pub const PATH_MAX: usize = 4096;
+
 /// A line of a script: it changes the map, or it asks something of it.
 #[derive(Debug, PartialEq, Eq, Drop)]
 pub enum Line {
@@ -30,7 +33,7 @@ pub enum Change {
     Vertex(u64),
     /// `edge d e`: insert an edge between the corners of two darts.
     Edge(u64, u64),
-    /// `face d1 d2 ..`: insert a face along a path of 1 to 4096 darts.
+    /// `face d1 d2 ..`: insert a face along a path of 1 to `PATH_MAX` darts.
     Face(Vec<u64>),
     /// `remove i d`: remove the i-cell of a dart.
     Remove(u64, u64),

@@ -1,17 +1,18 @@
 //! What a line tells.
-ghost use Rattle.std.specs.Prelude.{◌≡◌, ℕ, List, [], ◌∷◌, map, filter, position, length, ◌≤◌, IfOk, IfErr, IfNone, IfSome};
+ghost use Rattle.std.specs.Prelude.{◌≡◌, [], ◌∷◌, map, IfOk, IfErr, IfNone, IfSome};
 ghost use Rattle.std.specs.String.{string_bytes};
 ghost use Rattle.std.specs.Option.{option_map};
-ghost use Rattle.std.specs.List.{list_all, position_or_len, slice_split};
+ghost use Rattle.std.specs.List.{list_all};
 ghost use Rattle.machine_defs.specs.Script.{line_of, numerals, name, line_with, numbers_line, face_line, rule_line, set_line, value, only_name, found, alone, with_one, with_two, with_three};
-ghost use Rattle.map_defs.specs.TextWords.{words_of, is_blank, is_word, is_text, is_comment_sign, uncommented};
+ghost use Rattle.map_defs.specs.TextWords.{words_of, is_text};
 ghost use Rattle.script_text.specs.Meanings.{line_meaning, Tell, IsSyntax};
 ghost use Rattle.script_text.specs.Reading.{Reads, now_of, items_of};
 
-use crate::{Change, Line, Question};
-use crate::word::{is_text, read_integer, read_name, read_numeral, read_text};
+use crate::word::{read_integer, read_name, read_numeral, read_text};
+use crate::{Change, Line, PATH_MAX, Question};
 use map_kind::{Refusal, Refused, Value};
-use std::alloc::{AllocError, Global};
+use std::alloc::Global;
+use text_words::{is_text, split_words, without_comment};
 
 /// The line that these bytes tell; none exactly where they have no word. The bytes are one line without its line feed: a
 /// number sign begins a comment, and the rest is cut into words at spaces, tabs and carriage returns. It is refused as
@@ -29,42 +30,6 @@ pub fn read_line(alloc: Global, bytes: &[u8]) -> Result<Option<Line>, Refused>
         [] => Ok(None),
         [first, others @ ..] => Ok(Some(read_words(alloc, first, others)?)),
     }
-}
-
-/// What stands before the first number sign.
-fn without_comment(line: &[u8]) -> &[u8]
-    ensures { result.now ≡ uncommented line.now }
-{
-    &line[..comment_start(line)]
-}
-
-/// Where the first number sign stands, or else the end of the line.
-fn comment_start(line: &[u8]) -> usize
-    ensures place { result ≡ position_or_len is_comment_sign line.now }
-    ensures within { result ≤ length line.now }
-{
-    comment_sign(line).unwrap_or(line.len())
-}
-
-fn comment_sign(line: &[u8]) -> Option<usize>
-    ensures { result ≡ position is_comment_sign line.now }
-{
-    line.iter().position(|byte| *byte == b'#')
-}
-
-/// The pieces between spaces, tabs and carriage returns that are not empty.
-fn split_words(alloc: Global, line: &[u8]) -> Result<Vec<&[u8]>, AllocError>
-    ensures { IfOk result (λ words. map now_of words.items ≡ filter is_word (slice_split is_blank line.now)) }
-{
-    line.split(|byte| is_blank(*byte))
-        .filter(|piece| !piece.is_empty())
-        .collect(alloc)
-}
-
-fn is_blank(byte: u8) -> bool
-    ensures { result ≡ is_blank byte }
-{
-    byte == b' ' || byte == b'\t' || byte == b'\r'
 }
 
 /// The line that a first word and the words behind it tell.
@@ -102,11 +67,11 @@ fn read_text_words(alloc: Global, first: &str, words: &[&[u8]]) -> Result<Line, 
     }
 }
 
-/// The line of a face, along 1 to 4096 darts.
+/// The line of a face, along 1 to `PATH_MAX` darts.
 fn read_face(alloc: Global, words: &[&[u8]]) -> Result<Line, Refused>
     ensures { Reads line_meaning (face_line (map now_of words.now)) result }
 {
-    if words.is_empty() || words.len() > 4096 {
+    if words.is_empty() || words.len() > PATH_MAX {
         return Err(Refused::Line(Refusal::Syntax));
     }
     Ok(Line::Change(Change::Face(read_numerals(alloc, words)?)))

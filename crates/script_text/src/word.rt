@@ -1,17 +1,11 @@
 //! The words of a line: the numbers and names that they write.
-ghost use Rattle.std.specs.Prelude.{◌≡◌, ℕ, ◌+◌, ◌*◌, ◌^◌, ◌<◌, ◌≤◌, ◌==◌, nat_le, Some, None, length, if◌then◌else◌};
-ghost use Rattle.std.specs.Char.{is_ascii_digit};
+ghost use Rattle.std.specs.Prelude.{◌≡◌, ◌+◌, ◌*◌, ◌<◌, ◌==◌, nat_le, Some, None, if◌then◌else◌};
 ghost use Rattle.std.specs.List.{list_all};
 ghost use Rattle.std.specs.Option.{option_copied};
 ghost use Rattle.machine_defs.specs.Script.{is_numeral, numeral, positive, negative, integer, is_name_byte, is_name, name};
 ghost use Rattle.map_defs.specs.TextWords.{is_text};
 
-/// Whether all bytes of a word are printed characters of ASCII, 33 to 126.
-pub fn is_text(word: &[u8]) -> bool
-    ensures { result ≡ is_text word.now }
-{
-    word.iter().all(|byte| byte.is_ascii_graphic())
-}
+use text_words::{is_digits, is_text};
 
 /// The word as text; none exactly where it is none.
 pub fn read_text(word: &[u8]) -> Option<&str>
@@ -45,12 +39,6 @@ fn is_numeral(word: &[u8]) -> bool
         [] => false,
         [first, others @ ..] => is_digits(word) && is_length_of_numeral(*first, others.len()),
     }
-}
-
-fn is_digits(word: &[u8]) -> bool
-    ensures { result ≡ list_all is_ascii_digit word.now }
-{
-    word.iter().all(|byte| byte.is_ascii_digit())
 }
 
 /// Whether so many digits may stand behind the first one.

@@ -1,5 +1,5 @@
 use Rattle.std.proofs.Common.{◌≡◌, ◌+◌, length}
-use Rattle.off_text.specs.Reading.{words_in}
+use Rattle.text_words.specs.Taking.{words_in}
 use Rattle.off_text.proofs.read.corner_fault.Given as goal
 
 abbrev pub invariant-loop : goal.invariant-loop

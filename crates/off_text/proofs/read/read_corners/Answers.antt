@@ -1,7 +1,7 @@
-use Rattle.std.proofs.Common.{ℕ, ◌-◌, List, Result, ap}
+use Rattle.std.proofs.Common.{ℕ, List, Result, ap}
 use Rattle.map_defs.specs.Off.{What, corners, on_line}
 use Rattle.off_text.specs.Meanings.{meaning}
-use Rattle.off_text.specs.Reading.{words_in}
+use Rattle.text_words.specs.Taking.{words_in}
 use Rattle.off_text.proofs.Corners.{goes_on, ends, is_done}
 use Rattle.off_text.proofs.read.read_corners.Goals as goal
 

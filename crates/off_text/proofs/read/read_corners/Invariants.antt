@@ -1,6 +1,6 @@
 use Rattle.std.proofs.Common.{◌≡◌, ◌-◌}
 use Rattle.map_defs.specs.Off.{corners}
-use Rattle.off_text.specs.Reading.{words_in}
+use Rattle.text_words.specs.Taking.{words_in}
 use Rattle.off_text.proofs.Corners.{behind}
 use Rattle.off_text.proofs.read.read_corners.Given as goal
 

@@ -1,4 +1,3 @@
-use Rattle.std.proofs.Common.{◌≡◌, ◌++◌, ◌∷◌, []}
 use Rattle.std.proofs.lemmas.List.{map_push}
 use Rattle.map_defs.specs.Off.{many, line_read, face}
 use Rattle.off_text.specs.Meanings.{items_of, faces_view}

@@ -1,8 +1,8 @@
-use Rattle.std.proofs.Common.{ℕ, not, length, Option, unwrap_or, ◌∙◌, ap, rules, tests}
+use Rattle.std.proofs.Common.{ℕ, length, Option, unwrap_or, ◌∙◌, ap, rules, tests}
 use Rattle.std.proofs.lemmas.Iterator.{YieldsList-from_slice}
 use Rattle.std.proofs.lemmas.Iterator.Search.{position_from_yields_List}
 use Rattle.off_text.specs.Reading.{is_line_feed}
-use Rattle.off_text.proofs.FirstPlaces.{unwrap_or-position}
+use Rattle.text_words.proofs.FirstPlaces.{unwrap_or-position}
 use Rattle.off_text.proofs.rows.line_end.Goals as goal
 
 pub returns-clause-place : goal.returns-clause-place

@@ -1,9 +1,9 @@
 use Rattle.std.proofs.Common.{◌∙◌, sym, rules, tests}
 use Rattle.std.proofs.lemmas.Iterator.{YieldsList-from_slice}
 use Rattle.std.proofs.lemmas.Iterator.Search.{all_from_yields_List}
-use Rattle.off_text.specs.Reading.{is_text_byte}
-use Rattle.off_text.proofs.Cuts.{words_in-text}
-use Rattle.off_text.proofs.word.are_text.Goals as goal
+use Rattle.text_words.specs.Taking.{is_text_byte}
+use Rattle.text_words.proofs.WordCuts.{words_in-text}
+use Rattle.text_words.proofs.word.are_text.Goals as goal
 
 pub returns : goal.returns
 returns c =

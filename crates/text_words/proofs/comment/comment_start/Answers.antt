@@ -1,9 +1,9 @@
-use Rattle.std.proofs.Common.{ℕ, not, length, Option, unwrap_or, ◌∙◌, ap, rules, tests}
+use Rattle.std.proofs.Common.{ℕ, length, Option, unwrap_or, ◌∙◌, ap, rules, tests}
 use Rattle.std.proofs.lemmas.Iterator.{YieldsList-from_slice}
 use Rattle.std.proofs.lemmas.Iterator.Search.{position_from_yields_List}
 use Rattle.map_defs.specs.TextWords.{is_comment_sign}
-use Rattle.off_text.proofs.FirstPlaces.{unwrap_or-position}
-use Rattle.off_text.proofs.word.comment_start.Goals as goal
+use Rattle.text_words.proofs.FirstPlaces.{unwrap_or-position}
+use Rattle.text_words.proofs.comment.comment_start.Goals as goal
 
 pub returns-clause-place : goal.returns-clause-place
 returns-clause-place c =

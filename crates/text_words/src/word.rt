@@ -1,24 +1,19 @@
-//! The words of a line.
-ghost use Rattle.std.specs.Prelude.{◌≡◌, ℕ, ◌≤◌, length, not, position, drop, IfSome};
+//! Words, which stand between spaces, tabs and carriage returns.
+ghost use Rattle.std.specs.Prelude.{◌≡◌, ◌≤◌, length, map, not, IfOk};
+ghost use Rattle.std.specs.Char.{is_ascii_digit};
 ghost use Rattle.std.specs.List.{list_all, position_or_len};
-ghost use Rattle.map_defs.specs.TextWords.{is_blank, is_text, uncommented, is_comment_sign};
-ghost use Rattle.off_text.specs.Reading.{words_in, TakesWord};
+ghost use Rattle.map_defs.specs.TextWords.{is_blank, is_text};
+ghost use Rattle.text_words.specs.Taking.{words_in, TakesWord};
 
-/// What stands before the first number sign.
-pub fn without_comment(line: &[u8]) -> &[u8]
-    ensures { result.now ≡ uncommented line.now }
-{
-    &line[..comment_start(line)]
-}
+use std::alloc::{AllocError, Global};
 
-/// Where the first number sign stands, or else the end of the line.
-fn comment_start(line: &[u8]) -> usize
-    ensures place { result ≡ position_or_len is_comment_sign line.now }
-    ensures within { result ≤ length line.now }
+/// The words of a text without comments. The one error is want of memory.
+pub fn split_words(alloc: Global, text: &[u8]) -> Result<Vec<&[u8]>, AllocError>
+    ensures { IfOk result (λ words. map (λ word. word.now) words.items ≡ words_in text.now) }
 {
-    line.iter()
-        .position(|byte| *byte == b'#')
-        .unwrap_or(line.len())
+    text.split(|byte| is_blank(*byte))
+        .filter(|piece| !piece.is_empty())
+        .collect(alloc)
 }
 
 /// The first word of a text without comments, and what stands behind it; none exactly where there is no word.
@@ -58,17 +53,24 @@ fn is_blank(byte: u8) -> bool
     byte == b' ' || byte == b'\t' || byte == b'\r'
 }
 
-/// Whether all bytes of a word are printed characters of ASCII.
+/// Whether all bytes of a word are printed characters of ASCII, 33 to 126.
 pub fn is_text(word: &[u8]) -> bool
     ensures { result ≡ is_text word.now }
 {
     word.iter().all(|byte| byte.is_ascii_graphic())
 }
 
-/// Whether all words of a text are text.
+/// Whether all words of a text without comments are text.
 pub fn are_text(text: &[u8]) -> bool
     ensures { result ≡ list_all is_text (words_in text.now) }
 {
     text.iter()
         .all(|byte| is_blank(*byte) || byte.is_ascii_graphic())
+}
+
+/// Whether all bytes of a word are digits.
+pub fn is_digits(word: &[u8]) -> bool
+    ensures { result ≡ list_all is_ascii_digit word.now }
+{
+    word.iter().all(|byte| byte.is_ascii_digit())
 }

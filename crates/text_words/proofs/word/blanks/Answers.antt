@@ -2,8 +2,8 @@ use Rattle.std.proofs.Common.{ℕ, not, length, Option, unwrap_or, ◌∙◌, ap
 use Rattle.std.proofs.lemmas.Iterator.{YieldsList-from_slice}
 use Rattle.std.proofs.lemmas.Iterator.Search.{position_from_yields_List}
 use Rattle.map_defs.specs.TextWords.{is_blank}
-use Rattle.off_text.proofs.FirstPlaces.{unwrap_or-position}
-use Rattle.off_text.proofs.word.blanks.Goals as goal
+use Rattle.text_words.proofs.FirstPlaces.{unwrap_or-position}
+use Rattle.text_words.proofs.word.blanks.Goals as goal
 
 pub returns-clause-place : goal.returns-clause-place
 returns-clause-place c =

@@ -1,7 +1,7 @@
 use Rattle.std.proofs.Common.{ℕ, drop, sym, ap, ◌∙◌}
 use Rattle.std.proofs.lemmas.List.{take_rest}
-use Rattle.off_text.proofs.Cuts.{words_in-taken, words_in-none}
-use Rattle.off_text.proofs.word.take_word.Goals as goal
+use Rattle.text_words.proofs.WordCuts.{words_in-taken, words_in-none}
+use Rattle.text_words.proofs.word.take_word.Goals as goal
 
 pub returns-then-is_empty : goal.returns-then-is_empty
 returns-then-is_empty c =
