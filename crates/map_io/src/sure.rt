@@ -87,6 +87,14 @@ impl SureSink {
     {
         self.text.as_slice()
     }
+
+    /// All that was written, where nothing more is to be written.
+    pub fn into_written(self) -> Vec<u8>
+        ensures { ⟦<SureSink as Sink>⟧.written self ≡ Some result.items }
+    {
+        let SureSink { text } = self;
+        text
+    }
 }
 
 impl Sink for SureSink {

@@ -15,7 +15,7 @@ use Rattle.map_run.specs.Going.{IsObeyed}
 use Rattle.map_run.specs.Texts.{IsMeshOf, IsFirst, TextsEnd, refused, starved, obeyed, EndsTexts}
 use Rattle.map_run.specs.Ending.{IsLast, WritesLast, EndsCall, EndsWhole, status_of}
 use Rattle.map_run.proofs.StartFacts.{starts-nothing}
-use Rattle.map_run.proofs.WritingFacts.{Appended-nothing, Appended-then, IsFront-all, IsFront-nothing}
+use Rattle.text_lines.proofs.WritingFacts.{Appended-nothing, Appended-then, IsFront-all, IsFront-nothing}
 
 module _ (hook : Meaning) (words : List (List ℕ)) (files : Files) (shelf_rose sink_rose : Type 0) where
   -- one line that is a whole answer

@@ -1,8 +1,5 @@
 pub mod Commands
-pub mod WritingFacts
 pub mod FirstLines
-pub mod RowTexts
-pub mod LogTexts
 pub mod LineFacts
 pub mod RunFacts
 pub mod Rest

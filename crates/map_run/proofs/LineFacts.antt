@@ -13,14 +13,15 @@ use Rattle.machine_defs.specs.Machine.{Step, Obeys, blank, obeyed, unread}
 use Rattle.std.specs.declared.alloc.AllocError.{AllocError}
 use Rattle.map_run.specs.declared.answer.Answer.{Answer}
 use Rattle.map_run.specs.Lines.{answer_meaning}
-use Rattle.map_run.specs.Writing.{WritesText, IsWritten, IsSaid, Says, IsAnswered, AnswersLine}
-use Rattle.map_run.proofs.WritingFacts.{Appended-nothing}
+use Rattle.text_lines.specs.Writing.{WritesText, IsWritten}
+use Rattle.map_run.specs.Writing.{IsSaid, Says, IsAnswered, AnswersLine}
+use Rattle.text_lines.proofs.WritingFacts.{Appended-nothing}
 
 -- a reply that was written, or cut short, and is told to be a refusal or not
 said-is : (reply : Reply) (written : Result (Unit {0}) PutFault) (result : Result Bool PutFault) (refused : Bool) (piece : List ℕ)
     → refused ≡ is_refused reply → OnOk written (result ≡ Ok refused) → IfErr written (λ (fault : PutFault). result ≡ Err fault)
     → IsWritten (reply_text reply) written piece → IsSaid reply result piece
-said-is reply (Ok done) result refused piece same ok err p = rw ok (p, same)
+said-is reply (Ok done) result refused piece same ok err p = rw ok (p.1, same)
 said-is reply (Err Failed) result refused piece same ok err p = rw err p
 said-is reply (Err NoMemory) result refused piece same ok err p = rw err p
 

@@ -17,7 +17,7 @@ use Rattle.machine_defs.specs.Machine.{Obeys, Run}
 use Rattle.machine_defs.specs.Program.{EndsLine, Begins, run_status}
 use Rattle.map_run.specs.Writing.{IsAnswered, AnswersLine, IsFrontOfLine}
 use Rattle.map_run.specs.Going.{IsGoing, IsObeyed, ObeysScript}
-use Rattle.map_run.proofs.WritingFacts.{Appended-nothing, Appended-then, EndsLine-then, IsFront-all, IsFront-then}
+use Rattle.text_lines.proofs.WritingFacts.{Appended-nothing, Appended-then, EndsLine-then, IsFront-all, IsFront-then}
 
 -- every reply ends with a line
 done_ends : (b : Bool) (text : List ℕ) → EndsLine (cond b (ended (codes "ok")) (ended text))

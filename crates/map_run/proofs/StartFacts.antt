@@ -12,7 +12,7 @@ use Rattle.map_defs.specs.MeshMap.{MapFault, mesh_fault}
 use Rattle.machine_defs.specs.Loading.{IsLoaded, first_state, refusal_line, map_fault_line}
 use Rattle.machine_defs.specs.Program.{RunScript, TellsCommand, told, ScriptAnswer, FileAnswer, MeshAnswer, CommandAnswer, IsFile, Begins, Starts, whole, lines, file_limit, cannot_read, too_long}
 use Rattle.loading_laws.proofs.MeshContent.{has-map}
-use Rattle.map_run.proofs.WritingFacts.{IsFront-nothing}
+use Rattle.text_lines.proofs.WritingFacts.{IsFront-nothing}
 
 -- a mesh that is not refused leads to a state
 loaded-exists : (k : Kind) (n : ℕ) (bytes : List ℕ) → 2 ≤ n → refusal_line k (mesh_of bytes) ≡ None → (start : State) × IsLoaded k n bytes start

@@ -1,7 +1,6 @@
 pub mod Commands
 pub mod Lines
 pub mod Writing
-pub mod LogLines
 pub mod Going
 pub mod Ending
 pub mod Loads

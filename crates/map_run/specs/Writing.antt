@@ -1,4 +1,4 @@
--- What a writing function has written, whole or cut short.
+-- What was written of the reply to a line, whole or cut short.
 use Rattle.std.specs.Prelude.{ℕ, ◌≡◌, ◌⊎◌, List, [], Option, Result, Ok, Err, Bool}
 use Rattle.map_io.specs.declared.sink.PutFault.{PutFault}
 use Rattle.map_io.specs.declared.sink.PutFault.TheVariants.{Failed, NoMemory}
@@ -8,17 +8,6 @@ use Rattle.map_defs.specs.Values.{Meaning}
 use Rattle.machine_defs.specs.State.{State}
 use Rattle.machine_defs.specs.Text.{Reply, reply_text, replies_text, is_refused, any_refused}
 use Rattle.machine_defs.specs.Machine.{Obeys}
-
--- the whole text; or a front of it; or for want of memory a front that ends with a line
-abbrev pub IsWritten : List ℕ → Result (Unit {0}) PutFault → List ℕ → Type 0
-IsWritten text (Ok done) piece = piece ≡ text
-IsWritten text (Err Failed) piece = IsFront piece text
-IsWritten text (Err NoMemory) piece = EndsLine piece × IsFront piece text
-
-pub record WritesText (before after : Option (List ℕ)) (result : Result (Unit {0}) PutFault) (text : List ℕ) : Type 0 where
-  pub piece : List ℕ
-  pub appended : Appended before after piece
-  pub is : IsWritten text result piece
 
 -- a front of what a line answers
 abbrev pub IsFrontOfLine : Meaning → State → List (List ℕ) → List ℕ → Type 0
@@ -46,8 +35,3 @@ pub record Says (before after : Option (List ℕ)) (reply : Reply) (result : Res
   pub piece : List ℕ
   pub appended : Appended before after piece
   pub is : IsSaid reply result piece
-
--- the whole text was appended, and it ends with a line
-pub record HasWritten (before after : Option (List ℕ)) (text : List ℕ) : Type 0 where
-  pub appended : Appended before after text
-  pub ends : EndsLine text

@@ -1,18 +1,22 @@
 //! What the map answers, as the program says it.
-ghost use Rattle.std.specs.Prelude.{◌≡◌, IfOk, OnOk};
+ghost use Rattle.std.specs.Prelude.{◌≡◌, IfOk, IsErrOf};
 ghost use Rattle.map_defs.specs.Values.{Meaning};
 ghost use Rattle.machine_defs.specs.State.{State};
 ghost use Rattle.machine_defs.specs.Script.{Line as MapLine};
 ghost use Rattle.machine_defs.specs.Machine.{Step};
-ghost use Rattle.machine_defs.specs.Text.{Truth, Darts, CellValue, Counts, Logged, is_refused};
+ghost use Rattle.machine_defs.specs.Text.{reply_text, Truth, Darts, CellValue, Counts, Logged, is_refused};
 ghost use Rattle.map_core.specs.Calls.{Does, AnswersQuestion, AnswersAtOnce};
+ghost use Rattle.map_io.specs.Cause.{HasCause};
+ghost use Rattle.text_lines.specs.Writing.{WritesText};
 ghost use Rattle.map_run.specs.Lines.{answer_meaning};
 
-use list_text::Listing;
+use list_text::{Listing, put_listing};
 use map_core::Done;
+use map_io::{PutFault, Sink};
 use map_kind::{Dart, Refusal, Refused, Value};
-use script_text::{Births, Reply};
-use std::alloc::AllocError;
+use script_text::{Births, Reply, put_log};
+use std::alloc::{AllocError, Global};
+use text_lines::put_line;
 use undo_journal::Step as Changed;
 
 /// The answer to a line: a reply of one line, a listing, or the steps of a log, which are lent.
@@ -31,6 +35,18 @@ impl<'a> Answer<'a> {
         match self {
             Answer::Line(reply) => reply.is_refused(),
             Answer::Listing(_) | Answer::Log(_) => false,
+        }
+    }
+
+    /// Puts the text of the answer to a sink, each line in one piece.
+    pub fn put_to<S: Sink>(&self, alloc: Global, out: &mut S) -> Result<(), PutFault>
+        ensures written { WritesText (S.written out.old) (S.written out.new) result (reply_text (answer_meaning self.now)) }
+        ensures cause { HasCause (S.faults out.old) (S.faults out.new) (IsErrOf result PutFault.Failed) }
+    {
+        match self {
+            Answer::Line(reply) => put_line(alloc, out, reply),
+            Answer::Listing(listing) => put_listing(alloc, out, listing),
+            Answer::Log(steps) => put_log(alloc, out, steps),
         }
     }
 }

@@ -8,10 +8,11 @@ ghost use Rattle.map_run.specs.Texts.{AreFetched, AreShort, IsMeshFetched, MayAs
 
 use crate::command::RunScript;
 use map_io::{FetchFault, Shelf};
+use off_text::TEXT_MAX;
 use std::alloc::Global;
 
-/// No fetched file is longer, in bytes.
-const FILE_LIMIT: u64 = 16_777_216;
+/// No fetched file is longer, in bytes: a script may be as long as the text of a mesh.
+const FILE_LIMIT: u64 = TEXT_MAX;
 
 /// The files of a command.
 #[derive(Drop)]

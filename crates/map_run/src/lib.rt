@@ -5,12 +5,10 @@ mod answer;
 mod command;
 mod files;
 mod last;
-mod log;
 mod machine;
 mod mesh;
 mod obey;
 mod program;
-mod reply;
 mod script;
 
 pub use program::run;

@@ -9,7 +9,6 @@ ghost use Rattle.map_run.specs.Lines.{answer_meaning, IsTold};
 ghost use Rattle.map_run.specs.Writing.{AnswersLine, Says};
 
 use crate::answer::{Answer, cell_value, counts, darts, done, logged, told, truth};
-use crate::reply;
 use attr_rules::Hook;
 use map_core::{Done, Edits, Map};
 use map_io::{PutFault, Sink};
@@ -49,7 +48,7 @@ fn say<S: Sink>(
     ensures cause { HasCause (S.faults out.old) (S.faults out.new) (IsErrOf result PutFault.Failed) }
 {
     match answer {
-        Ok(answer) => match reply::write_answer(alloc, out, &answer) {
+        Ok(answer) => match answer.put_to(alloc, out) {
             Ok(()) => Ok(answer.is_refused()),
             Err(fault) => Err(fault),
         },

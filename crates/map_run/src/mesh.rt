@@ -15,13 +15,13 @@ ghost use Rattle.map_run.specs.Loads.{Refuses, IsRead, WritesFault, text_line, m
 
 use crate::last::write_last;
 use attr_rules::Hook;
-use list_text::append_spaced;
 use map_core::Map;
 use map_io::Sink;
 use map_kind::Kind;
 use mesh_build::{MeshFault, MeshMap, mesh_map};
-use off_text::{OffFault, OffWhat, read_off};
+use off_text::{OffFault, OffWhat, TEXT_MAX, read_off};
 use std::alloc::{AllocError, Global};
+use text_lines::append_spaced;
 use thiserror::Error;
 
 /// Why a mesh is not loaded. Both kinds of fault include want of memory.
@@ -44,7 +44,7 @@ pub fn load_mesh<K: Kind, H: Hook, const DIM: usize>(
     requires low { 2 ≤ DIM }
     requires high { DIM ≤ 8 }
     requires new { map.old.state ≡ empty_state K.kind DIM }
-    requires short { length bytes.now ≤ 16777216 }
+    requires short { length bytes.now ≤ TEXT_MAX }
     ensures hook { map.new.hook ≡ map.old.hook }
     ensures loaded { OnOk result (IsLoaded K.kind DIM bytes.now map.new.state) }
     ensures refused { IfErr result (λ fault. Refuses K.kind bytes.now fault) }
@@ -66,7 +66,7 @@ fn build_mesh<K: Kind, const DIM: usize>(
 ) -> Result<MeshMap<K, DIM>, LoadFault>
     requires low { 2 ≤ DIM }
     requires high { DIM ≤ 8 }
-    requires short { length bytes.now ≤ 16777216 }
+    requires short { length bytes.now ≤ TEXT_MAX }
     ensures built { IfOk result (λ built. (mesh : ReadMesh) × IsRead K.kind bytes.now mesh
         × (edit : edits.Edit) × MakesMesh K.kind DIM mesh edit built.places.items
         × (built.links.rows ≡ after_edit DIM edit (None ∷ []))) }

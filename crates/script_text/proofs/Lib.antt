@@ -1,3 +1,4 @@
 pub mod Digits
 pub mod AsciiWords
 pub mod ReadWords
+pub mod LogTexts

@@ -1,2 +1,4 @@
 pub mod Meanings
 pub mod Reading
+pub mod ReplyEnds
+pub mod LogLines

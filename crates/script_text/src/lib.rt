@@ -3,6 +3,7 @@
 
 mod line;
 mod log;
+mod log_line;
 mod read;
 mod reply;
 #[cfg(test)]
@@ -10,9 +11,7 @@ mod tests;
 mod word;
 
 pub use line::{Change, Line, PATH_MAX, Question};
-pub use log::{
-    append_born, append_dead, append_link_change, append_log_end, append_log_header,
-    append_rule_change, append_step_line, append_value_change, log_text,
-};
+pub use log::{log_text, put_log};
+pub use log_line::LogLine;
 pub use read::read_line;
 pub use reply::{Births, Reply, reply_text};

@@ -3,10 +3,11 @@ ghost use Rattle.std.specs.Prelude.{◌≡◌, ◌++◌, IfOk, OnOk, Some, codes
 ghost use Rattle.machine_defs.specs.Text.{is_refused, reply_text, done_text, truth_text, numbers_text, cell_value_text, refusal_text};
 ghost use Rattle.map_kind.specs.Refusals.{meaning};
 ghost use Rattle.script_text.specs.Meanings.{reply_meaning};
+ghost use Rattle.script_text.specs.ReplyEnds.{reply-ends};
 
-use list_text::append_spaced;
 use map_kind::{Dart, Refusal, Value};
 use std::alloc::{AllocError, Global};
+use text_lines::{TextLine, append_spaced};
 
 /// The darts that a changing line made: they are numbered on from the first.
 #[derive(Clone, Copy, Debug, PartialEq, Eq)]
@@ -44,6 +45,23 @@ impl Reply {
     }
 }
 
+impl TextLine for Reply {
+    ghost line = { λ reply. reply_text (reply_meaning reply) };
+
+    fn append_to(&self, text: &mut Vec<u8>) -> Result<(), AllocError> {
+        match self {
+            Reply::Done(births) => append_done(text, *births),
+            Reply::Truth(answer) => append_truth(text, *answer),
+            Reply::Cell(darts) => append_cell(text, darts.as_slice()),
+            Reply::Count(counts) => append_count(text, counts.as_slice()),
+            Reply::Value(value) => append_cell_value(text, *value),
+            Reply::No(refusal) => append_refusal(text, *refusal),
+        }
+    }
+
+    ghost ends = { reply-ends };
+}
+
 /// The text of a reply, with the line feed at its end: `ok`, behind it the first new dart and their number where darts were
 /// made; `true` or `false`; `cell` or `count`, and its numbers; `value`, and its three numbers, or
 /// `none`; or `no`, the refusal's number and its name. The one error is
@@ -52,14 +70,7 @@ pub fn reply_text(alloc: Global, reply: &Reply) -> Result<Vec<u8>, AllocError>
     ensures { IfOk result (λ written. written.items ≡ reply_text (reply_meaning reply.now)) }
 {
     let mut text = Vec::new(alloc);
-    match reply {
-        Reply::Done(births) => append_done(&mut text, *births)?,
-        Reply::Truth(answer) => append_truth(&mut text, *answer)?,
-        Reply::Cell(darts) => append_cell(&mut text, darts.as_slice())?,
-        Reply::Count(counts) => append_count(&mut text, counts.as_slice())?,
-        Reply::Value(value) => append_worth(&mut text, *value)?,
-        Reply::No(refusal) => append_refusal(&mut text, *refusal)?,
-    }
+    reply.append_to(&mut text)?;
     Ok(text)
 }
 
@@ -109,7 +120,7 @@ fn append_count(text: &mut Vec<u8>, counts: &[u64]) -> Result<(), AllocError>
 }
 
 /// The reply to a question for a value: `value`, and its three numbers, or `none`.
-fn append_worth(text: &mut Vec<u8>, value: Option<Value>) -> Result<(), AllocError>
+fn append_cell_value(text: &mut Vec<u8>, value: Option<Value>) -> Result<(), AllocError>
     ensures { OnOk result (text.new.items ≡ text.old.items ++ cell_value_text value) }
 {
     match value {

@@ -52,7 +52,10 @@ fn lines_that_change(rt: HostRuntime) -> Result<(), Fail> {
     ]?;
     for (line, told) in &table {
         let read = read_line(alloc, line.as_bytes());
-        assert!(rt; matches!(&read, Ok(Some(Line::Change(change))) if change == told), "{line}");
+        assert!(rt;
+            matches!(&read, Ok(Some(Line::Change(change))) if change == told),
+            "{line}"
+        );
     }
     Ok(())
 }
@@ -79,7 +82,10 @@ fn lines_that_ask(rt: HostRuntime) -> Result<(), Fail> {
     ]?;
     for (line, told) in &table {
         let read = read_line(alloc, line.as_bytes());
-        assert!(rt; matches!(&read, Ok(Some(Line::Question(question))) if question == told), "{line}");
+        assert!(rt;
+            matches!(&read, Ok(Some(Line::Question(question))) if question == told),
+            "{line}"
+        );
     }
     Ok(())
 }
@@ -151,7 +157,12 @@ fn faces_of_many_darts(rt: HostRuntime) -> Result<(), Fail> {
     for _ in 0..4096 {
         line.push_str(" 1")?;
     }
-    assert!(rt; matches!(read_line(alloc, line.as_bytes()), Ok(Some(Line::Change(Change::Face(_))))));
+    assert!(rt;
+        matches!(
+            read_line(alloc, line.as_bytes()),
+            Ok(Some(Line::Change(Change::Face(_))))
+        )
+    );
     line.push_str(" 1")?;
     assert!(rt;
         matches!(

@@ -3,7 +3,7 @@ use Rattle.std.specs.Borrow.{Bor}
 use Rattle.std.proofs.lemmas.Result.{err_from_is_err_and}
 use Rattle.machine_defs.specs.Script.{lines_of}
 use Rattle.map_run.specs.Lines.{lines_after}
-use Rattle.map_run.proofs.WritingFacts.{Appended-nothing}
+use Rattle.text_lines.proofs.WritingFacts.{Appended-nothing}
 use Rattle.map_run.proofs.RunFacts.{Going-more, Going-cut}
 use Rattle.map_run.proofs.obey.obey_script.Goals as goal
 

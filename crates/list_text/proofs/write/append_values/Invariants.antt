@@ -1,7 +1,0 @@
-use Rattle.std.proofs.Common.{◌≡◌, ◌++◌, take}
-use Rattle.std.specs.List.{flat_map}
-use Rattle.machine_defs.specs.Text.{value_text}
-use Rattle.list_text.proofs.write.append_values.Given as goal
-
-abbrev pub invariant-loop-value : goal.invariant-loop-value
-invariant-loop-value l = l.text.items ≡ l.fn.text.items ++ flat_map value_text (take l.value-index l.values)

@@ -1,7 +1,0 @@
-use Rattle.std.proofs.Common.{◌≡◌, ◌++◌, take, codes}
-use Rattle.std.specs.List.{flat_map}
-use Rattle.machine_defs.specs.Text.{spaced}
-use Rattle.script_text.proofs.log.append_dead.Given as goal
-
-abbrev pub invariant-loop-dart : goal.invariant-loop-dart
-invariant-loop-dart l = l.text.items ≡ l.fn.text.items ++ (codes "dead" ++ flat_map spaced (take l.dart-index l.darts))

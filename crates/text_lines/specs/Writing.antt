@@ -1,0 +1,17 @@
+-- What a writing function has written, whole or cut short.
+use Rattle.std.specs.Prelude.{ℕ, ◌≡◌, List, Option, Result, Ok, Err}
+use Rattle.map_io.specs.declared.sink.PutFault.{PutFault}
+use Rattle.map_io.specs.declared.sink.PutFault.TheVariants.{Failed, NoMemory}
+use Rattle.machine_defs.specs.Outside.{Appended, IsFront}
+use Rattle.machine_defs.specs.Program.{EndsLine}
+
+-- the whole text, which ends with a line; or a front of it; or for want of memory a front that ends with a line
+abbrev pub IsWritten : List ℕ → Result (Unit {0}) PutFault → List ℕ → Type 0
+IsWritten text (Ok done) piece = EndsLine piece × (piece ≡ text)
+IsWritten text (Err Failed) piece = IsFront piece text
+IsWritten text (Err NoMemory) piece = EndsLine piece × IsFront piece text
+
+pub record WritesText (before after : Option (List ℕ)) (result : Result (Unit {0}) PutFault) (text : List ℕ) : Type 0 where
+  pub piece : List ℕ
+  pub appended : Appended before after piece
+  pub is : IsWritten text result piece
