@@ -1,4 +1,4 @@
-ghost use Rattle.std.specs.Prelude.{◌≡◌, ℕ, ◌+◌, ◌≤◌, ◌<◌, ◌↔◌, Some, length, slice_get, IsTrue, IsOk, IsErr, IfOk, IfErr, OnOk, OnErr, IfSome, IsNone, IsErrOf};
+ghost use Rattle.std.specs.Prelude.{◌≡◌, ℕ, ◌+◌, ◌≤◌, ◌<◌, ◌↔◌, Some, length, slice_get, IsOk, IsErr, IfOk, IfErr, OnOk, OnErr, IfSome, IsNone, IsErrOf};
 ghost use Rattle.std.specs.Option.{option_map};
 ghost use Rattle.trail_laws.specs.Trails.{Book, empty_trail, standing_marks, mark_names, IsMark, HasMark, place_of, steps_since, noted, marked, back, IsOrdered};
 
@@ -55,13 +55,6 @@ impl Journal {
         ensures ordered { IsOrdered self.now.trail }
     {
         self.standing
-    }
-
-    /// Whether a mark stands.
-    pub fn has_marks(&self) -> bool
-        ensures { IsTrue result ↔ (0 < length (standing_marks self.now.trail)) }
-    {
-        self.standing > 0
     }
 
     /// The name of a standing mark by its number, from 0, oldest first; none exactly where there is no such mark.
