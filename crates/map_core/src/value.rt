@@ -52,7 +52,7 @@ impl<'h, K: Kind, H: Hook, const DIM: usize> Map<'h, K, H, DIM> {
     {
         let dim = self.dimension(dim)?;
         let dart = self.live_dart(dart)?;
-        if !has_rule(&self.rules, dim) {
+        if self.present.rule(dim).is_none() {
             return Err(Refused::Line(Refusal::NoRule));
         }
         self.set_value(alloc, dim, dart, Some(value))?;
@@ -70,7 +70,7 @@ impl<'h, K: Kind, H: Hook, const DIM: usize> Map<'h, K, H, DIM> {
     {
         let dim = self.dimension(dim)?;
         let dart = self.live_dart(dart)?;
-        if !has_rule(&self.rules, dim) {
+        if self.present.rule(dim).is_none() {
             return Err(Refused::Line(Refusal::NoRule));
         }
         self.set_value(alloc, dim, dart, None)?;
@@ -86,7 +86,7 @@ impl<'h, K: Kind, H: Hook, const DIM: usize> Map<'h, K, H, DIM> {
     {
         let dim = self.dimension(dim)?;
         let dart = self.live_dart(dart)?;
-        Ok(stored_value(&self.labels, &self.pool, dim, dart))
+        Ok(self.present.value(dim, dart))
     }
 
     /// Gives a dimension a rule. All memory is taken before anything changes.
