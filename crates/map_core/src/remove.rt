@@ -19,10 +19,9 @@ impl<'h, K: Edits<DIM>, H: Hook, const DIM: usize> Map<'h, K, H, DIM> {
     /// where a dimension has a rule, times a logarithm.
     ///
     /// Refused as `BadDim` exactly where the dimension is above the map's, then as `NoDart` exactly where no live dart has
-    /// the number, and then as `NotRemovable` exactly where the cell cannot be removed: where at some dart of it the next two
-    /// links do not commute, so that more than two cells of the next dimension meet there, and in a combinatorial map also
-    /// where a remaining dart would be joined to itself. A cell of a generalized map's dimension, or of the one below, can
-    /// always be removed.
+    /// the number, and then as `NotRemovable` exactly where the cell cannot be removed. In a generalized map that is where at
+    /// some dart of it the next two links do not commute, so that more than two cells of the next dimension meet there: a
+    /// cell of the map's dimension, or of the one below, can always be removed.
     pub fn remove(&mut self, alloc: Global, dim: u64, dart: u64) -> Result<Done, Refused>
         requires { H.ready self.old.hook }
         ensures hook { self.new.hook ≡ self.old.hook }
@@ -42,9 +41,8 @@ impl<'h, K: Edits<DIM>, H: Hook, const DIM: usize> Map<'h, K, H, DIM> {
     /// whose links change where a dimension has a rule, times a logarithm.
     ///
     /// Refused as `BadDim` exactly where the dimension is above the map's, then as `NoDart` exactly where no live dart has
-    /// the number, and then as `NotContractible` exactly where the cell cannot be contracted: where it is a vertex, or is no
-    /// edge and at some dart of it the two links below do not commute, and in a combinatorial map also where a remaining dart
-    /// would be joined to itself. An edge can always be contracted.
+    /// the number, and then as `NotContractible` exactly where the cell cannot be contracted: a vertex never can, an edge
+    /// always. Another cell of a generalized map can where at each dart of it the two links below commute.
     pub fn contract(&mut self, alloc: Global, dim: u64, dart: u64) -> Result<Done, Refused>
         requires { H.ready self.old.hook }
         ensures hook { self.new.hook ≡ self.old.hook }
