@@ -1,15 +1,15 @@
 -- What the machine does where a vertex, an edge or a face is inserted, by what the plans answer.
-use Rattle.std.proofs.Common.{◌≡◌, ℕ, ◌+◌, ◌<◌, ◌≤◌, List, [], ◌∷◌, length, All, Option, Result, Ok, Err, refl, sym, ap, subst, inl, inr, arith}
+use Rattle.std.proofs.Common.{◌≡◌, ℕ, ◌+◌, ◌<◌, ◌≤◌, List, [], ◌∷◌, length, All, Result, Ok, Err, refl, sym, ap, subst, inl, inr, arith}
 use Rattle.map_kind.specs.declared.refusal.Refused.{Refused}
 use Rattle.map_kind.specs.declared.refusal.Refused.TheVariants as why
 use Rattle.map_kind.specs.Refusals.{meaning}
 use Rattle.map_defs.specs.Kind.{Kind}
 use Rattle.map_defs.specs.Links.{Links}
-use Rattle.map_defs.specs.Rows.{Rows, links_of, IsLive, IsSound, made, made_max}
+use Rattle.map_defs.specs.Rows.{Rows, links_of, IsLive, made, made_max}
 use Rattle.map_defs.specs.Counts.{HasCount}
 use Rattle.map_defs.specs.Edits.{Edit, after_edit}
 use Rattle.machine_defs.specs.State.{State, Content}
-use Rattle.map_defs.specs.Values.{Rule, Meaning}
+use Rattle.map_defs.specs.Values.{Meaning}
 use Rattle.machine_defs.specs.Relinking.{NoDart, IsTooMany, IsGrown}
 use Rattle.map_defs.specs.Insertion.{AreOnOneSide, FaceDarts, IsOnOneVolume, IsClosedPath, IsFacePaired, IsFace}
 use Rattle.map_defs.specs.Inserting.{VertexDarts, IsVertex, InCorner, AreEdgePaired, EdgeDarts, IsEdge}

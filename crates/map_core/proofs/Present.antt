@@ -1,5 +1,5 @@
 -- The present content, by the parts that the calls of a map see of it.
-use Rattle.std.proofs.Common.{◌≡◌, ℕ, ◌+◌, ◌<◌, ◌≤◌, ◌⊎◌, ◌↔◌, length, List, Contains, sym, ap, subst, ◌∙◌, arith}
+use Rattle.std.proofs.Common.{◌≡◌, ℕ, ◌+◌, ◌<◌, ◌≤◌, ◌⊎◌, ◌↔◌, length, Contains, sym, ap, subst, ◌∙◌, arith}
 use Rattle.map_defs.specs.Kind.{Kind}
 use Rattle.map_defs.specs.Links.{Links}
 use Rattle.map_defs.specs.Rows.{Rows, links_of, made, IsLive, IsSound, AreWide}

@@ -4,11 +4,11 @@ use Rattle.map_kind.specs.declared.refusal.Refused.{Refused}
 use Rattle.map_kind.specs.declared.refusal.Refused.TheVariants as why
 use Rattle.map_defs.specs.Kind.{Kind}
 use Rattle.map_defs.specs.Links.{Links}
-use Rattle.map_defs.specs.Rows.{Rows, links_of, IsLive, IsSound}
+use Rattle.map_defs.specs.Rows.{Rows, links_of, IsLive}
 use Rattle.map_defs.specs.Cells.{InCell}
 use Rattle.map_defs.specs.Edits.{Edit, after_edit}
 use Rattle.machine_defs.specs.State.{State, Content, steps_to}
-use Rattle.map_defs.specs.Values.{Rule, Meaning}
+use Rattle.map_defs.specs.Values.{Meaning}
 use Rattle.machine_defs.specs.Relinking.{IsRelinked}
 use Rattle.map_defs.specs.Removal.{IsRemovable, IsRemoved}
 use Rattle.map_defs.specs.Contraction.{IsContractible, IsContracted}

@@ -1,13 +1,13 @@
 -- What the machine does where darts are sewn or unsewn, by what the plans answer.
-use Rattle.std.proofs.Common.{◌≡◌, ◌≢◌, ℕ, ◌<◌, ◌⊎◌, length, List, [], Option, Result, Err, refl, sym, ap, subst, inl, inr, arith}
+use Rattle.std.proofs.Common.{◌≡◌, ◌≢◌, ℕ, ◌<◌, ◌⊎◌, length, [], Result, Err, refl, sym, ap, subst, inl, inr, arith}
 use Rattle.map_kind.specs.declared.refusal.Refusal.TheVariants as told
 use Rattle.map_kind.specs.declared.refusal.Refused.{Refused}
 use Rattle.map_kind.specs.declared.refusal.Refused.TheVariants as why
 use Rattle.map_defs.specs.Kind.{Kind, beta, inverse, IsDistant}
-use Rattle.map_defs.specs.Rows.{Rows, links_of, IsLive, IsSound}
+use Rattle.map_defs.specs.Rows.{Rows, links_of, IsLive}
 use Rattle.map_defs.specs.Edits.{Edit, Fits, after_edit}
 use Rattle.machine_defs.specs.State.{State, Content, steps_to}
-use Rattle.map_defs.specs.Values.{Rule, Meaning}
+use Rattle.map_defs.specs.Values.{Meaning}
 use Rattle.map_defs.specs.Pairs.{IsGood}
 use Rattle.map_defs.specs.Links.{Links}
 use Rattle.machine_defs.specs.Relinking.{IsRelinked, NoDart}

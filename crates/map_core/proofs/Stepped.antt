@@ -1,7 +1,7 @@
 -- A step of a map, noted where a mark stands: the state is the machine's after it, and what the map keeps is kept.
 use Rattle.std.proofs.Common.{◌≡◌, ℕ, ◌<◌, ◌↔◌, Bool, true, false, IsTrue, Option, Some, None, IsSome, refl, sym, ap, ◌∙◌, subst, inl, inr, arith}
 use Rattle.std.proofs.lemmas.Bool.{cases_eq, false≢true}
-use Rattle.machine_defs.specs.State.{Content, State, steps_to}
+use Rattle.machine_defs.specs.State.{Content, steps_to}
 use Rattle.machine_defs.specs.Difference.{Difference}
 use Rattle.trail_laws.specs.Trails.{Trail, IsOrdered}
 use Rattle.trail_laws.specs.Told.{told, IsTraced}
@@ -10,7 +10,7 @@ use Rattle.valued_map.specs.Told.{IsTold, IsStep}
 use Rattle.map_core.specs.Noted.{advanced}
 
 -- where no mark stands no step is told
-none-stands : (asked : Bool) (standing : ℕ) → IsTrue asked ↔ (0 < standing) → asked ≡ false → standing ≡ 0
+pub none-stands : (asked : Bool) (standing : ℕ) → IsTrue asked ↔ (0 < standing) → asked ≡ false → standing ≡ 0
 none-stands asked standing noting off = elim (cases_eq standing 0) [
   | inl none ↦ none
   | inr some ↦ absurd (false≢true (sym off ∙ noting.1 (omega arith)))

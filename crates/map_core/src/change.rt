@@ -24,10 +24,10 @@ impl<'h, K: Kind, H: Hook, const DIM: usize> Map<'h, K, H, DIM> {
             return Err(Refused::Line(Refusal::BadCount));
         }
         let count = K::per_side() * sides as u32;
+        let first = self.links().made() + 1;
         if !self.has_numbers(count) {
             return Err(Refused::Line(Refusal::Full));
         }
-        let first = self.links().made() + 1;
         let edit = polygon_edit(alloc, self.links(), sides as u32)?;
         self.bear(alloc, &edit)?;
         Ok(Done { first, count })

@@ -37,6 +37,7 @@ impl<'h, K: Kind, H: Hook, const DIM: usize> Map<'h, K, H, DIM> {
             × (self.new.state ≡ first_state content)) }
         ensures err { OnErr result (self.new ≡ self.old) }
     {
+        self.see_dimension();
         let links = links_after::<K, DIM>(alloc, edit)?;
         let darts = darts_of(alloc, places)?;
         let cells = cells_of(alloc, &links, 0, &darts)?;

@@ -1,5 +1,5 @@
 //! The map itself, and what all its calls share.
-ghost use Rattle.std.specs.Prelude.{◌≡◌, ℕ, ◌+◌, ◌≤◌, ◌↔◌, IfOk, IsTrue};
+ghost use Rattle.std.specs.Prelude.{◌≡◌, ◌+◌, ◌≤◌, ◌↔◌, IfOk, IsTrue};
 ghost use Rattle.map_defs.specs.Rows.{IsSound, links_of, made};
 ghost use Rattle.map_defs.specs.Laws.{IsLawful, Laws};
 ghost use Rattle.machine_defs.specs.State.{empty_state};

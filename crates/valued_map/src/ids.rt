@@ -1,6 +1,6 @@
 //! How the cells of a map get their ids, and lose them.
-ghost use Rattle.std.specs.Prelude.{◌≡◌, ℕ, ◌+◌, ◌≤◌, ◌<◌, ◌⊎◌, length, Some, Contains};
-ghost use Rattle.store_defs.specs.Labelings.{HasPlaces, id_of, KeepsPlaces};
+ghost use Rattle.std.specs.Prelude.{◌≡◌, ℕ, ◌+◌, ◌≤◌, ◌<◌, ◌⊎◌, length, Contains};
+ghost use Rattle.store_defs.specs.Labelings.{HasPlaces, KeepsPlaces};
 ghost use Rattle.store_defs.specs.Groups.{group_at};
 ghost use Rattle.label_laws.specs.Stored.{stored_value};
 ghost use Rattle.label_laws.specs.Changing.{AreTaken, AreGiven, HaveId, AreRelabelled, IsGroupedBelow, IsGroupGiven, AreGroupsGiven};

@@ -1,5 +1,5 @@
 //! Steps taken back, on the parts of a map. Nothing is known here of a journal.
-ghost use Rattle.std.specs.Prelude.{◌≡◌, ◌≢◌, ℕ, ◌+◌, ◌≤◌, ◌<◌, ◌⊎◌, ◌&&◌, [], length, nat_eq, cond, unwrap_or, slice_index, Contains, Option, IsSome, IfOk, OnOk, OnErr};
+ghost use Rattle.std.specs.Prelude.{◌≡◌, ℕ, ◌+◌, ◌≤◌, ◌<◌, ◌⊎◌, ◌&&◌, [], length, nat_eq, cond, unwrap_or, slice_index, Contains, Option, IsSome, IfOk, OnOk, OnErr};
 ghost use Rattle.std.specs.Ordering.{nat_cmp};
 ghost use Rattle.std.specs.BTreeMap as tree;
 ghost use Rattle.map_defs.specs.Rows.{Rows, IsLive, IsSound, links_of, made, live_count};

@@ -1,5 +1,5 @@
 //! The rules of the dimensions.
-ghost use Rattle.std.specs.Prelude.{◌≡◌, ◌==◌, ◌≤◌, ◌<◌, ◌↔◌, [], cond, length, replicate, slice_set, Some, None, IsSome, IsTrue, IfOk, OnOk, OnErr};
+ghost use Rattle.std.specs.Prelude.{◌≡◌, ◌==◌, ◌≤◌, ◌<◌, ◌↔◌, cond, length, replicate, slice_set, Some, None, IsSome, IsTrue, IfOk, OnOk, OnErr};
 ghost use Rattle.store_defs.specs.Groups.{rule_at as rule_of};
 ghost use Rattle.machine_defs.specs.Machine.{with_rule};
 ghost use Rattle.valued_map.specs.Told.{IsOneRule, IsStep};
@@ -38,7 +38,7 @@ impl<K: Kind, const DIM: usize> ValuedMap<K, DIM> {
 }
 
 /// The change of the rule of a dimension to this one, unless it has it.
-pub(crate) fn rule_changes(
+fn rule_changes(
     alloc: Global,
     rules: &RuleRow,
     dim: usize,

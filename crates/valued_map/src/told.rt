@@ -1,22 +1,20 @@
 //! What a change is told as. Where it is not asked for, nothing is looked at, and no memory is taken.
-ghost use Rattle.std.specs.Prelude.{◌≡◌, ◌≢◌, ℕ, ◌+◌, ◌≤◌, ◌<◌, ◌⊎◌, ◌↔◌, ◌==◌, ◌++◌, ◌∷◌, [], if◌then◌else◌, map, filter, length, IsTrue, Some, Contains, AllPairs, IfOk, OnOk};
+ghost use Rattle.std.specs.Prelude.{◌≡◌, ◌≢◌, ℕ, ◌+◌, ◌≤◌, ◌<◌, ◌⊎◌, ◌↔◌, ◌==◌, ◌++◌, [], if◌then◌else◌, map, length, IsTrue, Contains, AllPairs, IfOk, OnOk};
 ghost use Rattle.std.specs.List.Sorted.{IsStrictlyIncreasing};
 ghost use Rattle.map_defs.specs.Rows.{links_of, IsLive};
 ghost use Rattle.map_defs.specs.Cells.{InCell};
 ghost use Rattle.map_defs.specs.Edits.{Change as LinkChange};
-ghost use Rattle.machine_defs.specs.Difference.{IsLinkBefore, RuleChange as ChangedRule};
-ghost use Rattle.store_defs.specs.Groups.{group_at, rule_at};
-ghost use Rattle.label_laws.specs.Stored.{stored_value};
-ghost use Rattle.valued_map.specs.Told.{IsBegun, finished, first_number, IsSorted, IsRelabelledPlace, AreOldValues, AreNewValues, IsOneRule, old_value};
+ghost use Rattle.machine_defs.specs.Difference.{IsLinkBefore};
+ghost use Rattle.store_defs.specs.Groups.{group_at};
+ghost use Rattle.valued_map.specs.Told.{IsBegun, finished, first_number, IsSorted, IsRelabelledPlace, AreOldValues, AreNewValues, old_value};
 
 use crate::ids::stored_value;
 use attr_pool::{Labels, Pool};
-use attr_rules::TableRule;
 use cell_walk::cell;
 use link_rows::{Change, Edit, Links, MADE_MAX};
 use map_kind::{Dart, Kind};
 use std::alloc::{AllocError, Global};
-use transport::{Group, RuleRow};
+use transport::Group;
 use undo_journal::{RuleChange, Step, ValueChange};
 
 /// Begins the step of an edit that is about to be made after so many darts were made, if it is asked for: its edit is told

@@ -1,5 +1,5 @@
 //! Which darts an edit touches.
-ghost use Rattle.std.specs.Prelude.{◌≡◌, ℕ, ◌+◌, ◌≤◌, ◌<◌, Contains, IfOk, OnOk};
+ghost use Rattle.std.specs.Prelude.{◌≡◌, ℕ, ◌≤◌, ◌<◌, Contains, IfOk, OnOk};
 ghost use Rattle.map_defs.specs.Rows.{Rows, IsLive, IsSound, links_of, made};
 ghost use Rattle.map_defs.specs.Edits.{IsLed};
 ghost use Rattle.map_defs.specs.Touched.{IsTouched};

@@ -8,7 +8,7 @@ use Rattle.edit_laws.proofs.EditSound.{length-after}
 use Rattle.map_core.proofs.map.Map.load.Goals as goal
 
 pub links_after-requires : goal.links_after-requires
-links_after-requires g c = (lit< tt, (c.dimension.ensures.low, (c.dimension.ensures.high, (c.requires.fits, c.requires.few))))
+links_after-requires g c = (lit< tt, (c.see_dimension.ensures.low, (c.see_dimension.ensures.high, (c.requires.fits, c.requires.few))))
 
 pub load_links-requires : goal.load_links-requires
 load_links-requires g c =

@@ -1,5 +1,4 @@
 use Rattle.std.proofs.Common.{ap, sym, subst, ◌∙◌, lit<}
-use Rattle.std.proofs.lemmas.Result.{err_from_is_err_and}
 use Rattle.machine_defs.specs.State.{State}
 use Rattle.trail_laws.specs.Trails.{Trail}
 use Rattle.trail_laws.specs.Told.{told, IsTraced}

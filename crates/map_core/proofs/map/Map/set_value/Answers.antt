@@ -1,4 +1,4 @@
-use Rattle.std.proofs.Common.{refl, ap}
+use Rattle.std.proofs.Common.{ap}
 use Rattle.std.proofs.lemmas.Result.{err_from_is_err_and}
 use Rattle.machine_defs.specs.State.{State}
 use Rattle.map_core.proofs.Stepped.{told-asked, told-advanced, traced-advanced, traced-same, told-same}

@@ -8,9 +8,9 @@ pub returns-in_err-edit-clause-does : goal.returns-in_err-edit-clause-does
 returns-in_err-edit-clause-does g c =
     let k = g.K.Kind.kind in
     let n : ℕ = g.row.DIM in
-    let rows : Rows = c.links.result.now.rows in
+    let rows : Rows = c.links-2.result.now.rows in
     let p = err_from_is_err_and c.from_residual-in_err-edit.result c.from_residual-in_err-edit.ensures.1 in
-    sew-refused k n rows (g.H.Rule.meaning c.args.self.now.hook) c.args.self.now.state c.links.ensures.kind c.links.ensures.dim c.links.ensures.rows c.links.ensures.kept
+    sew-refused k n rows (g.H.Rule.meaning c.args.self.now.hook) c.args.self.now.state c.links-2.ensures.kind c.links-2.ensures.dim c.links-2.ensures.rows c.links-2.ensures.kept
     c.args.link c.args.dart c.in_ok-link.ensures.1 c.in_ok-dart.ensures.1
     c.args.other c.in_ok-other.ensures.1
     c.in_ok-link.link c.in_ok-dart.dart c.in_ok-other.other
@@ -24,9 +24,9 @@ pub returns-clause-does : goal.returns-clause-does
 returns-clause-does g c =
     let k = g.K.Kind.kind in
     let n : ℕ = g.row.DIM in
-    let rows : Rows = c.links.result.now.rows in
+    let rows : Rows = c.links-2.result.now.rows in
     let made = c.in_ok-relink.ensures.made in
-    sew-obeyed k n rows (g.H.Rule.meaning c.args.self.now.hook) c.args.self.now.state c.links.ensures.kind c.links.ensures.dim c.links.ensures.rows c.links.ensures.kept
+    sew-obeyed k n rows (g.H.Rule.meaning c.args.self.now.hook) c.args.self.now.state c.links-2.ensures.kind c.links-2.ensures.dim c.links-2.ensures.rows c.links-2.ensures.kept
     c.args.link c.args.dart c.in_ok-link.ensures.1 c.in_ok-dart.ensures.1
     c.in_ok-edit.edit c.in_ok-edit.ensures.fits c.in_ok-edit.ensures.births c.in_ok-edit.ensures.deaths
     c.relink.new.self.state made.0 made.1 made.2
