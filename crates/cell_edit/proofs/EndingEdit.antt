@@ -51,7 +51,7 @@ turned-same : (M N : Links) → ((t x : ℕ) → N t x ≡ M t x) → IsTurned M
 turned-same M N same turned = record {
   nothing = same 0 0 ∙ turned.nothing;
   back = λ x y nx ny. let both = turned.back x y nx ny in
-  ((λ h. same 0 y ∙ both.0 (sym (same 1 x) ∙ h)), λ h. same 1 x ∙ both.1 (sym (same 0 y) ∙ h));
+      ((λ h. same 0 y ∙ both.0 (sym (same 1 x) ∙ h)), λ h. same 1 x ∙ both.1 (sym (same 0 y) ∙ h));
 }
 
 turned-ended : (L N : Links) (C : ℕ → Type 0) → IsTold C → IsTurned L → ((x j : ℕ) → C x → j ≤ 1 → L j x ≢ 0 → C (L j x))

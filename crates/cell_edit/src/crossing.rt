@@ -10,11 +10,7 @@ use link_rows::Links;
 use map_kind::{Dart, Kind};
 
 /// The dart at a link of a dart, if there is one. A link above the dimension is free.
-fn linked<K: Kind, const DIM: usize>(
-    links: &Links<K, DIM>,
-    link: usize,
-    dart: Dart,
-) -> Option<Dart>
+fn linked<K: Kind, const DIM: usize>(links: &Links<K, DIM>, link: usize, dart: Dart) -> Option<Dart>
     ensures free { IsNone result ↔ (links_of links.now.rows link dart ≡ 0) }
     ensures linked { IfSome result (λ other. other ≡ links_of links.now.rows link dart) }
     ensures sound { IsSound K.kind DIM links.now.rows }

@@ -149,11 +149,7 @@ fn copied<K: Kind>(link: usize, at: usize) -> usize
     requires { link ≤ 8 }
     ensures { result ≡ copied K.kind link at }
 {
-    if at == link + 1 {
-        link
-    } else {
-        K::inverse(at)
-    }
+    if at == link + 1 { link } else { K::inverse(at) }
 }
 
 /// Appends the changes by which the new darts of pairs are joined.

@@ -23,11 +23,7 @@ impl<const DIM: usize> Plans<Links<Alpha, DIM>> for Alpha {
         alpha_edit::edge_plan(alloc, links, one, other)
     }
 
-    fn face_plan(
-        alloc: Global,
-        links: &Links<Alpha, DIM>,
-        path: &[Dart],
-    ) -> Result<Edit, Refused> {
+    fn face_plan(alloc: Global, links: &Links<Alpha, DIM>, path: &[Dart]) -> Result<Edit, Refused> {
         alpha_edit::face_plan(alloc, links, path)
     }
 

@@ -50,12 +50,7 @@ pub trait Plans<L: LinkStore>: Kind {
 
     /// The edit that contracts a dart's cell of dimension `dim`. `NotContractible` comes exactly where the cell cannot be
     /// contracted, memory aside.
-    fn contract_plan(
-        alloc: Global,
-        links: &L,
-        dim: usize,
-        dart: Dart,
-    ) -> Result<Edit, Refused>
+    fn contract_plan(alloc: Global, links: &L, dim: usize, dart: Dart) -> Result<Edit, Refused>
         requires dim { dim ≤ L.dim }
         requires dart { IsLive (L.rows links.now) dart }
         requires laws { Laws Self.kind (links_of (L.rows links.now)) }

@@ -79,6 +79,14 @@ impl<'h, K: Kind, H: Hook, const DIM: usize> Map<'h, K, H, DIM> {
         self.present.links()
     }
 
+    /// The dimension is from 2 to 8: so it is in every map.
+    pub(crate) fn see_dimension(&self)
+        ensures low { 2 ≤ DIM }
+        ensures high { DIM ≤ 8 }
+    {
+        let _ = self.links().dimension();
+    }
+
     /// The live dart of this number. `NoDart` comes exactly where no live dart has it.
     pub(crate) fn live_dart(&self, number: u64) -> Result<Dart, Refusal>
         ensures { NamesDart self.now.state.present.rows number result }

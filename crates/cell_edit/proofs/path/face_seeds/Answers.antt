@@ -11,10 +11,12 @@ side_seed-requires g c =
     let one : c.index-path-place.result ≡ slice_index c.args.path.now c.loop-place.place =
     c.index-path-place.is ∙ get_or_default c.args.path.now c.loop-place.place c.index-path-place.result 0 c.loop-place-test.true in
     let next : c.index-path-next_place.result ≡ slice_index c.args.path.now (next_place (length c.args.path.now) c.loop-place.place) =
-    c.index-path-next_place.is ∙ get_or_default c.args.path.now c.next_place.result c.index-path-next_place.result 0 c.next_place.ensures.within ∙ ap (slice_index c.args.path.now) c.next_place.ensures.next in
-    (lit< tt, subst (λ u. IsJoining g.K.Kind.kind (links_of c.args.links.now.rows) u c.index-path-next_place.result) (sym one)
-    (subst (IsJoining g.K.Kind.kind (links_of c.args.links.now.rows) (slice_index c.args.path.now c.loop-place.place)) (sym next)
-    (closed-at g.K.Kind.kind (links_of c.args.links.now.rows) c.args.path.now c.requires c.loop-place.place c.loop-place-test.true)))
+    c.index-path-next_place.is ∙ get_or_default c.args.path.now c.next_place.result c.index-path-next_place.result 0 c.next_place.ensures.within ∙ ap (slice_index c.args.path.now) c.next_place.ensures.next in (
+      lit< tt,
+      subst (λ u. IsJoining g.K.Kind.kind (links_of c.args.links.now.rows) u c.index-path-next_place.result) (sym one)
+          (subst (IsJoining g.K.Kind.kind (links_of c.args.links.now.rows) (slice_index c.args.path.now c.loop-place.place)) (sym next)
+          (closed-at g.K.Kind.kind (links_of c.args.links.now.rows) c.args.path.now c.requires c.loop-place.place c.loop-place-test.true)),
+    )
 
 pub loop-place-preserved : goal.loop-place-preserved
 loop-place-preserved g c =
