@@ -1,29 +1,27 @@
 use Rattle.map_defs.specs.TextWords.{words_of}
-use Rattle.script_text.specs.Meanings.{line_meaning}
-use Rattle.std.proofs.Common.{lit<, refl}
+use Rattle.script_text.specs.Meanings.{change_meaning, question_meaning}
+use Rattle.std.proofs.Common.{lit<}
 use Rattle.map_run.specs.Lines.{IsTold}
 use Rattle.map_run.proofs.LineFacts.{AnswersLine-said, AnswersLine-unread, AnswersLine-blank}
 use Rattle.map_run.proofs.machine.obey_line.Goals as goal
 
 pub change-requires : goal.change-requires
 unfolding IsTold
-change-requires g c = (lit< tt, (c.requires, (words_of c.args.line.now, rw c.in-Ok-Some.field-0-is at c.in-Ok-Some.ensures.told)))
+change-requires g c = (lit< tt, (c.requires, (words_of c.args.line.now, rw (c.in-Ok-Some-Change.field-0-is, c.in-Ok-Some-Change.field-0-0-is) at c.in-Ok-Some-Change.ensures.told)))
 
-pub returns-in-Some-clause-answered : goal.returns-in-Some-clause-answered
-returns-in-Some-clause-answered g c =
-    let read = rw c.in-Ok-Some.field-0-is at c.in-Ok-Some.ensures.told in
-    let step = c.done.ensures (g.H.Rule.meaning c.args.map.now.hook) c.args.map.now.state c.change.new.map.state (line_meaning c.in-Ok-Some.line) c.in-Some.ensures.does in
-    AnswersLine-said (g.H.Rule.meaning c.args.map.now.hook) (g.S.Sink.written c.args.out.now) (g.S.Sink.written c.say.new.out) c.args.map.now.state c.change.new.map.state (words_of c.args.line.now) (line_meaning c.in-Ok-Some.line) c.done.result c.say.result
+pub returns-in-Ok-Some-Change-clause-answered : goal.returns-in-Ok-Some-Change-clause-answered
+returns-in-Ok-Some-Change-clause-answered g c =
+    let line = change_meaning c.in-Ok-Some-Change.line in
+    let read = rw (c.in-Ok-Some-Change.field-0-is, c.in-Ok-Some-Change.field-0-0-is) at c.in-Ok-Some-Change.ensures.told in
+    let step = c.done.ensures (g.H.Rule.meaning c.args.map.now.hook) c.args.map.now.state c.change.new.map.state line c.change.ensures.does in
+    AnswersLine-said (g.H.Rule.meaning c.args.map.now.hook) (g.S.Sink.written c.args.out.now) (g.S.Sink.written c.say.new.out) c.args.map.now.state c.change.new.map.state (words_of c.args.line.now) line c.done.result c.say.result
     read step c.say.ensures.said c.say.ensures.unsaid
 
-pub returns-in-Ok-Some-clause-answered : goal.returns-in-Ok-Some-clause-answered
-returns-in-Ok-Some-clause-answered g c =
-    let read = rw c.in-Ok-Some.field-0-is at c.in-Ok-Some.ensures.told in
-    let same = (c.in-None.ensures.asks refl).1 in
-    let step = rw (c.in-None.ensures.hook, same) at c.ask.ensures in
-    rw same
-    (AnswersLine-said (g.H.Rule.meaning c.args.map.now.hook) (g.S.Sink.written c.args.out.now) (g.S.Sink.written c.say-in-None.new.out) c.args.map.now.state c.args.map.now.state (words_of c.args.line.now) (line_meaning c.in-Ok-Some.line) c.ask.result c.say-in-None.result
-    read step c.say-in-None.ensures.said c.say-in-None.ensures.unsaid)
+pub returns-in-Ok-Some-Question-clause-answered : goal.returns-in-Ok-Some-Question-clause-answered
+returns-in-Ok-Some-Question-clause-answered g c =
+    let read = rw (c.in-Ok-Some-Question.field-0-is, c.in-Ok-Some-Question.field-0-0-is) at c.in-Ok-Some-Question.ensures.told in
+    AnswersLine-said (g.H.Rule.meaning c.args.map.now.hook) (g.S.Sink.written c.args.out.now) (g.S.Sink.written c.say-in-Ok-Some-Question.new.out) c.args.map.now.state c.args.map.now.state (words_of c.args.line.now) (question_meaning c.in-Ok-Some-Question.line) c.ask.result c.say-in-Ok-Some-Question.result
+    read c.ask.ensures c.say-in-Ok-Some-Question.ensures.said c.say-in-Ok-Some-Question.ensures.unsaid
 
 pub returns-in-Err-Line-clause-answered : goal.returns-in-Err-Line-clause-answered
 returns-in-Err-Line-clause-answered g c =
