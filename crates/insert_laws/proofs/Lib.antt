@@ -12,6 +12,8 @@ pub mod BetaVertex
 pub mod BetaEdge
 pub mod BetaEdgeLaws
 pub mod BetaEdgePairs
+pub mod OneToOne
+pub mod LinkZero
 pub mod Around
 pub mod Closed
 pub mod ClosedFree

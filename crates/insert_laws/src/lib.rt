@@ -4,13 +4,13 @@
 //! of every dimension. A proof uses it by a call. The lemmas behind them are in `proofs/`, for other laws to build on.
 #![tactic(auto)]
 
-ghost use Rattle.std.specs.Prelude.{◌≡◌, ◌≢◌, ◌<◌, ◌≤◌, ℕ, List, length, Bool, Contains, IsTrue};
+ghost use Rattle.std.specs.Prelude.{◌≡◌, ◌≢◌, ◌<◌, ◌≤◌, ◌↔◌, ℕ, List, length, Bool, Contains, IsTrue};
 ghost use Rattle.map_defs.specs.Kind.{Kind, alpha, beta, inverse};
-ghost use Rattle.map_defs.specs.Links.{Links, LeadsToLive};
+ghost use Rattle.map_defs.specs.Links.{Links, IsTurned, LeadsToLive};
 ghost use Rattle.map_defs.specs.Laws.{Laws};
 ghost use Rattle.map_defs.specs.Cells.{InCell};
 ghost use Rattle.map_defs.specs.Births.{IsFresh, IsNumbered, AreBorn, IsCounted};
-ghost use Rattle.map_defs.specs.Insertion.{IsInsertable, IsInserted, IsAlphaVertex, AlphaEdgeDarts, AreAlphaEdgePaired, IsAlphaEdge, IsBetaVertex, InBetaCorner, AreBetaEdgePaired, BetaEdgeDarts, IsBetaEdge, FaceDarts, IsClosedPath, IsFacePaired, IsFace};
+ghost use Rattle.map_defs.specs.Insertion.{IsInsertable, IsInserted, IsAlphaVertex, AlphaEdgeDarts, AreAlphaEdgePaired, IsAlphaEdge, IsBetaVertex, InBetaCorner, AreBetaEdgePaired, BetaEdgeDarts, BetaEdgeLeads, IsBetaEdge, FaceDarts, IsClosedPath, IsFacePaired, IsFace};
 ghost use Rattle.map_defs.specs.Closing.{IsOpen, IsClosed};
 
 /// An insertion in general keeps the laws, at any link and in both kinds, where its set and its pairs meet the premises.
@@ -67,6 +67,46 @@ pub fn edge_keeps_the_laws_of_beta()
     ensures { (d e : ℕ) (star : ℕ → ℕ) (L N : Links) → Laws beta L → (InBetaCorner L d e → ⊥)
         → AreBetaEdgePaired L d e → IsFresh L (BetaEdgeDarts L d e) star → IsBetaEdge d e star L N
         → Laws beta N }
+{}
+
+/// The new link 1 of a combinatorial map is one-to-one after a vertex and after an edge, as it is told of the new darts, of
+/// those before them and of the others. Nothing is taken of the new link 0.
+///
+/// For a reader of the laws here: the operations ask of the new link 0 that it leads back where link 1 leads on. A link 0
+/// that does so is there, since link 1 is one-to-one (`link_zero_is_found`), and there is one (`link_zero_is_one`). So
+/// maps as the operations tell them do exist.
+pub fn new_link_one_is_one_to_one()
+    ensures vertex { (d : ℕ) (star : ℕ → ℕ) (L N : Links) → Laws beta L
+        → IsFresh L (InCell beta L 1 d) star
+        → ((x : ℕ) → InCell beta L 1 d x → N 1 x ≡ star x)
+        → ((x : ℕ) → InCell beta L 1 d x → N 1 (star x) ≡ L 1 x)
+        → ((x : ℕ) → (InCell beta L 1 d x → ⊥) → ((y : ℕ) → InCell beta L 1 d y → x ≢ star y)
+        → N 1 x ≡ L 1 x)
+        → (x y : ℕ) → N 1 x ≢ 0 → N 1 x ≡ N 1 y → x ≡ y }
+    ensures edge { (d e : ℕ) (star : ℕ → ℕ) (L N : Links) → Laws beta L → (InBetaCorner L d e → ⊥)
+        → AreBetaEdgePaired L d e → IsFresh L (BetaEdgeDarts L d e) star
+        → ((x y : ℕ) → BetaEdgeLeads L d e x y → N 1 (L 0 x) ≡ star x)
+        → ((x y : ℕ) → BetaEdgeLeads L d e x y → N 1 (star x) ≡ y)
+        → ((x : ℕ) → ((c y : ℕ) → BetaEdgeLeads L d e c y → x ≢ L 0 c)
+        → ((c y : ℕ) → BetaEdgeLeads L d e c y → x ≢ star c) → N 1 x ≡ L 1 x)
+        → (x y : ℕ) → N 1 x ≢ 0 → N 1 x ≡ N 1 y → x ≡ y }
+{}
+
+/// Where a link 1 is one-to-one and no dart above some bound is linked by it, there is a link 0 that leads back where it
+/// leads on, and that is free at each other dart: the dart before y is found among the darts up to the bound.
+///
+/// For a reader of the laws here: with `new_link_one_is_one_to_one` the link 0 is there for which an operation asks.
+pub fn link_zero_is_found()
+    ensures { (f : ℕ → ℕ) (bound : ℕ) → ((x : ℕ) → f x ≢ 0 → x ≤ bound)
+        → ((x y : ℕ) → f x ≢ 0 → f x ≡ f y → x ≡ y)
+        → (g : ℕ → ℕ) × (g 0 ≡ 0) × ((x y : ℕ) → x ≢ 0 → y ≢ 0 → (f x ≡ y) ↔ (g y ≡ x)) }
+{}
+
+/// Link 1 leaves no choice of link 0: two links that lead back where link 1 leads on are the same at every dart.
+///
+/// For a reader of the laws here: what an operation tells of link 1 tells all of link 0.
+pub fn link_zero_is_one()
+    ensures { (N M : Links) → IsTurned N → IsTurned M → ((x : ℕ) → N 1 x ≡ M 1 x) → (x : ℕ) → N 0 x ≡ M 0 x }
 {}
 
 /// A face along a closed path whose pairs are good keeps the laws of a map of either kind.

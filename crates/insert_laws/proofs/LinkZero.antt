@@ -1,0 +1,30 @@
+-- A link that leads back where a one-to-one link leads on can be found.
+use Rattle.std.proofs.Common.{ℕ, zero, suc, ◌≡◌, ◌≢◌, ◌<◌, ◌≤◌, ◌⊎◌, ◌↔◌, refl, sym, ap, inl, inr, ⊎_elim, ◌∙◌, arith}
+use Rattle.link_laws.proofs.Pigeonhole.{meets_or_not}
+
+abbrev FoundBelow : (ℕ → ℕ) → ℕ → ℕ → Type 0
+FoundBelow f y n = ((p : ℕ) × (p < n) × (f p ≡ y)) ⊎ ((p : ℕ) → p < n → f p ≢ y)
+
+-- the dart that was found, or none
+found_or_none : (f : ℕ → ℕ) (y n : ℕ) → FoundBelow f y n → ℕ
+found_or_none f y n s = ⊎_elim (λ h. h.0) (λ _. 0) s
+
+-- the dart up to the bound from which f leads to y, or none
+pub before : (ℕ → ℕ) → ℕ → ℕ → ℕ
+before f bound zero = 0
+before f bound (suc y) = found_or_none f (suc y) (suc bound) (meets_or_not f (suc y) (suc bound))
+
+module _ (f : ℕ → ℕ) (bound : ℕ) (low : (x : ℕ) → f x ≢ 0 → x ≤ bound) (one : (x y : ℕ) → f x ≢ 0 → f x ≡ f y → x ≡ y) where
+  found_back : (x y : ℕ) → x ≢ 0 → y ≢ 0 → (s : FoundBelow f y (suc bound)) → (f x ≡ y) ↔ (found_or_none f y (suc bound) s ≡ x)
+  unfolding found_or_none
+  found_back x y hx hy (inl (p, l, q)) = ((λ e. one p x (λ o. hy (sym q ∙ o)) (q ∙ sym e)), (λ e. ap f (sym e) ∙ q))
+  found_back x y hx hy (inr none) = ((λ e. absurd (none x (let l : x ≤ bound = low x (λ o. hy (sym e ∙ o)) in omega arith) e)), (λ e. absurd (hx (sym e))))
+
+  pub before_back : (x y : ℕ) → x ≢ 0 → y ≢ 0 → (f x ≡ y) ↔ (before f bound y ≡ x)
+  unfolding before
+  before_back x zero hx hy = absurd (hy refl)
+  before_back x (suc y) hx hy = found_back x (suc y) hx hy (meets_or_not f (suc y) (suc bound))
+
+  pub link_zero_found : (g : ℕ → ℕ) × (g 0 ≡ 0) × ((x y : ℕ) → x ≢ 0 → y ≢ 0 → (f x ≡ y) ↔ (g y ≡ x))
+  unfolding before
+  link_zero_found = (before f bound, refl, before_back)
