@@ -5,3 +5,4 @@ pub mod BetaDangle
 pub mod Triangles
 pub mod BetaTriangles
 pub mod TwoSeries
+pub mod HungLinkOne

@@ -54,6 +54,33 @@ pub fn centre_keeps_the_laws_of_beta()
         → IsBetaCentred d star tip L N → Laws beta N }
 {}
 
+/// Link 1 of a combinatorial map is one-to-one after a dangling edge and after a centre, as it is told of the new darts, of
+/// those before them and of the others. Nothing is taken of the new link 0.
+///
+/// For a reader of the laws here: both operations ask of the new link 0 that it leads back where link 1 leads on. A link 0
+/// that does so is there, since link 1 is one-to-one, and there is one. So maps as the operations tell them do exist.
+pub fn hung_link_one_is_one_to_one()
+    ensures dangling { (d : ℕ) (star tip : ℕ → ℕ) (L N : Links) → Laws beta L
+        → IsFresh L (InBetaCorner L d) star → IsFresh L (InBetaCorner L d) tip
+        → ((x y : ℕ) → InBetaCorner L d x → InBetaCorner L d y → star x ≢ tip y)
+        → ((x : ℕ) → InBetaCorner L d x → N 1 (L 0 x) ≡ star x)
+        → ((x : ℕ) → InBetaCorner L d x → N 1 (star x) ≡ tip x)
+        → ((x : ℕ) → InBetaCorner L d x → N 1 (tip x) ≡ x)
+        → ((x : ℕ) → ((y : ℕ) → InBetaCorner L d y → x ≢ L 0 y)
+        → ((y : ℕ) → InBetaCorner L d y → x ≢ star y) → ((y : ℕ) → InBetaCorner L d y → x ≢ tip y)
+        → N 1 x ≡ L 1 x)
+        → (x y : ℕ) → N 1 x ≢ 0 → N 1 x ≡ N 1 y → x ≡ y }
+    ensures centre { (d : ℕ) (star tip : ℕ → ℕ) (L N : Links) → Laws beta L
+        → IsFresh L (InCell beta L 2 d) star → IsFresh L (InCell beta L 2 d) tip
+        → ((x y : ℕ) → InCell beta L 2 d x → InCell beta L 2 d y → star x ≢ tip y)
+        → ((x : ℕ) → InCell beta L 2 d x → N 1 x ≡ star x)
+        → ((x : ℕ) → InCell beta L 2 d x → N 1 (star x) ≡ tip x)
+        → ((x : ℕ) → InCell beta L 2 d x → N 1 (tip x) ≡ x)
+        → ((x : ℕ) → (InCell beta L 2 d x → ⊥) → ((y : ℕ) → InCell beta L 2 d y → x ≢ star y)
+        → ((y : ℕ) → InCell beta L 2 d y → x ≢ tip y) → N 1 x ≡ L 1 x)
+        → (x y : ℕ) → N 1 x ≢ 0 → N 1 x ≡ N 1 y → x ≡ y }
+{}
+
 /// A vertex in the middle of a face of a generalized map makes triangles around one vertex. Three steps along link 0 and
 /// then link 1 lead from each dart of the old face back to it, if its link 0 is not free. The ends of the new edges, one
 /// new dart for each dart of the old face, are one vertex and all of it. And two darts of the old face lie in one new face
