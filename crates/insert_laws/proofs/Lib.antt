@@ -17,3 +17,4 @@ pub mod LinkZero
 pub mod Around
 pub mod Closed
 pub mod ClosedFree
+pub mod ClosedOneToOne

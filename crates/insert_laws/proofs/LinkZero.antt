@@ -1,5 +1,6 @@
 -- A link that leads back where a one-to-one link leads on can be found.
 use Rattle.std.proofs.Common.{ℕ, zero, suc, ◌≡◌, ◌≢◌, ◌<◌, ◌≤◌, ◌⊎◌, ◌↔◌, refl, sym, ap, inl, inr, ⊎_elim, ◌∙◌, arith}
+use Rattle.map_defs.specs.Links.{Links, IsTurned}
 use Rattle.link_laws.proofs.Pigeonhole.{meets_or_not}
 
 abbrev FoundBelow : (ℕ → ℕ) → ℕ → ℕ → Type 0
@@ -28,3 +29,21 @@ module _ (f : ℕ → ℕ) (bound : ℕ) (low : (x : ℕ) → f x ≢ 0 → x �
   pub link_zero_found : (g : ℕ → ℕ) × (g 0 ≡ 0) × ((x y : ℕ) → x ≢ 0 → y ≢ 0 → (f x ≡ y) ↔ (g y ≡ x))
   unfolding before
   link_zero_found = (before f bound, refl, before_back)
+
+-- links with another link 0
+pub with_zero : (ℕ → ℕ) → Links → Links
+with_zero g M zero x = g x
+with_zero g M (suc t) x = M (suc t) x
+
+pub zero_apart : (g : ℕ → ℕ) (M : Links) (t x : ℕ) → 1 ≤ t → with_zero g M t x ≡ M t x
+unfolding with_zero
+zero_apart g M zero x l = absurd (omega arith)
+zero_apart g M (suc t) x l = refl
+
+-- links whose link 1 is one-to-one get the link 0 that leads back
+pub turned_links : (M : Links) (bound : ℕ) → ((x : ℕ) → M 1 x ≢ 0 → x ≤ bound) → ((x y : ℕ) → M 1 x ≢ 0 → M 1 x ≡ M 1 y → x ≡ y)
+    → (N : Links) × ((t x : ℕ) → 1 ≤ t → N t x ≡ M t x) × IsTurned N
+unfolding with_zero
+turned_links M bound low one =
+    let found : (g : ℕ → ℕ) × (g 0 ≡ 0) × ((x y : ℕ) → x ≢ 0 → y ≢ 0 → (M 1 x ≡ y) ↔ (g y ≡ x)) = link_zero_found (M 1) bound low one in
+    (with_zero found.0 M, zero_apart found.0 M, record { nothing = found.1; back = found.2 })

@@ -11,7 +11,8 @@ ghost use Rattle.map_defs.specs.Laws.{Laws};
 ghost use Rattle.map_defs.specs.Cells.{InCell};
 ghost use Rattle.map_defs.specs.Births.{IsFresh, IsNumbered, AreBorn, IsCounted};
 ghost use Rattle.map_defs.specs.Insertion.{IsInsertable, IsInserted, IsAlphaVertex, AlphaEdgeDarts, AreAlphaEdgePaired, IsAlphaEdge, IsBetaVertex, InBetaCorner, AreBetaEdgePaired, BetaEdgeDarts, BetaEdgeLeads, IsBetaEdge, FaceDarts, IsClosedPath, IsFacePaired, IsFace};
-ghost use Rattle.map_defs.specs.Closing.{IsOpen, IsClosed};
+ghost use Rattle.map_defs.specs.Closing.{IsOpen, IsAround, IsClosed};
+ghost use Rattle.map_defs.specs.Rows.{Rows, IsLive};
 
 /// An insertion in general keeps the laws, at any link and in both kinds, where its set and its pairs meet the premises.
 ///
@@ -69,8 +70,8 @@ pub fn edge_keeps_the_laws_of_beta()
         → Laws beta N }
 {}
 
-/// The new link 1 of a combinatorial map is one-to-one after a vertex and after an edge, as it is told of the new darts, of
-/// those before them and of the others. Nothing is taken of the new link 0.
+/// The new link 1 of a combinatorial map is one-to-one after a vertex, after an edge and after closing at a link from 2
+/// upwards, as it is told of the new darts, of those before them and of the others. Nothing is taken of the new link 0.
 ///
 /// For a reader of the laws here: the operations ask of the new link 0 that it leads back where link 1 leads on. A link 0
 /// that does so is there, since link 1 is one-to-one (`link_zero_is_found`), and there is one (`link_zero_is_one`). So
@@ -89,6 +90,18 @@ pub fn new_link_one_is_one_to_one()
         → ((x y : ℕ) → BetaEdgeLeads L d e x y → N 1 (star x) ≡ y)
         → ((x : ℕ) → ((c y : ℕ) → BetaEdgeLeads L d e c y → x ≢ L 0 c)
         → ((c y : ℕ) → BetaEdgeLeads L d e c y → x ≢ star c) → N 1 x ≡ L 1 x)
+        → (x y : ℕ) → N 1 x ≢ 0 → N 1 x ≡ N 1 y → x ≡ y }
+    ensures closing { (rows : Rows) (keys : List ℕ) (made : ℕ) (star : ℕ → ℕ) (L N : Links) → Laws beta L
+        → IsCounted made (IsLive rows) → LeadsToLive (IsLive rows) L
+        → IsNumbered (IsOpen (IsLive rows) 2 L) keys made star
+        → ((x y : ℕ) → IsOpen (IsLive rows) 2 L x → IsAround beta 2 1 L x y → N 1 (star x) ≡ star y)
+        → ((x : ℕ) → ((y : ℕ) → IsOpen (IsLive rows) 2 L y → x ≢ star y) → N 1 x ≡ L 1 x)
+        → (x y : ℕ) → N 1 x ≢ 0 → N 1 x ≡ N 1 y → x ≡ y }
+    ensures closing_above { (i : ℕ) (rows : Rows) (keys : List ℕ) (made : ℕ) (star : ℕ → ℕ) (L N : Links)
+        → 3 ≤ i → Laws beta L → IsCounted made (IsLive rows) → LeadsToLive (IsLive rows) L
+        → IsNumbered (IsOpen (IsLive rows) i L) keys made star
+        → ((x : ℕ) → IsOpen (IsLive rows) i L x → N 1 (star x) ≡ star (L 0 x))
+        → ((x : ℕ) → ((y : ℕ) → IsOpen (IsLive rows) i L y → x ≢ star y) → N 1 x ≡ L 1 x)
         → (x y : ℕ) → N 1 x ≢ 0 → N 1 x ≡ N 1 y → x ≡ y }
 {}
 
