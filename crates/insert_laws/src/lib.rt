@@ -10,28 +10,52 @@ ghost use Rattle.map_defs.specs.Links.{Links, IsTurned, LeadsToLive};
 ghost use Rattle.map_defs.specs.Laws.{Laws};
 ghost use Rattle.map_defs.specs.Cells.{InCell};
 ghost use Rattle.map_defs.specs.Births.{IsFresh, IsNumbered, AreBorn, IsCounted};
-ghost use Rattle.map_defs.specs.Insertion.{IsInsertable, IsInserted, IsAlphaVertex, AlphaEdgeDarts, AreAlphaEdgePaired, IsAlphaEdge, IsBetaVertex, InBetaCorner, AreBetaEdgePaired, BetaEdgeDarts, BetaEdgeLeads, IsBetaEdge, FaceDarts, IsClosedPath, IsFacePaired, IsFace};
+ghost use Rattle.map_defs.specs.Insertion.{IsJustBelow, IsInsertable, IsInserted, IsAlphaVertex, AlphaEdgeDarts, AreAlphaEdgePaired, IsAlphaEdge, IsBetaVertex, InBetaCorner, AreBetaEdgePaired, BetaEdgeDarts, BetaEdgeLeads, IsBetaEdge, FaceDarts, IsClosedPath, IsFacePaired, IsFace};
+ghost use Rattle.map_defs.specs.Inserting.{EdgeDarts};
 ghost use Rattle.map_defs.specs.Closing.{IsOpen, IsAround, IsClosed};
 ghost use Rattle.map_defs.specs.Rows.{Rows, IsLive};
 
-/// An insertion in general keeps the laws, at any link and in both kinds, where its set and its pairs meet the premises.
+/// An insertion in general keeps the laws, at any link and in both kinds, where its set and its pairs meet the premises. So
+/// it is for each set and each pairs that can be told, and for the darts free at a link, paired around the boundary. For the
+/// sets and pairs of a vertex, an edge and a face the laws further below say it.
 ///
 /// For whoever adds an operation of his own that makes one new dart beyond a link of each dart of a set: it is enough to
 /// meet the premises of `IsInsertable`.
 pub fn insertion_keeps_the_laws()
-    ensures { (k : Kind) (i : ℕ) (K : ℕ → Bool) (P : ℕ → ℕ → ℕ → Bool) (star : ℕ → ℕ) (L N : Links)
+    ensures told { (k : Kind) (i : ℕ) (K : ℕ → Bool) (P : ℕ → ℕ → ℕ → Bool) (star : ℕ → ℕ) (L N : Links)
         → Laws k L → IsInsertable k i (λ x. IsTrue (K x)) (λ x y t. IsTrue (P x y t)) L
         → IsFresh L (λ x. IsTrue (K x)) star
         → IsInserted k i (λ x. IsTrue (K x)) (λ x y t. IsTrue (P x y t)) star L N → Laws k N }
+    ensures closing { (k : Kind) (i : ℕ) (rows : Rows) (star : ℕ → ℕ) (L N : Links) → Laws k L
+        → IsInsertable k i (IsOpen (IsLive rows) i L)
+        (λ x y t. IsOpen (IsLive rows) i L x × IsJustBelow k i t × IsAround k i t L x y) L
+        → IsFresh L (IsOpen (IsLive rows) i L) star
+        → IsInserted k i (IsOpen (IsLive rows) i L)
+        (λ x y t. IsOpen (IsLive rows) i L x × IsJustBelow k i t × IsAround k i t L x y) star L N
+        → Laws k N }
 {}
 
-/// New darts that are numbered on from the number made so far are fresh where no dart above that number is linked.
+/// New darts that are numbered on from the number made so far are fresh where no dart above that number is linked. So it is
+/// for each set that can be told, and for the sets of the operations: a cell, as the edge on which a vertex is inserted, the
+/// darts of an edge and of a face that are inserted, and the live darts free at a link, at which a map is closed.
 ///
 /// For whoever plans an insertion: with the numbering of the program the premise `IsFresh` of the laws here holds.
 pub fn numbered_darts_are_fresh()
-    ensures { (K : ℕ → Bool) (keys : List ℕ) (made : ℕ) (star : ℕ → ℕ) (L : Links)
+    ensures told { (K : ℕ → Bool) (keys : List ℕ) (made : ℕ) (star : ℕ → ℕ) (L : Links)
         → IsNumbered (λ x. IsTrue (K x)) keys made star → ((x : ℕ) → IsTrue (K x) → x ≤ made) →
         ((t x : ℕ) → L t x ≢ 0 → x ≤ made) → IsFresh L (λ x. IsTrue (K x)) star }
+    ensures vertex { (k : Kind) (i d : ℕ) (keys : List ℕ) (made : ℕ) (star : ℕ → ℕ) (L : Links)
+        → IsNumbered (InCell k L i d) keys made star → ((x : ℕ) → InCell k L i d x → x ≤ made)
+        → ((t x : ℕ) → L t x ≢ 0 → x ≤ made) → IsFresh L (InCell k L i d) star }
+    ensures edge { (k : Kind) (d e : ℕ) (keys : List ℕ) (made : ℕ) (star : ℕ → ℕ) (L : Links)
+        → IsNumbered (EdgeDarts k L d e) keys made star → ((x : ℕ) → EdgeDarts k L d e x → x ≤ made)
+        → ((t x : ℕ) → L t x ≢ 0 → x ≤ made) → IsFresh L (EdgeDarts k L d e) star }
+    ensures face { (k : Kind) (path : List ℕ) (keys : List ℕ) (made : ℕ) (star : ℕ → ℕ) (L : Links)
+        → IsNumbered (FaceDarts k L path) keys made star → ((x : ℕ) → FaceDarts k L path x → x ≤ made)
+        → ((t x : ℕ) → L t x ≢ 0 → x ≤ made) → IsFresh L (FaceDarts k L path) star }
+    ensures closing { (i : ℕ) (rows : Rows) (keys : List ℕ) (made : ℕ) (star : ℕ → ℕ) (L : Links)
+        → IsNumbered (IsOpen (IsLive rows) i L) keys made star → ((x : ℕ) → IsOpen (IsLive rows) i L x → x ≤ made)
+        → ((t x : ℕ) → L t x ≢ 0 → x ≤ made) → IsFresh L (IsOpen (IsLive rows) i L) star }
 {}
 
 /// A vertex on an edge keeps the laws of a generalized map.
@@ -136,36 +160,56 @@ pub fn face_keeps_the_laws()
 /// For whoever plans it and applies it: its condition is that the link is its own inverse, which all links of a generalized
 /// map are, and those from 2 upwards in a combinatorial map.
 pub fn closing_keeps_the_laws()
-    ensures { (k : Kind) (i : ℕ) (Live : ℕ → Bool) (keys : List ℕ) (made : ℕ) (star : ℕ → ℕ) (L N : Links)
+    ensures told { (k : Kind) (i : ℕ) (Live : ℕ → Bool) (keys : List ℕ) (made : ℕ) (star : ℕ → ℕ) (L N : Links)
         → inverse k i ≡ i → Laws k L → IsCounted made (λ x. IsTrue (Live x))
         → LeadsToLive (λ x. IsTrue (Live x)) L
         → IsNumbered (IsOpen (λ x. IsTrue (Live x)) i L) keys made star
         → IsClosed k i (λ x. IsTrue (Live x)) star L N → Laws k N }
+    ensures rows { (k : Kind) (i : ℕ) (rows : Rows) (keys : List ℕ) (made : ℕ) (star : ℕ → ℕ) (L N : Links)
+        → inverse k i ≡ i → Laws k L → IsCounted made (IsLive rows)
+        → LeadsToLive (IsLive rows) L
+        → IsNumbered (IsOpen (IsLive rows) i L) keys made star
+        → IsClosed k i (IsLive rows) star L N → Laws k N }
 {}
 
 /// After closing at a link no live dart is free there.
 ///
 /// For whoever closes a map because a later step, as the dual, asks for a map without a boundary.
 pub fn closing_leaves_no_free_dart()
-    ensures { (k : Kind) (i : ℕ) (Live LiveAfter : ℕ → Bool) (keys : List ℕ) (made : ℕ) (star : ℕ → ℕ)
+    ensures told { (k : Kind) (i : ℕ) (Live LiveAfter : ℕ → Bool) (keys : List ℕ) (made : ℕ) (star : ℕ → ℕ)
         (L N : Links) → inverse k i ≡ i → Laws k L → IsCounted made (λ x. IsTrue (Live x))
         → LeadsToLive (λ x. IsTrue (Live x)) L
         → IsNumbered (IsOpen (λ x. IsTrue (Live x)) i L) keys made star
         → IsClosed k i (λ x. IsTrue (Live x)) star L N
         → AreBorn made (length keys) (λ x. IsTrue (Live x)) (λ x. IsTrue (LiveAfter x)) → (x : ℕ)
         → IsTrue (LiveAfter x) → N i x ≢ 0 }
+    ensures rows { (k : Kind) (i : ℕ) (rows after : Rows) (keys : List ℕ) (made : ℕ) (star : ℕ → ℕ)
+        (L N : Links) → inverse k i ≡ i → Laws k L → IsCounted made (IsLive rows)
+        → LeadsToLive (IsLive rows) L
+        → IsNumbered (IsOpen (IsLive rows) i L) keys made star
+        → IsClosed k i (IsLive rows) star L N
+        → AreBorn made (length keys) (IsLive rows) (IsLive after) → (x : ℕ)
+        → IsLive after x → N i x ≢ 0 }
 {}
 
 /// Where no live dart was free below a link, after closing at it none is free up to it.
 ///
 /// For whoever closes a map link by link, upwards: closing at one link opens no link below it.
 pub fn closing_upwards_closes_all()
-    ensures { (k : Kind) (i : ℕ) (Live LiveAfter : ℕ → Bool) (keys : List ℕ) (made : ℕ) (star : ℕ → ℕ)
+    ensures told { (k : Kind) (i : ℕ) (Live LiveAfter : ℕ → Bool) (keys : List ℕ) (made : ℕ) (star : ℕ → ℕ)
         (L N : Links) → inverse k i ≡ i → Laws k L → IsCounted made (λ x. IsTrue (Live x))
         → LeadsToLive (λ x. IsTrue (Live x)) L
         → IsNumbered (IsOpen (λ x. IsTrue (Live x)) i L) keys made star
         → IsClosed k i (λ x. IsTrue (Live x)) star L N
         → AreBorn made (length keys) (λ x. IsTrue (Live x)) (λ x. IsTrue (LiveAfter x)) →
         ((t x : ℕ) → IsTrue (Live x) → t < i → L t x ≢ 0) → (t x : ℕ) → IsTrue (LiveAfter x) → t ≤ i
+        → N t x ≢ 0 }
+    ensures rows { (k : Kind) (i : ℕ) (rows after : Rows) (keys : List ℕ) (made : ℕ) (star : ℕ → ℕ)
+        (L N : Links) → inverse k i ≡ i → Laws k L → IsCounted made (IsLive rows)
+        → LeadsToLive (IsLive rows) L
+        → IsNumbered (IsOpen (IsLive rows) i L) keys made star
+        → IsClosed k i (IsLive rows) star L N
+        → AreBorn made (length keys) (IsLive rows) (IsLive after) →
+        ((t x : ℕ) → IsLive rows x → t < i → L t x ≢ 0) → (t x : ℕ) → IsLive after x → t ≤ i
         → N t x ≢ 0 }
 {}
