@@ -19,6 +19,17 @@ linked_live k L w Live live t x h =
     let b : L (inverse k t) (L t x) ≡ x = w.back t x h in
     rw b at (live (inverse k t) (L t x) (λ o. dart_of_link k L w t x h (sym b ∙ o)))
 
+-- live darts are counted: they are darts, they alone are linked, and the new darts of those free at a link are fresh
+pub live_dart : (made : ℕ) (Live : ℕ → Type 0) → IsCounted made Live → (x : ℕ) → Live x → x ≢ 0
+live_dart made Live counted x h o = let l : 1 ≤ x = (counted x h).0 in omega arith
+
+pub live_bound : (k : Kind) (L : Links) → Laws k L → (Live : ℕ → Type 0) → LeadsToLive Live L → (made : ℕ) → IsCounted made Live → IsMadeUpTo made L
+live_bound k L w Live live made counted t x h = (counted x (linked_live k L w Live live t x h)).1
+
+pub open_fresh : (k : Kind) (L : Links) → Laws k L → (Live : ℕ → Type 0) → LeadsToLive Live L → (made : ℕ) → IsCounted made Live
+    → (i : ℕ) (keys : List ℕ) (star : ℕ → ℕ) → IsNumbered (IsOpen Live i L) keys made star → IsFresh L (IsOpen Live i L) star
+open_fresh k L w Live live made counted i keys star numbers = numbered_fresh (IsOpen Live i L) keys made star numbers L (λ x h. (counted x h.0).1) (live_bound k L w Live live made counted)
+
 -- the inverse of a link below one that is its own inverse is below it too
 inverse_below : (k : Kind) (i t : ℕ) → inverse k i ≡ i → t < i → inverse k t < i
 inverse_below alpha i t own l = l
@@ -30,13 +41,13 @@ inverse_below beta (suc (suc i)) (suc (suc t)) own l = l
 
 module _ (k : Kind) (i : ℕ) (own : inverse k i ≡ i) (Live : ℕ → Type 0) (keys : List ℕ) (made : ℕ) (star : ℕ → ℕ) (L N : Links) (w : Laws k L) (counted : IsCounted made Live) (live : LeadsToLive Live L) (numbers : IsNumbered (IsOpen Live i L) keys made star) (s : IsClosed k i Live star L N) where
   dart : (x : ℕ) → Live x → x ≢ 0
-  dart x h o = let l : 1 ≤ x = (counted x h).0 in omega arith
+  dart = live_dart made Live counted
 
   bound : IsMadeUpTo made L
-  bound t x h = (counted x (linked_live k L w Live live t x h)).1
+  bound = live_bound k L w Live live made counted
 
   fresh : IsFresh L (IsOpen Live i L) star
-  fresh = numbered_fresh (IsOpen Live i L) keys made star numbers L (λ x h. (counted x h.0).1) bound
+  fresh = open_fresh k L w Live live made counted i keys star numbers
 
   pub closed_laws : Laws k N
   closed_laws = closing_keeps k i own Live L w dart live made bound star fresh N s

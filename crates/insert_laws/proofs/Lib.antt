@@ -14,7 +14,9 @@ pub mod BetaEdgeLaws
 pub mod BetaEdgePairs
 pub mod OneToOne
 pub mod LinkZero
+pub mod NewLinks
 pub mod Around
 pub mod Closed
 pub mod ClosedFree
 pub mod ClosedOneToOne
+pub mod ClosedLinks

@@ -4,8 +4,8 @@
 //! of every dimension. A proof uses it by a call. The lemmas behind them are in `proofs/`, for other laws to build on.
 #![tactic(auto)]
 
-ghost use Rattle.std.specs.Prelude.{◌≡◌, ◌≢◌, ◌<◌, ◌≤◌, ◌↔◌, ℕ, List, length, Bool, Contains, IsTrue};
-ghost use Rattle.map_defs.specs.Kind.{Kind, alpha, beta, inverse};
+ghost use Rattle.std.specs.Prelude.{◌≡◌, ◌≢◌, ◌<◌, ◌≤◌, ◌↔◌, ℕ, suc, List, length, Bool, Contains, IsTrue};
+ghost use Rattle.map_defs.specs.Kind.{Kind, alpha, beta, inverse, IsDistant};
 ghost use Rattle.map_defs.specs.Links.{Links, IsTurned, LeadsToLive};
 ghost use Rattle.map_defs.specs.Laws.{Laws};
 ghost use Rattle.map_defs.specs.Cells.{InCell};
@@ -54,7 +54,8 @@ pub fn numbered_darts_are_fresh()
         → IsNumbered (FaceDarts k L path) keys made star → ((x : ℕ) → FaceDarts k L path x → x ≤ made)
         → ((t x : ℕ) → L t x ≢ 0 → x ≤ made) → IsFresh L (FaceDarts k L path) star }
     ensures closing { (i : ℕ) (rows : Rows) (keys : List ℕ) (made : ℕ) (star : ℕ → ℕ) (L : Links)
-        → IsNumbered (IsOpen (IsLive rows) i L) keys made star → ((x : ℕ) → IsOpen (IsLive rows) i L x → x ≤ made)
+        → IsNumbered (IsOpen (IsLive rows) i L) keys made star
+        → ((x : ℕ) → IsOpen (IsLive rows) i L x → x ≤ made)
         → ((t x : ℕ) → L t x ≢ 0 → x ≤ made) → IsFresh L (IsOpen (IsLive rows) i L) star }
 {}
 
@@ -99,7 +100,7 @@ pub fn edge_keeps_the_laws_of_beta()
 ///
 /// For a reader of the laws here: the operations ask of the new link 0 that it leads back where link 1 leads on. A link 0
 /// that does so is there, since link 1 is one-to-one (`link_zero_is_found`), and there is one (`link_zero_is_one`). So
-/// maps as the operations tell them do exist.
+/// maps as the operations tell them do exist (`new_links_exist`).
 pub fn new_link_one_is_one_to_one()
     ensures vertex { (d : ℕ) (star : ℕ → ℕ) (L N : Links) → Laws beta L
         → IsFresh L (InCell beta L 1 d) star
@@ -146,6 +147,49 @@ pub fn link_zero_is_one()
     ensures { (N M : Links) → IsTurned N → IsTurned M → ((x : ℕ) → N 1 x ≡ M 1 x) → (x : ℕ) → N 0 x ≡ M 0 x }
 {}
 
+/// A combinatorial map after a vertex, after an edge or after closing exists where its links from 1 upwards do: links that
+/// meet all clauses on these, and that leave each dart above some bound without a link 1, get a link 0 with which they meet
+/// the operation's whole record.
+///
+/// For a reader of the laws here: what the operations ask of the new link 0 can be had, so the laws speak of maps that
+/// there are.
+pub fn new_links_exist()
+    ensures vertex { (d bound : ℕ) (star : ℕ → ℕ) (L M : Links) → Laws beta L
+        → IsFresh L (InCell beta L 1 d) star
+        → ((x : ℕ) → InCell beta L 1 d x → M 1 x ≡ star x)
+        → ((x : ℕ) → InCell beta L 1 d x → M 1 (star x) ≡ L 1 x)
+        → ((x j : ℕ) → InCell beta L 1 d x → 2 ≤ j → M j x ≡ star (L j x))
+        → ((x j : ℕ) → InCell beta L 1 d x → 2 ≤ j → M j (star x) ≡ L j x)
+        → ((x t : ℕ) → 1 ≤ t → (InCell beta L 1 d x → ⊥) → ((y : ℕ) → InCell beta L 1 d y → x ≢ star y)
+        → M t x ≡ L t x)
+        → ((x : ℕ) → M 1 x ≢ 0 → x ≤ bound)
+        → (N : Links) × ((t x : ℕ) → 1 ≤ t → N t x ≡ M t x) × IsBetaVertex d star L N }
+    ensures edge { (d e bound : ℕ) (star : ℕ → ℕ) (L M : Links) → Laws beta L → (InBetaCorner L d e → ⊥)
+        → AreBetaEdgePaired L d e → IsFresh L (BetaEdgeDarts L d e) star
+        → ((x y : ℕ) → BetaEdgeLeads L d e x y → M 1 (L 0 x) ≡ star x)
+        → ((x y : ℕ) → BetaEdgeLeads L d e x y → M 1 (star x) ≡ y)
+        → ((x y : ℕ) → BetaEdgeLeads L d e x y → M 2 (star x) ≡ star y)
+        → ((x y j : ℕ) → BetaEdgeLeads L d e x y → 3 ≤ j → M j (star x) ≡ star (L j (L 0 y)))
+        → ((x t : ℕ) → 1 ≤ t → ((c y : ℕ) → BetaEdgeLeads L d e c y → t ≡ 1 → x ≢ L 0 c)
+        → ((c y : ℕ) → BetaEdgeLeads L d e c y → x ≢ star c) → M t x ≡ L t x)
+        → ((x : ℕ) → M 1 x ≢ 0 → x ≤ bound)
+        → (N : Links) × ((t x : ℕ) → 1 ≤ t → N t x ≡ M t x) × IsBetaEdge d e star L N }
+    ensures closing { (i : ℕ) (rows : Rows) (keys : List ℕ) (made bound : ℕ) (star : ℕ → ℕ) (L M : Links)
+        → 2 ≤ i → Laws beta L → IsCounted made (IsLive rows) → LeadsToLive (IsLive rows) L
+        → IsNumbered (IsOpen (IsLive rows) i L) keys made star
+        → ((x : ℕ) → IsOpen (IsLive rows) i L x → M i x ≡ star x)
+        → ((x : ℕ) → IsOpen (IsLive rows) i L x → M i (star x) ≡ x)
+        → ((x : ℕ) → IsOpen (IsLive rows) i L x → M (suc i) (star x) ≡ 0)
+        → ((x j : ℕ) → 1 ≤ j → IsOpen (IsLive rows) i L x → IsDistant beta i j
+        → M j (star x) ≡ star (L (inverse beta j) x))
+        → ((x y t : ℕ) → IsOpen (IsLive rows) i L x → suc t ≡ i → IsAround beta i t L x y
+        → M t (star x) ≡ star y)
+        → ((x t : ℕ) → 1 ≤ t → (IsOpen (IsLive rows) i L x → t ≢ i)
+        → ((y : ℕ) → IsOpen (IsLive rows) i L y → x ≢ star y) → M t x ≡ L t x)
+        → ((x : ℕ) → M 1 x ≢ 0 → x ≤ bound)
+        → (N : Links) × ((t x : ℕ) → 1 ≤ t → N t x ≡ M t x) × IsClosed beta i (IsLive rows) star L N }
+{}
+
 /// A face along a closed path whose pairs are good keeps the laws of a map of either kind.
 ///
 /// For whoever plans it and applies it: the laws need no path on one volume.
@@ -155,7 +199,7 @@ pub fn face_keeps_the_laws()
         → IsFresh L (FaceDarts k L path) star → IsFace k path star L N → Laws k N }
 {}
 
-/// Closing at a link keeps the laws of a map of either kind.
+/// Closing at a link keeps the laws of a map of either kind, where a test tells the live darts and where rows tell them.
 ///
 /// For whoever plans it and applies it: its condition is that the link is its own inverse, which all links of a generalized
 /// map are, and those from 2 upwards in a combinatorial map.
@@ -172,7 +216,7 @@ pub fn closing_keeps_the_laws()
         → IsClosed k i (IsLive rows) star L N → Laws k N }
 {}
 
-/// After closing at a link no live dart is free there.
+/// After closing at a link no live dart is free there, where tests tell the live darts and where rows tell them.
 ///
 /// For whoever closes a map because a later step, as the dual, asks for a map without a boundary.
 pub fn closing_leaves_no_free_dart()
@@ -192,7 +236,7 @@ pub fn closing_leaves_no_free_dart()
         → IsLive after x → N i x ≢ 0 }
 {}
 
-/// Where no live dart was free below a link, after closing at it none is free up to it.
+/// Where no live dart was free below a link, after closing at it none is free up to it. Tests or rows tell the live darts.
 ///
 /// For whoever closes a map link by link, upwards: closing at one link opens no link below it.
 pub fn closing_upwards_closes_all()
