@@ -6,3 +6,4 @@ pub mod Triangles
 pub mod BetaTriangles
 pub mod TwoSeries
 pub mod HungLinkOne
+pub mod HungLinks

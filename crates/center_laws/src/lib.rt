@@ -58,7 +58,8 @@ pub fn centre_keeps_the_laws_of_beta()
 /// those before them and of the others. Nothing is taken of the new link 0.
 ///
 /// For a reader of the laws here: both operations ask of the new link 0 that it leads back where link 1 leads on. A link 0
-/// that does so is there, since link 1 is one-to-one, and there is one. So maps as the operations tell them do exist.
+/// that does so exists, since link 1 is one-to-one, and is one: `insert_laws` has both as laws. So this clause of the
+/// operations shuts out no links from 1 upwards, and leaves no choice (`hung_links_exist`).
 pub fn hung_link_one_is_one_to_one()
     ensures dangling { (d : ℕ) (star tip : ℕ → ℕ) (L N : Links) → Laws beta L
         → IsFresh L (InBetaCorner L d) star → IsFresh L (InBetaCorner L d) tip
@@ -79,6 +80,44 @@ pub fn hung_link_one_is_one_to_one()
         → ((x : ℕ) → (InCell beta L 2 d x → ⊥) → ((y : ℕ) → InCell beta L 2 d y → x ≢ star y)
         → ((y : ℕ) → InCell beta L 2 d y → x ≢ tip y) → N 1 x ≡ L 1 x)
         → (x y : ℕ) → N 1 x ≢ 0 → N 1 x ≡ N 1 y → x ≡ y }
+{}
+
+/// A combinatorial map after a dangling edge or after a centre exists where its links from 1 upwards do: links that meet all
+/// clauses on these, and that leave each dart above some bound without a link 1, get a link 0 with which they meet the
+/// operation's whole record.
+///
+/// For a reader of the laws here: what both operations ask of the new link 0 can always be had, so no law holds only because
+/// such a link 0 is wanting.
+pub fn hung_links_exist()
+    ensures dangling { (d bound : ℕ) (star tip : ℕ → ℕ) (L M : Links) → Laws beta L
+        → IsFresh L (InBetaCorner L d) star → IsFresh L (InBetaCorner L d) tip
+        → ((x y : ℕ) → InBetaCorner L d x → InBetaCorner L d y → star x ≢ tip y)
+        → ((x : ℕ) → InBetaCorner L d x → M 1 (L 0 x) ≡ star x)
+        → ((x : ℕ) → InBetaCorner L d x → M 1 (star x) ≡ tip x)
+        → ((x : ℕ) → InBetaCorner L d x → M 1 (tip x) ≡ x)
+        → ((x : ℕ) → InBetaCorner L d x → M 2 (star x) ≡ tip x)
+        → ((x : ℕ) → InBetaCorner L d x → M 2 (tip x) ≡ star x)
+        → ((x j : ℕ) → InBetaCorner L d x → 3 ≤ j → M j (star x) ≡ tip (L j (L 0 x)))
+        → ((x j : ℕ) → InBetaCorner L d x → 3 ≤ j → M j (tip x) ≡ star (L j (L 0 x)))
+        → ((x t : ℕ) → 1 ≤ t → ((y : ℕ) → InBetaCorner L d y → t ≡ 1 → x ≢ L 0 y)
+        → ((y : ℕ) → InBetaCorner L d y → x ≢ star y) → ((y : ℕ) → InBetaCorner L d y → x ≢ tip y)
+        → M t x ≡ L t x)
+        → ((x : ℕ) → M 1 x ≢ 0 → x ≤ bound)
+        → (N : Links) × ((t x : ℕ) → 1 ≤ t → N t x ≡ M t x) × IsBetaDangled d star tip L N }
+    ensures centre { (d bound : ℕ) (star tip : ℕ → ℕ) (L M : Links) → Laws beta L
+        → IsFresh L (InCell beta L 2 d) star → IsFresh L (InCell beta L 2 d) tip
+        → ((x y : ℕ) → InCell beta L 2 d x → InCell beta L 2 d y → star x ≢ tip y)
+        → ((x : ℕ) → InCell beta L 2 d x → M 1 x ≡ star x)
+        → ((x : ℕ) → InCell beta L 2 d x → M 1 (star x) ≡ tip x)
+        → ((x : ℕ) → InCell beta L 2 d x → M 1 (tip x) ≡ x)
+        → ((x : ℕ) → InCell beta L 2 d x → M 2 (star x) ≡ tip (L 1 x))
+        → ((x : ℕ) → InCell beta L 2 d x → M 2 (tip x) ≡ star (L 0 x))
+        → ((x j : ℕ) → InCell beta L 2 d x → 3 ≤ j → M j (star x) ≡ tip (L j x))
+        → ((x j : ℕ) → InCell beta L 2 d x → 3 ≤ j → M j (tip x) ≡ star (L j x))
+        → ((x t : ℕ) → 1 ≤ t → (InCell beta L 2 d x → t ≢ 1) → ((y : ℕ) → InCell beta L 2 d y → x ≢ star y)
+        → ((y : ℕ) → InCell beta L 2 d y → x ≢ tip y) → M t x ≡ L t x)
+        → ((x : ℕ) → M 1 x ≢ 0 → x ≤ bound)
+        → (N : Links) × ((t x : ℕ) → 1 ≤ t → N t x ≡ M t x) × IsBetaCentred d star tip L N }
 {}
 
 /// A vertex in the middle of a face of a generalized map makes triangles around one vertex. Three steps along link 0 and

@@ -16,8 +16,8 @@ ghost use Rattle.map_defs.specs.Closing.{IsOpen, IsAround, IsClosed};
 ghost use Rattle.map_defs.specs.Rows.{Rows, IsLive};
 
 /// An insertion in general keeps the laws, at any link and in both kinds, where its set and its pairs meet the premises. So
-/// it is for each set and each pairs that can be told, and for the darts free at a link, paired around the boundary. For the
-/// sets and pairs of a vertex, an edge and a face the laws further below say it.
+/// it is where the set and the pairs can be told, and for the live darts free at a link, paired around the boundary. For the
+/// sets and pairs of a vertex and an edge of a generalized map, and of a face, there are laws of their own.
 ///
 /// For whoever adds an operation of his own that makes one new dart beyond a link of each dart of a set: it is enough to
 /// meet the premises of `IsInsertable`.
@@ -99,8 +99,8 @@ pub fn edge_keeps_the_laws_of_beta()
 /// upwards, as it is told of the new darts, of those before them and of the others. Nothing is taken of the new link 0.
 ///
 /// For a reader of the laws here: the operations ask of the new link 0 that it leads back where link 1 leads on. A link 0
-/// that does so is there, since link 1 is one-to-one (`link_zero_is_found`), and there is one (`link_zero_is_one`). So
-/// maps as the operations tell them do exist (`new_links_exist`).
+/// that does so exists, since link 1 is one-to-one (`link_zero_is_found`), and is one (`link_zero_is_one`). So this clause of
+/// the operations shuts out no links from 1 upwards, and leaves no choice (`new_links_exist`).
 pub fn new_link_one_is_one_to_one()
     ensures vertex { (d : ℕ) (star : ℕ → ℕ) (L N : Links) → Laws beta L
         → IsFresh L (InCell beta L 1 d) star
@@ -133,7 +133,7 @@ pub fn new_link_one_is_one_to_one()
 /// Where a link 1 is one-to-one and no dart above some bound is linked by it, there is a link 0 that leads back where it
 /// leads on, and that is free at each other dart: the dart before y is found among the darts up to the bound.
 ///
-/// For a reader of the laws here: with `new_link_one_is_one_to_one` the link 0 is there for which an operation asks.
+/// For a reader of the laws here: with `new_link_one_is_one_to_one` the link 0 for which an operation asks exists.
 pub fn link_zero_is_found()
     ensures { (f : ℕ → ℕ) (bound : ℕ) → ((x : ℕ) → f x ≢ 0 → x ≤ bound)
         → ((x y : ℕ) → f x ≢ 0 → f x ≡ f y → x ≡ y)
@@ -142,7 +142,8 @@ pub fn link_zero_is_found()
 
 /// Link 1 leaves no choice of link 0: two links that lead back where link 1 leads on are the same at every dart.
 ///
-/// For a reader of the laws here: what an operation tells of link 1 tells all of link 0.
+/// For a reader of the laws here: the link 0 for which an operation asks is one, so what it tells of link 1 tells all of
+/// link 0.
 pub fn link_zero_is_one()
     ensures { (N M : Links) → IsTurned N → IsTurned M → ((x : ℕ) → N 1 x ≡ M 1 x) → (x : ℕ) → N 0 x ≡ M 0 x }
 {}
@@ -151,8 +152,8 @@ pub fn link_zero_is_one()
 /// meet all clauses on these, and that leave each dart above some bound without a link 1, get a link 0 with which they meet
 /// the operation's whole record.
 ///
-/// For a reader of the laws here: what the operations ask of the new link 0 can be had, so the laws speak of maps that
-/// there are.
+/// For a reader of the laws here: what the operations ask of the new link 0 can always be had, so no law holds only because
+/// such a link 0 is wanting. It is one, too (`link_zero_is_one`).
 pub fn new_links_exist()
     ensures vertex { (d bound : ℕ) (star : ℕ → ℕ) (L M : Links) → Laws beta L
         → IsFresh L (InCell beta L 1 d) star
