@@ -1,0 +1,4 @@
+pub mod SidesMet
+pub mod Repeating
+pub mod FacesMet
+pub mod MeshMet
