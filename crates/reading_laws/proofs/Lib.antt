@@ -2,3 +2,8 @@ pub mod SidesMet
 pub mod Repeating
 pub mod FacesMet
 pub mod MeshMet
+pub mod RowsRead
+pub mod HeadRead
+pub mod WrongRows
+pub mod TextRead
+pub mod OneReading
