@@ -108,7 +108,10 @@ module _ (text : List ℕ) where
           ended = omega (arith, all-there, length-drop end rows, ap length is, points-read.1, faces-read.1);
         }
           where
-            told : ◌≡◌ {A = Counts} c (record { points = length points; faces = length faces })
+            made : Counts
+            made = record { points = length points; faces = length faces }
+
+            told : c ≡ made
             told = ap₂ (λ (p f : ℕ). record { points = p; faces = f }) (sym points-read.1) (sym faces-read.1)
         at-end (row ∷ others) is = at (list_all is_text (row.first ∷ row.others)) refl
           where
