@@ -51,6 +51,15 @@ sides-told k f (s ∷ own) earlier others all low high split from to =
     (subst (λ (p : ℕ). Told (IsSideFault k (earlier ++ s ∷ (own ++ others)) f p) (side_fault k f s (filter (has_ends s) earlier))) (sym from) (side-told k f earlier s (own ++ others))))
     (sides-told k f own (earlier ++ s ∷ []) others all (low + 1) high (split ∙ sym (append_assoc earlier (s ∷ []) (own ++ others))) (omega (arith, length_push earlier s)) (omega arith))
 
+-- the sides of faces, and of those behind them
+pub sides-split : (base m : ℕ) (one two : List (List ℕ)) → m ≡ base + length (sides_from base one) → sides_from base (one ++ two) ≡ sides_from base one ++ sides_from m two
+sides-split base m [] two long = ap (λ (n : ℕ). sides_from n two) (omega arith)
+sides-split base m (c ∷ one) two long =
+    let own : List Side = face_sides base c in
+    let rest : List Side = sides_from (base + length c) one in
+    let far : m ≡ base + length c + length rest = omega (arith, length-append own rest, length-face_sides base c) in
+    ap (λ (xs : List Side). own ++ xs) (sides-split (base + length c) m one two far) ∙ sym (append_assoc own rest (sides_from m two))
+
 -- the face behind others and before others
 module _ (k : Kind) (faces before after : List (List ℕ)) (corners : List ℕ) (split : faces ≡ before ++ corners ∷ after) where
   abbrev f : ℕ
@@ -62,14 +71,6 @@ module _ (k : Kind) (faces before after : List (List ℕ)) (corners : List ℕ) 
   -- its sides
   at-face : get_or faces f [] ≡ corners
   at-face = ap (λ (fs : List (List ℕ)). get_or fs f []) split ∙ get_or_at before corners after [] f refl
-
-  sides-split : (base m : ℕ) (one two : List (List ℕ)) → m ≡ base + length (sides_from base one) → sides_from base (one ++ two) ≡ sides_from base one ++ sides_from m two
-  sides-split base m [] two long = ap (λ (n : ℕ). sides_from n two) (omega arith)
-  sides-split base m (c ∷ one) two long =
-      let own : List Side = face_sides base c in
-      let rest : List Side = sides_from (base + length c) one in
-      let far : m ≡ base + length c + length rest = omega (arith, length-append own rest, length-face_sides base c) in
-      ap (λ (xs : List Side). own ++ xs) (sides-split (base + length c) m one two far) ∙ sym (append_assoc own rest (sides_from m two))
 
   all-sides : sides_of faces ≡ sides_of before ++ (face_sides low corners ++ sides_from (low + length corners) after)
   all-sides = ap sides_of split ∙ sides-split 0 low before (corners ∷ after) (omega arith)

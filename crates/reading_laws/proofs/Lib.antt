@@ -7,3 +7,4 @@ pub mod HeadRead
 pub mod WrongRows
 pub mod TextRead
 pub mod OneReading
+pub mod Unordered

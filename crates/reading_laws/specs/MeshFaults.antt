@@ -50,3 +50,13 @@ pub data IsMeshFault (k : Kind) (mesh : Mesh) (fault : MapFault) : Type 0 where
   full : made_max < per_side k * length (sides_of mesh.faces) → fault ≡ Full (per_side k * length (sides_of mesh.faces)) → IsMeshFault k mesh fault
   of_face : (f : ℕ) → per_side k * length (sides_of mesh.faces) ≤ made_max → IsFaceFault k mesh.faces f fault
       → ((g : ℕ) (other : MapFault) → g < f → IsFaceFault k mesh.faces g other → ⊥) → IsMeshFault k mesh fault
+
+-- The sides of a mesh can be sewn, said with no order: the darts are not too many, no face has a corner twice, no three sides
+-- have the same two points, and two such sides do not start at the same point where the map is oriented.
+pub record CanBeSewn (k : Kind) (mesh : Mesh) : Type 0 where
+  pub few : per_side k * length (sides_of mesh.faces) ≤ made_max
+  pub once : (f : ℕ) → RepeatsCorner (slice_index_or mesh.faces f []) → ⊥
+  pub two : (p q r : ℕ) → p < q → q < r → r < length (sides_of mesh.faces) → HaveSamePoints (side_of (sides_of mesh.faces) p) (side_of (sides_of mesh.faces) r)
+      → HaveSamePoints (side_of (sides_of mesh.faces) q) (side_of (sides_of mesh.faces) r) → ⊥
+  pub apart : k ≡ beta → (p q : ℕ) → p < q → q < length (sides_of mesh.faces) → HaveSamePoints (side_of (sides_of mesh.faces) p) (side_of (sides_of mesh.faces) q)
+      → (side_of (sides_of mesh.faces) p).from ≢ (side_of (sides_of mesh.faces) q).from

@@ -9,7 +9,7 @@ ghost use Rattle.std.specs.Prelude.{◌≡◌, ◌↔◌, ℕ, List, Some, None,
 ghost use Rattle.map_defs.specs.Kind.{Kind};
 ghost use Rattle.map_defs.specs.Off.{Mesh, TextFault, mesh_of};
 ghost use Rattle.map_defs.specs.MeshMap.{MapFault, mesh_fault};
-ghost use Rattle.reading_laws.specs.MeshFaults.{IsMeshFault};
+ghost use Rattle.reading_laws.specs.MeshFaults.{CanBeSewn, IsMeshFault};
 ghost use Rattle.reading_laws.specs.MeshTexts.{HasFault, IsMeshText};
 
 /// The mesh that is read of a text is the one that its lines tell: the counts on their line, then each point and each face on
@@ -38,7 +38,14 @@ pub fn found_fault_is_the_first()
 
 /// No fault is found just of the meshes that have none.
 ///
-/// For whoever loads a mesh: each mesh whose faces can be sewn is taken.
+/// For whoever loads a mesh: none is refused without one of the faults that can be told.
 pub fn no_fault_is_found_where_none_is()
     ensures { (k : Kind) (mesh : Mesh) → (mesh_fault k mesh ≡ None) ↔ ((fault : MapFault) → IsMeshFault k mesh fault → ⊥) }
+{}
+
+/// No fault is found just of the meshes whose sides can be sewn: this is said with no order of faces and sides.
+///
+/// For whoever makes a mesh: what has to hold of it is a property of its faces together, whichever comes first.
+pub fn faultless_meshes_can_be_sewn()
+    ensures { (k : Kind) (mesh : Mesh) → (mesh_fault k mesh ≡ None) ↔ CanBeSewn k mesh }
 {}
