@@ -1,21 +1,16 @@
 -- A text tells one mesh or has one fault.
-use Rattle.std.proofs.Common.{◌≡◌, ℕ, suc, ◌+◌, ◌-◌, ◌<◌, ◌≤◌, List, [], ◌∷◌, length, get_or, Some, Result, Ok, Err, refl, sym, ap, ap₂, subst, ◌∙◌, inl, inr, arith}
+use Rattle.std.proofs.Common.{◌≡◌, ℕ, ◌+◌, List, length, get_or, Some, Result, Ok, Err, sym, ap, ap₂, subst, ◌∙◌, inl, inr, arith}
 use Rattle.std.specs.Prelude.{slice_get}
 use Rattle.std.proofs.lemmas.Bool.{cases_order}
+use Rattle.std.proofs.lemmas.List.{same_lists}
 use Rattle.std.proofs.lemmas.Option.{slice_get-get_or}
 use Rattle.map_defs.specs.Values.{Value}
 use Rattle.map_defs.specs.Off.{Mesh, What, Short, TextFault, Row, Counts, lines_of, point, face, mesh_of}
 use Rattle.reading_laws.specs.MeshTexts.{rows_of, read_at, line_of, IsWrong, IsMeshText, HasFault}
+use Rattle.reading_laws.proofs.RowsRead.{not-wrong}
 use Rattle.reading_laws.proofs.HeadRead.{one-counts}
 use Rattle.reading_laws.proofs.WrongRows.{IsWrongBehind, wrong-behind, one-wrong}
 use Rattle.reading_laws.proofs.TextRead.{TextTold, text-told}
-
--- lists with the same things at the same places
-same-things : {A : Type 0} (xs ys : List A) → length xs ≡ length ys → ((j : ℕ) (x y : A) → slice_get xs j ≡ Some x → slice_get ys j ≡ Some y → x ≡ y) → xs ≡ ys
-same-things [] [] long same = refl
-same-things [] (y ∷ ys) long same = absurd (omega arith)
-same-things (x ∷ xs) [] long same = absurd (omega arith)
-same-things (x ∷ xs) (y ∷ ys) long same = ap₂ ◌∷◌ (same 0 x y refl refl) (same-things xs ys (omega arith) (λ j a b e f. same (suc j) a b e f))
 
 abbrev read_as : {A : Type 0} → A → Result A What
 read_as x = Ok x
@@ -24,9 +19,12 @@ same-read : {A : Type 0} (x y : A) → read_as x ≡ read_as y → x ≡ y
 same-read x y e = cc
 
 -- rows that are read as two lists
-same-lists : {A : Type 0} (read : List ℕ → List (List ℕ) → Result A What) (rows : List Row) (p : ℕ) (xs ys : List A) → length xs ≡ length ys
+as-one-list : {A : Type 0} (read : List ℕ → List (List ℕ) → Result A What) (rows : List Row) (p : ℕ) (xs ys : List A) → length xs ≡ length ys
     → ((j : ℕ) (x : A) → slice_get xs j ≡ Some x → read_at Short read rows (p + j) ≡ Ok x) → ((j : ℕ) (y : A) → slice_get ys j ≡ Some y → read_at Short read rows (p + j) ≡ Ok y) → xs ≡ ys
-same-lists read rows p xs ys long one two = same-things xs ys long (λ j x y e f. same-read x y (sym (one j x e) ∙ two j y f))
+as-one-list read rows p xs ys long one two =
+    same_lists xs ys long
+    (λ k d h.
+    same-read (get_or xs k d) (get_or ys k d) (sym (one k (get_or xs k d) (slice_get-get_or xs k d h)) ∙ two k (get_or ys k d) (slice_get-get_or ys k d (omega arith))))
 
 module _ (text : List ℕ) where
   abbrev rows : List Row
@@ -40,9 +38,9 @@ module _ (text : List ℕ) where
       let counts : cx ≡ cy = same-read cx cy same.1 in
       let points-long : length x.points ≡ length y.points = ap (λ (c : Counts). c.points) counts in
       let faces-long : length x.faces ≡ length y.faces = ap (λ (c : Counts). c.faces) counts in
-      let points : x.points ≡ y.points = same-lists point rows (one.place + 1) x.points y.points points-long one.points
+      let points : x.points ≡ y.points = as-one-list point rows (one.place + 1) x.points y.points points-long one.points
       (λ j v e. ap (λ (p : ℕ). read_at Short point rows (p + 1 + j)) same.0 ∙ two.points j v e) in
-      let faces : x.faces ≡ y.faces = same-lists (face (length x.points)) rows (one.place + 1 + length x.points) x.faces y.faces faces-long one.faces
+      let faces : x.faces ≡ y.faces = as-one-list (face (length x.points)) rows (one.place + 1 + length x.points) x.faces y.faces faces-long one.faces
       (λ j v e. ap₂ (λ (p m : ℕ). read_at Short (face m) rows (p + 1 + m + j)) same.0 points-long ∙ two.faces j v e) in
       ap₂ (λ (ps : List Value) (fs : List (List ℕ)). record { points = ps; faces = fs }) points faces
 
@@ -56,25 +54,13 @@ module _ (text : List ℕ) where
     | inr (inr above) ↦ absurd (one.first two.place y.what above two.wrong)
   ]
 
-  -- a row that is read is not wrong
-  read-right : {A : Type 0} (read : List ℕ → List (List ℕ) → Result A What) (from p : ℕ) (what : What) (xs : List A) → ((j : ℕ) (x : A) → slice_get xs j ≡ Some x → read_at Short read rows (from + j) ≡ Ok x)
-      → from ≤ p → p < from + length xs → read_at Short read rows p ≡ Err what → ⊥
-  read-right read from p what [] each low high e = absurd (omega arith)
-  read-right read from p what (x ∷ xs) each low high e = at (p - from) (omega arith) e
-    where
-      at : (j : ℕ) → p ≡ from + j → read_at Short read rows p ≡ Err what → ⊥
-      at j is e =
-          let there = each j (get_or (x ∷ xs) j x) (slice_get-get_or (x ∷ xs) j x (omega arith)) in
-          let here : read_at Short read rows p ≡ Ok (get_or (x ∷ xs) j x) = ap (read_at Short read rows) is ∙ there in
-          cc
-
   pub no-fault : (mesh : Mesh) (fault : TextFault) → IsMeshText text mesh → HasFault text fault → ⊥
   no-fault mesh fault told bad = wrong (wrong-behind rows told.place (record { points = length mesh.points; faces = length mesh.faces }) told.counted bad.place fault.what bad.wrong)
     where
       wrong : IsWrongBehind rows told.place (record { points = length mesh.points; faces = length mesh.faces }) bad.place fault.what → ⊥
-      wrong (inl (low, high, e)) = read-right point (told.place + 1) bad.place fault.what mesh.points told.points (omega arith) (omega arith) e
+      wrong (inl (low, high, e)) = not-wrong point rows (told.place + 1) bad.place fault.what mesh.points told.points (omega arith) (omega arith) e
       wrong (inr (inl (low, high, e))) =
-          read-right (face (length mesh.points)) (told.place + 1 + length mesh.points) bad.place fault.what mesh.faces told.faces (omega arith) (omega arith) e
+          not-wrong (face (length mesh.points)) rows (told.place + 1 + length mesh.points) bad.place fault.what mesh.faces told.faces (omega arith) (omega arith) e
       wrong (inr (inr (low, high, e))) = let end = told.ended in omega arith
 
   -- The mesh that is read is the one that the text tells, and the fault that is found is the one that it has.

@@ -1,10 +1,10 @@
 -- Rows that are read one after the other, by their places.
-use Rattle.std.proofs.Common.{◌≡◌, ℕ, zero, suc, ◌+◌, ◌<◌, ◌≤◌, Bool, true, false, List, [], ◌∷◌, length, drop, Option, Some, Result, Ok, Err, refl, ap, ◌∙◌, inl, inr, arith}
+use Rattle.std.proofs.Common.{◌≡◌, ℕ, zero, suc, ◌+◌, ◌-◌, ◌<◌, ◌≤◌, Bool, true, false, List, [], ◌∷◌, length, get_or, drop, Option, Some, Result, Ok, Err, refl, ap, ◌∙◌, inl, inr, arith}
 use Rattle.std.specs.Prelude.{slice_get}
 use Rattle.std.specs.List.{list_all}
 use Rattle.std.proofs.lemmas.Bool.{cases_eq}
 use Rattle.std.proofs.lemmas.List.{drop-drop}
-use Rattle.std.proofs.lemmas.Option.{same_Some}
+use Rattle.std.proofs.lemmas.Option.{same_Some, slice_get-get_or}
 use Rattle.map_defs.specs.TextWords.{is_text}
 use Rattle.map_defs.specs.Off.{What, Short, TextFault, Row, Left, ◌>>=◌, bad, line_read, many}
 use Rattle.reading_laws.specs.MeshTexts.{read_row, read_at, line_of}
@@ -84,3 +84,15 @@ module _ {A : Type 0} (read : List ℕ → List (List ℕ) → Result A What) (r
       at (Err what) e later =
           let one : line_read read (left p) ≡ bad (line_at p) what = one-read p ∙ ap (placed (line_at p) (left (p + 1))) e in
           rw one (p, omega arith, omega arith, e, refl, λ r w le lt b. absurd (omega arith))
+
+-- a row that is read is not wrong
+pub not-wrong : {A : Type 0} (read : List ℕ → List (List ℕ) → Result A What) (rows : List Row) (from p : ℕ) (what : What) (xs : List A) → ((j : ℕ) (x : A) → slice_get xs j ≡ Some x → read_at Short read rows (from + j) ≡ Ok x)
+    → from ≤ p → p < from + length xs → read_at Short read rows p ≡ Err what → ⊥
+not-wrong read rows from p what [] each low high e = absurd (omega arith)
+not-wrong read rows from p what (x ∷ xs) each low high e = at (p - from) (omega arith) e
+  where
+    at : (j : ℕ) → p ≡ from + j → read_at Short read rows p ≡ Err what → ⊥
+    at j is e =
+        let there = each j (get_or (x ∷ xs) j x) (slice_get-get_or (x ∷ xs) j x (omega arith)) in
+        let here : read_at Short read rows p ≡ Ok (get_or (x ∷ xs) j x) = ap (read_at Short read rows) is ∙ there in
+        cc

@@ -1,21 +1,18 @@
 -- The earlier sides between the points of a side, as a filter keeps them and by their places.
 use Rattle.std.proofs.Common.{◌≡◌, ℕ, zero, suc, ◌<◌, min, max, Bool, true, false, cond, ◌&&◌, ◌==◌, List, [], ◌∷◌, ◌++◌, length, filter, Option, Some, None, refl, sym, ap, subst, ◌∙◌, inl, inr, eq-eqb, arith}
-use Rattle.std.proofs.lemmas.Bool.{and_parts, eqb-true, cases_eq, both_ways}
+use Rattle.std.proofs.lemmas.Bool.{eqb-true, cases_eq, both_ways}
 use Rattle.std.proofs.lemmas.List.{get_or_append_left, get_or_at}
 use Rattle.map_defs.specs.Kind.{Kind, alpha, beta}
 use Rattle.map_defs.specs.MeshMap.{Side, MapFault, Turned, has_ends, is_oriented, side_fault}
+use Rattle.mesh_laws.proofs.SideFacts.{same-way, other-way}
 use Rattle.mesh_laws.specs.Sides.{no_side, side_of}
 use Rattle.reading_laws.specs.MeshFaults.{HaveSamePoints, IsEarlier, IsSideFault, third, turned}
 
 points-same : (s t : Side) → has_ends s t ≡ true → HaveSamePoints t s
-points-same s t e =
-    let p = and_parts (min t.from t.to == min s.from s.to) (max t.from t.to == max s.from s.to) e in
-    let low = eqb-true (min t.from t.to) (min s.from s.to) p.0 in
-    let high = eqb-true (max t.from t.to) (max s.from s.to) p.1 in
-    elim (cases_eq t.from s.from) [
-      | inl same ↦ inl (same, omega arith)
-      | inr other ↦ inr (omega arith, omega arith)
-    ]
+points-same s t e = elim (cases_eq s.from t.from) [
+  | inl same ↦ inl (sym same, sym (same-way s t e same))
+  | inr other ↦ let ends = other-way s t e other in inr (sym ends.1, sym ends.0)
+]
 
 ends-same : (s t : Side) → HaveSamePoints t s → has_ends s t ≡ true
 ends-same s t same =

@@ -1,5 +1,5 @@
 -- What is read of a text is what it tells, or its fault.
-use Rattle.std.proofs.Common.{◌≡◌, ℕ, zero, suc, ◌+◌, ◌-◌, ◌<◌, ◌≤◌, Bool, true, false, List, [], ◌∷◌, length, get_or, drop, Some, Result, Ok, Err, refl, sym, ap, ap₂, subst, ◌∙◌, inl, inr, arith}
+use Rattle.std.proofs.Common.{◌≡◌, ℕ, zero, suc, ◌+◌, ◌<◌, ◌≤◌, Bool, true, false, List, [], ◌∷◌, length, get_or, drop, Some, Result, Ok, Err, refl, sym, ap, ap₂, subst, ◌∙◌, inl, inr, arith}
 use Rattle.std.specs.Prelude.{slice_get}
 use Rattle.std.specs.List.{list_all}
 use Rattle.std.proofs.lemmas.List.{length-drop}
@@ -8,7 +8,7 @@ use Rattle.map_defs.specs.TextWords.{is_text}
 use Rattle.map_defs.specs.Values.{Value}
 use Rattle.map_defs.specs.Off.{Mesh, What, Short, Extra, NotText, TextFault, Row, Left, Counts, ◌>>=◌, lines_of, left_of, line_read, many, point, face, header, ended, mesh_left, mesh_of}
 use Rattle.reading_laws.specs.MeshTexts.{rows_of, read_row, read_at, line_of, nothing, AreCounts, of_counts, of_point, of_face, of_more, IsMeshText, HasFault}
-use Rattle.reading_laws.proofs.RowsRead.{AreRead, IsStopped, ManyTold, many-told, slice_get-drop}
+use Rattle.reading_laws.proofs.RowsRead.{AreRead, IsStopped, ManyTold, many-told, not-wrong, slice_get-drop}
 use Rattle.reading_laws.proofs.HeadRead.{HeadTold, head-told}
 use Rattle.reading_laws.proofs.WrongRows.{read-within, counts-within, IsWrongBehind, wrong-behind, wrong-counts}
 
@@ -19,18 +19,6 @@ are-there read rows last p (suc n) [] rest r h = absurd (omega (arith, r.1))
 are-there read rows last p (suc n) (x ∷ xs) rest r h =
     let within = read-within Short read rows (p + n) (get_or (x ∷ xs) n x) (r.2 n (get_or (x ∷ xs) n x) (slice_get-get_or (x ∷ xs) n x (omega (arith, r.1)))) in
     omega (arith, within)
-
--- what was read of n rows from place p on is not wrong
-not-wrong : {A : Type 0} (read : List ℕ → List (List ℕ) → Result A What) (rows : List Row) (last p n : ℕ) (xs : List A) (rest : Left) → AreRead read rows last p n xs rest
-    → (q : ℕ) (what : What) → p ≤ q → q < p + n → read_at Short read rows q ≡ Err what → ⊥
-not-wrong read rows last p n [] rest r q what low high e = absurd (omega (arith, r.1))
-not-wrong read rows last p n (x ∷ xs) rest r q what low high e = at (q - p) (omega arith) e
-  where
-    at : (j : ℕ) → q ≡ p + j → read_at Short read rows q ≡ Err what → ⊥
-    at j is e =
-        let there = r.2 j (get_or (x ∷ xs) j x) (slice_get-get_or (x ∷ xs) j x (omega (arith, r.1))) in
-        let here : read_at Short read rows q ≡ Ok (get_or (x ∷ xs) j x) = ap (read_at Short read rows) is ∙ there in
-        cc
 
 module _ (text : List ℕ) where
   abbrev rows : List Row
@@ -69,7 +57,7 @@ module _ (text : List ℕ) where
       }
         where
           before : (r : ℕ) (other : What) → r < q → IsWrongBehind rows n c r other → ⊥
-          before r other below (inl (l, h, e)) = not-wrong point rows last (n + 1) c.points points after points-read r other (omega arith) (omega arith) e
+          before r other below (inl (l, h, e)) = not-wrong point rows (n + 1) r other points points-read.2 (omega arith) (omega (arith, points-read.1)) e
           before r other below (inr (inl (l, h, e))) = none r other (omega arith) below e
           before r other below (inr (inr (l, h, e))) = omega arith
 
@@ -86,8 +74,8 @@ module _ (text : List ℕ) where
             (are-there point rows last (n + 1) c.points points after points-read (let h = counts-within rows n c counted in omega (arith, h)))
 
         none-before : (r : ℕ) (other : What) → r < end → IsWrongBehind rows n c r other → ⊥
-        none-before r other below (inl (l, h, e)) = not-wrong point rows last (n + 1) c.points points after points-read r other (omega arith) (omega arith) e
-        none-before r other below (inr (inl (l, h, e))) = not-wrong (face c.points) rows last (n + 1 + c.points) c.faces faces rest faces-read r other (omega arith) (omega arith) e
+        none-before r other below (inl (l, h, e)) = not-wrong point rows (n + 1) r other points points-read.2 (omega arith) (omega (arith, points-read.1)) e
+        none-before r other below (inr (inl (l, h, e))) = not-wrong (face c.points) rows (n + 1 + c.points) r other faces faces-read.2 (omega arith) (omega (arith, faces-read.1)) e
         none-before r other below (inr (inr (l, h, e))) = omega arith
 
         -- a row follows the last face
