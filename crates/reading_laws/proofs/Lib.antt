@@ -1,0 +1,10 @@
+pub mod SidesMet
+pub mod Repeating
+pub mod FacesMet
+pub mod MeshMet
+pub mod RowsRead
+pub mod HeadRead
+pub mod WrongRows
+pub mod TextRead
+pub mod OneReading
+pub mod Unordered

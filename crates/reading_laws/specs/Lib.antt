@@ -1,0 +1,2 @@
+pub mod MeshFaults
+pub mod MeshTexts
