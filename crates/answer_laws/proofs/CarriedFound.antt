@@ -7,7 +7,8 @@ use Rattle.std.proofs.lemmas.List.Elements.{Contains-get_or}
 use Rattle.map_defs.specs.Values.{Value, Meaning}
 use Rattle.map_defs.specs.Carry.{NamesPiece, ArePieces, Gets, IsCarried, merged_all}
 use Rattle.insert_laws.proofs.Paths.{held_is}
-use Rattle.answer_laws.proofs.NotNot.{NotNot, choose}
+use Rattle.answer_laws.specs.Answering.{NotNot}
+use Rattle.answer_laws.proofs.Choosing.{choose}
 use Rattle.answer_laws.proofs.Listed.{ascending}
 
 module _ (rule : Meaning) (value : ℕ → Value) (Live : ℕ → Type 0) (Old New : ℕ → ℕ → Type 0) (top : ℕ) (bound : (x : ℕ) → Live x → x < top) where

@@ -1,5 +1,8 @@
-pub mod NotNot
+pub mod Choosing
 pub mod Listed
 pub mod Building
 pub mod CarriedFound
 pub mod RelinkedFound
+pub mod Checked
+pub mod Questions
+pub mod DifferenceFound

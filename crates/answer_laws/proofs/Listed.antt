@@ -5,7 +5,8 @@ use Rattle.std.proofs.lemmas.Bool.{cases_lt}
 use Rattle.std.proofs.lemmas.List.{get_or_append_left, get_or-append_right, length-append}
 use Rattle.std.proofs.lemmas.List.Elements.{Contains-get_or, Contains-append_left, Contains-append_right, Contains-append_cases}
 use Rattle.link_laws.proofs.Basics.{same_or_not}
-use Rattle.answer_laws.proofs.NotNot.{NotNot, either_way}
+use Rattle.answer_laws.specs.Answering.{NotNot}
+use Rattle.answer_laws.proofs.Choosing.{either_way}
 
 module _ {T : Type 0} where
   -- the list holds what At tells, in order
@@ -81,6 +82,13 @@ module _ {T : Type 0} where
         → NotNot ((xs : List T) × Lists Before (λ v. (i : ℕ) × (i < n) × (P i × (v ≡ key i))) xs)
     keyed P key n rising =
         joined (λ i v. P i × (v ≡ key i)) (λ i j v w less a b. rw (a.1, b.1) (rising i j less)) n (λ i l. one_or_none (P i) (key i))
+
+    -- what stands at the pairs of numbers of a set, below two bounds, by the first number and then by the second
+    pub tabled : (P : ℕ → ℕ → Type 0) (key : ℕ → ℕ → T) (n m : ℕ) → ((i j a b : ℕ) → i < j → Before (key i a) (key j b)) → ((i a b : ℕ) → a < b → Before (key i a) (key i b))
+        → NotNot ((xs : List T) × Lists Before (λ v. (i : ℕ) × (i < n) × ((a : ℕ) × (a < m) × (P i a × (v ≡ key i a)))) xs)
+    tabled P key n m rising along =
+        joined (λ i v. (a : ℕ) × (a < m) × (P i a × (v ≡ key i a))) (λ i j v w less a b. rw (a.2.1, b.2.1) (rising i j a.0 b.0 less)) n
+        (λ i l. keyed (P i) (key i) m (along i))
 
 -- a bounded set of numbers, ascending
 pub ascending : (P : ℕ → Type 0) (n : ℕ) → ((x : ℕ) → P x → x < n) → NotNot ((xs : List ℕ) × IsStrictlyIncreasing xs × ((x : ℕ) → Contains xs x ↔ P x))

@@ -11,7 +11,8 @@ use Rattle.machine_defs.specs.Kept.{IsLawfulContent}
 use Rattle.machine_defs.specs.Relinking.{IsRelinked, AreCarriedBy}
 use Rattle.edit_laws.proofs.RowWrites.{live-within}
 use Rattle.value_laws.proofs.OfRows.{told_live}
-use Rattle.answer_laws.proofs.NotNot.{NotNot, either_way, told_below, choose}
+use Rattle.answer_laws.specs.Answering.{NotNot}
+use Rattle.answer_laws.proofs.Choosing.{either_way, told_below, choose}
 use Rattle.answer_laws.proofs.Building.{AreBuilt, rows_found, ArePlaced, values_found}
 use Rattle.answer_laws.proofs.CarriedFound.{carried_found}
 

@@ -1,10 +1,7 @@
 -- What cannot fail: under a double negation each question has an answer, and there is choice over the numbers below a bound.
 use Rattle.std.proofs.Common.{◌≡◌, ◌≢◌, ◌⊎◌, ℕ, zero, suc, ◌<◌, subst, sym, inl, inr, arith}
 use Rattle.link_laws.proofs.Basics.{same_or_not}
-
--- it cannot be that A fails
-abbrev pub NotNot : Type 0 → Type 0
-NotNot A = (A → ⊥) → ⊥
+use Rattle.answer_laws.specs.Answering.{NotNot}
 
 -- each question has an answer
 pub either_way : (A : Type 0) → NotNot (A ⊎ (A → ⊥))
