@@ -1,5 +1,5 @@
 -- Rows with given links, and values in their places.
-use Rattle.std.proofs.Common.{◌≡◌, ◌≢◌, ◌⊎◌, ◌↔◌, ℕ, ◌+◌, ◌<◌, ◌≤◌, List, [], length, get_or, map, Option, Some, None, IsSome, refl, sym, ap, ◌∙◌, subst, inl, inr, arith}
+use Rattle.std.proofs.Common.{◌≡◌, ◌⊎◌, ◌↔◌, ℕ, ◌+◌, ◌<◌, ◌≤◌, List, [], length, get_or, map, Option, Some, None, IsSome, refl, sym, ap, ◌∙◌, subst, inl, inr, arith}
 use Rattle.std.specs.List.{range_with_len}
 use Rattle.std.proofs.lemmas.Bool.{cases_lt}
 use Rattle.std.proofs.lemmas.List.{get_or_past}
@@ -7,7 +7,6 @@ use Rattle.std.proofs.lemmas.List.FromFn.{get_or-map-range_with_len, length-map-
 use Rattle.map_defs.specs.Links.{Links, HasDimension}
 use Rattle.map_defs.specs.Rows.{Rows, row_at, IsLive, links_of, entry_of, AreWide}
 use Rattle.map_defs.specs.Values.{Value}
-use Rattle.link_laws.proofs.Basics.{stable}
 
 -- the rows have this length, these live darts and these links
 pub record AreBuilt (dim top : ℕ) (Live : ℕ → Type 0) (N : Links) (rows : Rows) : Type 0 where
@@ -17,7 +16,7 @@ pub record AreBuilt (dim top : ℕ) (Live : ℕ → Type 0) (N : Links) (rows : 
   pub links : (i d : ℕ) → links_of rows i d ≡ N i d
 
 module _ (dim top : ℕ) (Live : ℕ → Type 0) (told : (d : ℕ) → Live d ⊎ (Live d → ⊥)) (bound : (d : ℕ) → Live d → d < top)
-    (N : Links) (high : HasDimension dim N) (linked : (i d : ℕ) → N i d ≢ 0 → Live d) where
+    (N : Links) (high : HasDimension dim N) (free : (i d : ℕ) → (Live d → ⊥) → N i d ≡ 0) where
   entries : ℕ → List ℕ
   entries d = map (λ i. N i d) (range_with_len 0 (dim + 1))
 
@@ -65,9 +64,6 @@ module _ (dim top : ℕ) (Live : ℕ → Type 0) (told : (d : ℕ) → Live d �
     | inl within ↦ row-wide d (told d) row (sym (row-within d within) ∙ e)
     | inr beyond ↦ absurd (let none = row-beyond d beyond in cc)
   ]
-
-  free : (i d : ℕ) → (Live d → ⊥) → N i d ≡ 0
-  free i d dead = stable (N i d) 0 (λ some. dead (linked i d some))
 
   entry : (i d : ℕ) (c : Live d ⊎ (Live d → ⊥)) → entry_of (row_for d c) i ≡ N i d
   unfolding row_for entries

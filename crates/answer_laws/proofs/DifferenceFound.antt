@@ -28,7 +28,7 @@ rule_change_of dim old new = record { dim = dim; old = old; new = new }
 past-links : (rows : Rows) (i d : ℕ) → length rows ≤ d → links_of rows i d ≡ 0
 past-links rows i d past = stable _ _ (λ some. let l = live-within rows d (linked_live rows i d some) in omega arith)
 
-past-value : (c : Content) → HasPlaces c → (i d : ℕ) → length c.rows ≤ d → value_at c i d ≡ None
+pub past-value : (c : Content) → HasPlaces c → (i d : ℕ) → length c.rows ≤ d → value_at c i d ≡ None
 past-value c places i d past = places.none i d (λ live. let l = live-within c.rows d live in omega arith)
 
 module _ (a b : Content) (f : Follows a b) (begun : 1 ≤ length b.rows) where

@@ -6,3 +6,7 @@ pub mod RelinkedFound
 pub mod Checked
 pub mod Questions
 pub mod DifferenceFound
+pub mod LinksFound
+pub mod SewnFound
+pub mod ValuedFound
+pub mod DualFound

@@ -55,7 +55,7 @@ module _ (hook : Meaning) (c : Content) (rows : Rows) where
       (λ found. never (found.0, λ i d l m. found.1 i (omega arith) d m))
 
 module _ (hook : Meaning) (c : Content) (kept : IsLawfulContent c) (births : ℕ) (Ended : ℕ → Type 0) (Becomes : Links → Type 0) (N : Links)
-    (becomes : Becomes N) (high : HasDimension c.dim N) (linked : (i d : ℕ) → N i d ≢ 0 → LivesAfter c births Ended d) where
+    (becomes : Becomes N) (high : HasDimension c.dim N) (free : (i d : ℕ) → (LivesAfter c births Ended d → ⊥) → N i d ≡ 0) where
   bound : (d : ℕ) → LivesAfter c births Ended d → d < length c.rows + births
   bound d (inl live, stays) = let l = live-within c.rows d live in omega arith
   bound d (inr born, stays) = let l = born.1 in omega (arith, kept.begun)
@@ -111,7 +111,7 @@ module _ (hook : Meaning) (c : Content) (kept : IsLawfulContent c) (births : ℕ
   pub relinked_found : NotNot ((after : Content) × IsRelinked hook c births Ended Becomes after)
   relinked_found never =
       told_below (LivesAfter c births Ended) (length c.rows + births) bound (λ told.
-      let found = rows_found c.dim (length c.rows + births) (LivesAfter c births Ended) told bound N high linked in
+      let found = rows_found c.dim (length c.rows + births) (LivesAfter c births Ended) told bound N high free in
       all_values hook c found.0 (λ chosen.
       let placed = values_found c.dim (length found.0) chosen.0 in
       never (next found.0 found.1 chosen.0 chosen.1 placed.0 placed.1, relinked found.0 found.1 chosen.0 chosen.1 placed.0 placed.1)))
