@@ -10,3 +10,6 @@ pub mod LinksFound
 pub mod SewnFound
 pub mod ValuedFound
 pub mod DualFound
+pub mod Drawn
+pub mod Bridged
+pub mod RemovedFound
