@@ -13,3 +13,5 @@ pub mod DualFound
 pub mod Drawn
 pub mod Bridged
 pub mod RemovedFound
+pub mod Numbered
+pub mod InsertedFound
