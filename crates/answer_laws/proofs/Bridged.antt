@@ -110,7 +110,7 @@ module _ (c : Content) (kept : IsLawfulContent c) (w : Laws beta (links_of c.row
 
     pub edge-bridged : NotNot ((N : Links) × IsBridged beta 1 C Step L N × AreLinks c kept 0 C N)
     edge-bridged never = drawn_found c kept beta w C dart 1 within Step ends (λ found.
-        turned_found c kept 0 C found.0 found.2 (edge-one found.0 found.1) (edge-lands found.0 found.1) (λ after.
+        let after = turned_found c kept 0 C found.0 found.2 (edge-one found.0 found.1) (edge-lands found.0 found.1) in
         never (after.0, record {
           gone = λ x t h. after.3.free t x (λ lives. lives.1 h);
           nothing = λ t. elim (same_or_not t 0) [
@@ -120,7 +120,7 @@ module _ (c : Content) (kept : IsLawfulContent c) (w : Laws beta (links_of c.row
           kept = λ x t out other back. after.2 t x (omega arith) ∙ found.1.others x t out other back;
           lands = λ x z out walk. after.2 1 x (omega arith) ∙ found.1.lands x z out walk;
           turned = λ e. after.1;
-        }, after.3)))
+        }, after.3))
 
   -- without a vertex
   module _ (run-ends : (x : ℕ) → (C x → ⊥) → NotNot ((z : ℕ) × RunsTo L C x z))
@@ -169,7 +169,7 @@ module _ (c : Content) (kept : IsLawfulContent c) (w : Laws beta (links_of c.row
 
     pub vertex-smoothed : NotNot ((N : Links) × IsSmoothed C L N × AreLinks c kept 0 C N)
     vertex-smoothed never = links_found c kept 0 C Smoothed smoothed-tells (λ found.
-        turned_found c kept 0 C found.0 found.2 (smoothed-one found.0 found.1) (smoothed-lands found.0 found.1) (λ after.
+        let after = turned_found c kept 0 C found.0 found.2 (smoothed-one found.0 found.1) (smoothed-lands found.0 found.1) in
         never (after.0, record {
           gone = λ x t h. after.3.free t x (λ lives. lives.1 h);
           nothing = λ t. elim (same_or_not t 0) [
@@ -178,4 +178,4 @@ module _ (c : Content) (kept : IsLawfulContent c) (w : Laws beta (links_of c.row
           ];
           lands = λ x y t out l run. after.2 t x l ∙ (found.1 t x).lands y out run;
           turned = after.1;
-        }, after.3)))
+        }, after.3))

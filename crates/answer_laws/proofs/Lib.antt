@@ -15,3 +15,5 @@ pub mod Bridged
 pub mod RemovedFound
 pub mod Numbered
 pub mod InsertedFound
+pub mod SplitFound
+pub mod CutFound

@@ -8,7 +8,7 @@ use Rattle.machine_defs.specs.Kept.{IsLawfulContent}
 use Rattle.machine_defs.specs.Relinking.{IsRelinked}
 use Rattle.link_laws.proofs.Basics.{same_or_not, stable}
 use Rattle.edit_laws.proofs.RowWrites.{live-within}
-use Rattle.machine_laws.proofs.Keeping.{dead-at}
+use Rattle.insert_laws.proofs.LinkZero.{turned_links}
 use Rattle.answer_laws.specs.Answering.{NotNot}
 use Rattle.answer_laws.proofs.Choosing.{either_way, choose}
 use Rattle.answer_laws.proofs.RelinkedFound.{LivesAfter, relinked_found}
@@ -25,10 +25,6 @@ module _ (c : Content) (kept : IsLawfulContent c) (births : ℕ) (Ended : ℕ �
   pub after-within : (d : ℕ) → After d → d < length c.rows + births
   after-within d (inl live, stays) = let l = live-within c.rows d live in omega arith
   after-within d (inr born, stays) = let l = born.1 in omega (arith, kept.begun)
-
-  pub nothing-after : After 0 → ⊥
-  nothing-after (inl live, stays) = dead-at c.rows kept.sound.nothing live
-  nothing-after (inr born, stays) = let l = born.0 in omega arith
 
   -- each link of each dart is told, and those of no dart are free
   pub record Tells (Spec : ℕ → ℕ → ℕ → Type 0) : Type 0 where
@@ -92,78 +88,30 @@ module _ (c : Content) (kept : IsLawfulContent c) (births : ℕ) (Ended : ℕ �
 
   -- Links with another link 0, which leads back where link 1 leads on: link 1 is one-to-one, and leads to darts that live.
   module _ (N : Links) (are : AreLinks N) (one : (x y : ℕ) → N 1 x ≢ 0 → N 1 x ≡ N 1 y → x ≡ y) (lands : (x : ℕ) → N 1 x ≢ 0 → NotNot (After (N 1 x))) where
-    Back : ℕ → ℕ → Type 0
-    Back y x = ((z : ℕ) → y ≢ 0 → N 1 z ≡ y → x ≡ z) × (x ≢ 0 → (y ≢ 0) × (N 1 x ≡ y))
+    linked-upto : (x : ℕ) → N 1 x ≢ 0 → x ≤ length c.rows + births
+    linked-upto x some = elim (cases_lt (length c.rows + births) x) [
+      | inl past ↦ absurd (some (are.free 1 x (λ h. let l = after-within x h in omega arith)))
+      | inr within ↦ within
+    ]
 
-    back_some : (y : ℕ) → NotNot ((x : ℕ) × Back y x)
-    unfolding Back
-    back_some y never = either_way ((z : ℕ) × (y ≢ 0) × (N 1 z ≡ y)) (λ told. elim told [
-      | inl led ↦ never (led.0, (λ z some e. one led.0 z (λ none. led.1 (sym led.2 ∙ none)) (led.2 ∙ sym e), λ h. (led.1, led.2)))
-      | inr none ↦ never (0, (λ z some e. absurd (none (z, some, e)), λ h. absurd (h refl)))
-    ])
+    zeroth-free : (M : Links) → ((t x : ℕ) → 1 ≤ t → M t x ≡ N t x) → IsTurned M → (y : ℕ) → (After y → ⊥) → M 0 y ≡ 0
+    zeroth-free M others turned y dead = elim (same_or_not y 0) [
+      | inl e ↦ ap (M 0) e ∙ turned.nothing
+      | inr far ↦ stable _ _ (λ some.
+        let led : N 1 (M 0 y) ≡ y = sym (others 1 (M 0 y) (omega arith)) ∙ (turned.back (M 0 y) y some far).1 refl in
+        lands (M 0 y) (λ none. far (sym led ∙ none)) (λ h. dead (subst After led h)))
+    ]
 
-    module _ (back : ℕ → ℕ) (good : (y : ℕ) → y < length c.rows + births → Back y (back y)) where
-      turned-link : (t x : ℕ) → (t ≡ 0) ⊎ (t ≢ 0) → (x < length c.rows + births) ⊎ (length c.rows + births ≤ x) → ℕ
-      turned-link t x (inl zeroth) (inl within) = back x
-      turned-link t x (inl zeroth) (inr past) = 0
-      turned-link t x (inr other) m = N t x
-
-      turned : Links
-      turned t x = turned-link t x (same_or_not t 0) (cases_lt x (length c.rows + births))
-
-      other-at : (t x : ℕ) → 1 ≤ t → (a : (t ≡ 0) ⊎ (t ≢ 0)) (m : (x < length c.rows + births) ⊎ (length c.rows + births ≤ x)) → turned-link t x a m ≡ N t x
-      unfolding turned-link
-      other-at t x l (inl zeroth) m = absurd (omega arith)
-      other-at t x l (inr other) m = refl
-
-      others : (t x : ℕ) → 1 ≤ t → turned t x ≡ N t x
-      unfolding turned
-      others t x l = other-at t x l (same_or_not t 0) (cases_lt x (length c.rows + births))
-
-      -- a dart to which link 1 leads was made
-      landed : (x y : ℕ) → y ≢ 0 → N 1 x ≡ y → length c.rows + births ≤ y → ⊥
-      landed x y some e past = lands x (λ none. some (sym e ∙ none)) (λ h. let l = after-within (N 1 x) h in omega arith)
-
-      back-at : (t y : ℕ) → t ≡ 0 → (a : (t ≡ 0) ⊎ (t ≢ 0)) (m : (y < length c.rows + births) ⊎ (length c.rows + births ≤ y)) → Back y (turned-link t y a m)
-      unfolding turned-link Back
-      back-at t y e (inl zeroth) (inl within) = good y within
-      back-at t y e (inl zeroth) (inr past) = (λ z some led. absurd (landed z y some led past), λ h. absurd (h refl))
-      back-at t y e (inr other) m = absurd (other e)
-
-      backs : (y : ℕ) → Back y (turned 0 y)
-      unfolding turned
-      backs y = back-at 0 y refl (same_or_not 0 0) (cases_lt y (length c.rows + births))
-
-      nil : N 1 0 ≡ 0
-      nil = are.free 1 0 nothing-after
-
-      is-turned : IsTurned turned
-      unfolding Back
-      is-turned = record {
-        nothing = stable _ _ (λ some. ((backs 0).1 some).0 refl);
-        back = λ x y a b. (
-          λ e. (backs y).0 x b (sym (others 1 x (omega arith)) ∙ e),
-          λ e. others 1 x (omega arith) ∙ subst (λ (z : ℕ). N 1 z ≡ y) e ((backs y).1 (λ none. a (sym e ∙ none))).1,
-        );
-      }
-
-      zeroth-free : (y : ℕ) → (After y → ⊥) → turned 0 y ≡ 0
-      unfolding Back
-      zeroth-free y dead = stable _ _ (λ some. let led = (backs y).1 some in lands (turned 0 y) (λ none. led.0 (sym led.1 ∙ none)) (λ h. dead (subst After led.1 h)))
-
-      turned-are : AreLinks turned
-      turned-are = record {
-        high = λ t x h. others t x (omega arith) ∙ are.high t x h;
-        free = λ t x dead. elim (same_or_not t 0) [
-          | inl zeroth ↦ rw zeroth (zeroth-free x dead)
-          | inr other ↦ others t x (omega arith) ∙ are.free t x dead
-        ];
-      }
-
-    pub turned_found : NotNot ((M : Links) × IsTurned M × ((t x : ℕ) → 1 ≤ t → M t x ≡ N t x) × AreLinks M)
-    turned_found never =
-        choose Back 0 (length c.rows + births) (λ y l. back_some y)
-        (λ found. never (turned found.0 found.1, is-turned found.0 found.1, others found.0 found.1, turned-are found.0 found.1))
+    pub turned_found : (M : Links) × IsTurned M × ((t x : ℕ) → 1 ≤ t → M t x ≡ N t x) × AreLinks M
+    turned_found =
+        let r = turned_links N (length c.rows + births) linked-upto one in
+        (r.0, r.2, r.1, record {
+          high = λ t x h. r.1 t x (omega arith) ∙ are.high t x h;
+          free = λ t x dead. elim (same_or_not t 0) [
+            | inl zeroth ↦ rw zeroth (zeroth-free r.0 r.1 r.2 x dead)
+            | inr other ↦ r.1 t x (omega arith) ∙ are.free t x dead
+          ];
+        })
 
   -- a content with links that are told
   pub content_found : (hook : Meaning) (Becomes : Links → Type 0) (N : Links) → AreLinks N → Becomes N → NotNot ((next : Content) × IsRelinked hook c births Ended Becomes next)
