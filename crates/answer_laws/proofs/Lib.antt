@@ -17,3 +17,7 @@ pub mod Numbered
 pub mod InsertedFound
 pub mod SplitFound
 pub mod CutFound
+pub mod GrownFound
+pub mod EffectFound
+pub mod RunFound
+pub mod ProgramFound
