@@ -1,15 +1,15 @@
 -- The links of a map without a cell: link 0 of a combinatorial map leads back too.
-use Rattle.std.proofs.Common.{◌≡◌, ◌≢◌, ◌⊎◌, ◌↔◌, ℕ, zero, suc, ◌+◌, ◌<◌, ◌≤◌, refl, sym, ap, ◌∙◌, subst, inl, inr, ⊎_elim, arith}
-use Rattle.map_defs.specs.Kind.{Kind, alpha, beta, inverse}
-use Rattle.map_defs.specs.Links.{Links, IsTurned}
+use Rattle.std.proofs.Common.{◌≡◌, ◌≢◌, ℕ, zero, suc, ◌≤◌, refl, sym, ap, ◌∙◌, subst, inl, inr, ⊎_elim, arith}
+use Rattle.map_defs.specs.Kind.{alpha, beta, inverse}
+use Rattle.map_defs.specs.Links.{Links}
 use Rattle.map_defs.specs.Laws.{Laws}
 use Rattle.map_defs.specs.Rows.{IsLive, links_of}
 use Rattle.map_defs.specs.Walks.{Walk, stop}
-use Rattle.map_defs.specs.Removal.{Lands, IsBridged, IsSmoothed, RunsTo}
+use Rattle.map_defs.specs.Removal.{IsBridged, IsSmoothed, RunsTo}
 use Rattle.machine_defs.specs.State.{Content}
 use Rattle.machine_defs.specs.Kept.{IsLawfulContent}
 use Rattle.link_laws.proofs.Basics.{same_or_not, stable, by_cases}
-use Rattle.link_laws.proofs.LawFacts.{back_to, back_from}
+use Rattle.link_laws.proofs.LawFacts.{back_to}
 use Rattle.link_laws.proofs.RowFacts.{rows_lead_to_live}
 use Rattle.link_laws.proofs.Walking.{walk_one, walk_outside}
 use Rattle.answer_laws.specs.Answering.{NotNot}
@@ -22,13 +22,17 @@ use Rattle.answer_laws.proofs.Drawn.{walk-end, lone, IsDrawn, drawn_found}
 module _ (c : Content) (kept : IsLawfulContent c) (w : Laws alpha (links_of c.rows)) (C : ℕ → Type 0) (dart : (x : ℕ) → C x → x ≢ 0)
     (i : ℕ) (within : i ≤ c.dim) (Step : ℕ → ℕ) (ends : (x : ℕ) → (C x → ⊥) → NotNot ((z : ℕ) × Walk C Step (links_of c.rows i x) z)) where
   pub alpha-bridged : NotNot ((N : Links) × IsBridged alpha i C Step (links_of c.rows) N × AreLinks c kept 0 C N)
-  alpha-bridged never = drawn_found c kept alpha w C dart i within Step ends (λ found. never (found.0, record {
-    gone = found.1.gone;
-    nothing = found.1.nothing;
-    kept = found.1.others;
-    lands = found.1.lands;
-    turned = λ e. absurd (cc (e));
-  }, found.2))
+  alpha-bridged never = drawn_found c kept alpha w C dart i within Step ends (λ found. never (
+    found.0,
+    record {
+      gone = found.1.gone;
+      nothing = found.1.nothing;
+      kept = found.1.others;
+      lands = found.1.lands;
+      turned = λ e. absurd (cc (e));
+    },
+    found.2,
+  ))
 
 -- in a combinatorial map
 module _ (c : Content) (kept : IsLawfulContent c) (w : Laws beta (links_of c.rows)) (C : ℕ → Type 0) (dart : (x : ℕ) → C x → x ≢ 0) where
@@ -66,16 +70,20 @@ module _ (c : Content) (kept : IsLawfulContent c) (w : Laws beta (links_of c.row
         low (suc (suc j)) h = absurd (omega arith)
 
     pub high-bridged : NotNot ((N : Links) × IsBridged beta i C Step L N × AreLinks c kept 0 C N)
-    high-bridged never = drawn_found c kept beta w C dart i within Step ends (λ found. never (found.0, record {
-      gone = found.1.gone;
-      nothing = found.1.nothing;
-      kept = found.1.others;
-      lands = found.1.lands;
-      turned = λ e. record {
-        nothing = found.1.nothing 0;
-        back = λ x y a b. (leads-out found.0 found.1 1 x y (omega arith) a b, leads-out found.0 found.1 0 y x (omega arith) b a);
-      };
-    }, found.2))
+    high-bridged never = drawn_found c kept beta w C dart i within Step ends (λ found. never (
+      found.0,
+      record {
+        gone = found.1.gone;
+        nothing = found.1.nothing;
+        kept = found.1.others;
+        lands = found.1.lands;
+        turned = λ e. record {
+          nothing = found.1.nothing 0;
+          back = λ x y a b. (leads-out found.0 found.1 1 x y (omega arith) a b, leads-out found.0 found.1 0 y x (omega arith) b a);
+        };
+      },
+      found.2,
+    ))
 
   -- across an edge
   module _ (within : 1 ≤ c.dim) (Step : ℕ → ℕ) (ends : (x : ℕ) → (C x → ⊥) → NotNot ((z : ℕ) × Walk C Step (L 1 x) z))
@@ -111,16 +119,20 @@ module _ (c : Content) (kept : IsLawfulContent c) (w : Laws beta (links_of c.row
     pub edge-bridged : NotNot ((N : Links) × IsBridged beta 1 C Step L N × AreLinks c kept 0 C N)
     edge-bridged never = drawn_found c kept beta w C dart 1 within Step ends (λ found.
         let after = turned_found c kept 0 C found.0 found.2 (edge-one found.0 found.1) (edge-lands found.0 found.1) in
-        never (after.0, record {
-          gone = λ x t h. after.3.free t x (λ lives. lives.1 h);
-          nothing = λ t. elim (same_or_not t 0) [
-            | inl e ↦ rw e after.1.nothing
-            | inr n ↦ after.2 t 0 (omega arith) ∙ found.1.nothing t
-          ];
-          kept = λ x t out other back. after.2 t x (omega arith) ∙ found.1.others x t out other back;
-          lands = λ x z out walk. after.2 1 x (omega arith) ∙ found.1.lands x z out walk;
-          turned = λ e. after.1;
-        }, after.3))
+        never (
+          after.0,
+          record {
+            gone = λ x t h. after.3.free t x (λ lives. lives.1 h);
+            nothing = λ t. elim (same_or_not t 0) [
+              | inl e ↦ rw e after.1.nothing
+              | inr n ↦ after.2 t 0 (omega arith) ∙ found.1.nothing t
+            ];
+            kept = λ x t out other back. after.2 t x (omega arith) ∙ found.1.others x t out other back;
+            lands = λ x z out walk. after.2 1 x (omega arith) ∙ found.1.lands x z out walk;
+            turned = λ e. after.1;
+          },
+          after.3,
+        ))
 
   -- without a vertex
   module _ (run-ends : (x : ℕ) → (C x → ⊥) → NotNot ((z : ℕ) × RunsTo L C x z))
@@ -136,11 +148,14 @@ module _ (c : Content) (kept : IsLawfulContent c) (w : Laws beta (links_of c.row
 
     smoothed-tells : Tells c kept 0 C Smoothed
     smoothed-tells = record {
-      some = λ t x l lives never. run-ends x lives.1 (λ run. never (L t run.0, record {
-        gone = λ h. absurd (lives.1 h);
-        nothing = λ none. ap (L t) (lone-run x run.0 (ap (L 1) none ∙ w.nil 1) run.1 ∙ none) ∙ w.nil t;
-        lands = λ z out other. ap (L t) (walk_one run.1 other);
-      }));
+      some = λ t x l lives never. run-ends x lives.1 (λ run. never (
+        L t run.0,
+        record {
+          gone = λ h. absurd (lives.1 h);
+          nothing = λ none. ap (L t) (lone-run x run.0 (ap (L 1) none ∙ w.nil 1) run.1 ∙ none) ∙ w.nil t;
+          lands = λ z out other. ap (L t) (walk_one run.1 other);
+        },
+      ));
       above = λ t x h. record { gone = λ g. refl; nothing = λ none. refl; lands = λ z out run. sym (high-free c kept t z h) };
       outside = λ t x dead. record {
         gone = λ g. refl;
@@ -170,12 +185,16 @@ module _ (c : Content) (kept : IsLawfulContent c) (w : Laws beta (links_of c.row
     pub vertex-smoothed : NotNot ((N : Links) × IsSmoothed C L N × AreLinks c kept 0 C N)
     vertex-smoothed never = links_found c kept 0 C Smoothed smoothed-tells (λ found.
         let after = turned_found c kept 0 C found.0 found.2 (smoothed-one found.0 found.1) (smoothed-lands found.0 found.1) in
-        never (after.0, record {
-          gone = λ x t h. after.3.free t x (λ lives. lives.1 h);
-          nothing = λ t. elim (same_or_not t 0) [
-            | inl e ↦ rw e after.1.nothing
-            | inr n ↦ after.2 t 0 (omega arith) ∙ (found.1 t 0).nothing refl
-          ];
-          lands = λ x y t out l run. after.2 t x l ∙ (found.1 t x).lands y out run;
-          turned = after.1;
-        }, after.3))
+        never (
+          after.0,
+          record {
+            gone = λ x t h. after.3.free t x (λ lives. lives.1 h);
+            nothing = λ t. elim (same_or_not t 0) [
+              | inl e ↦ rw e after.1.nothing
+              | inr n ↦ after.2 t 0 (omega arith) ∙ (found.1 t 0).nothing refl
+            ];
+            lands = λ x y t out l run. after.2 t x l ∙ (found.1 t x).lands y out run;
+            turned = after.1;
+          },
+          after.3,
+        ))

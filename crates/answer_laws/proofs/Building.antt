@@ -50,7 +50,7 @@ module _ (dim top : ℕ) (Live : ℕ → Type 0) (told : (d : ℕ) → Live d �
   live : (d : ℕ) → IsLive rows d ↔ Live d
   live d = elim (cases_lt d top) [
     | inl within ↦ let same = live-row d (told d) in
-      (λ h. same.0 (subst (λ (o : Option (List ℕ)). IsSome o) (row-within d within) h), λ h. subst (λ (o : Option (List ℕ)). IsSome o) (sym (row-within d within)) (same.1 h))
+        (λ h. same.0 (subst (λ (o : Option (List ℕ)). IsSome o) (row-within d within) h), λ h. subst (λ (o : Option (List ℕ)). IsSome o) (sym (row-within d within)) (same.1 h))
     | inr beyond ↦ (λ h. absurd (none-dead (row_at rows d) (row-beyond d beyond) h), λ h. absurd (let l = bound d h in omega arith))
   ]
 
@@ -122,9 +122,12 @@ module _ (dim top : ℕ) (V : ℕ → ℕ → Option Value) where
       above within = elim (cases_lt dim i) [ inl l ↦ omega (arith, wide_at d) | inr l ↦ absurd (out l within) ]
 
   pub values_found : (values : List (List (Option Value))) × ArePlaced dim top V values
-  values_found = (place, record {
-    long = long_place;
-    wide = λ d l. ap (λ (vs : List (Option Value)). length vs) (at d l) ∙ wide_at d;
-    there = λ i d l m. ap (λ (vs : List (Option Value)). get_or vs i None) (at d m) ∙ value_in i d l;
-    beyond = beyond_at;
-  })
+  values_found = (
+    place,
+    record {
+      long = long_place;
+      wide = λ d l. ap (λ (vs : List (Option Value)). length vs) (at d l) ∙ wide_at d;
+      there = λ i d l m. ap (λ (vs : List (Option Value)). get_or vs i None) (at d m) ∙ value_in i d l;
+      beyond = beyond_at;
+    },
+  )

@@ -1,5 +1,5 @@
 -- Each check fails or passes, so a line has an answer where its effect has one.
-use Rattle.std.proofs.Common.{◌≡◌, ◌⊎◌, List, [], ◌∷◌, refl, inl, inr}
+use Rattle.std.proofs.Common.{◌⊎◌, List, [], ◌∷◌, refl, inl, inr}
 use Rattle.machine_defs.specs.State.{State}
 use Rattle.machine_defs.specs.Script as says
 use Rattle.machine_defs.specs.Script.{Line}

@@ -1,5 +1,5 @@
 -- An edge in a face of a combinatorial map has links.
-use Rattle.std.proofs.Common.{◌≡◌, ◌≢◌, ◌⊎◌, ℕ, ◌+◌, ◌<◌, ◌≤◌, List, length, refl, sym, ap, ◌∙◌, subst, inl, inr, arith}
+use Rattle.std.proofs.Common.{◌≡◌, ◌≢◌, ℕ, ◌≤◌, List, length, refl, sym, ap, ◌∙◌, subst, inl, inr, arith}
 use Rattle.map_defs.specs.Kind.{beta}
 use Rattle.map_defs.specs.Links.{Links}
 use Rattle.map_defs.specs.Laws.{Laws}
@@ -157,11 +157,15 @@ module _ (c : Content) (kept : IsLawfulContent c) (w : Laws beta (links_of c.row
   pub cut_found : NotNot ((N : Links) × IsCut Turn star L N × AreLinks c kept (length keys) NoDart N)
   cut_found never = links_found c kept (length keys) NoDart Cuts cuts-tells (λ found.
       let after = turned_found c kept (length keys) NoDart found.0 found.2 (cut-one found.0 found.1) (cut-lands found.0 found.1) in
-      never (after.0, record {
-        into = λ x y p. after.2 1 (L 0 x) (omega arith) ∙ (found.1 1 (L 0 x)).into x y p refl refl;
-        onward = λ x y p. after.2 1 (star x) (omega arith) ∙ (found.1 1 (star x)).onward x y p refl refl;
-        sides = λ x y p. after.2 2 (star x) (omega arith) ∙ (found.1 2 (star x)).sides x y p refl refl;
-        along = λ x y j p l. after.2 j (star x) (omega arith) ∙ (found.1 j (star x)).along x y p refl l;
-        kept = λ x t l before none. after.2 t x l ∙ (found.1 t x).others l before none;
-        turned = after.1;
-      }, after.3))
+      never (
+        after.0,
+        record {
+          into = λ x y p. after.2 1 (L 0 x) (omega arith) ∙ (found.1 1 (L 0 x)).into x y p refl refl;
+          onward = λ x y p. after.2 1 (star x) (omega arith) ∙ (found.1 1 (star x)).onward x y p refl refl;
+          sides = λ x y p. after.2 2 (star x) (omega arith) ∙ (found.1 2 (star x)).sides x y p refl refl;
+          along = λ x y j p l. after.2 j (star x) (omega arith) ∙ (found.1 j (star x)).along x y p refl l;
+          kept = λ x t l before none. after.2 t x l ∙ (found.1 t x).others l before none;
+          turned = after.1;
+        },
+        after.3,
+      ))

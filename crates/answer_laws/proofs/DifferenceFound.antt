@@ -1,5 +1,5 @@
 -- Contents that follow one another have differences.
-use Rattle.std.proofs.Common.{◌≡◌, ◌≢◌, ◌⊎◌, ℕ, suc, ◌+◌, ◌-◌, ◌<◌, ◌≤◌, List, [], ◌∷◌, length, get_or, Option, None, All, refl, sym, ap, ◌∙◌, inl, inr, arith}
+use Rattle.std.proofs.Common.{◌≡◌, ◌≢◌, ℕ, suc, ◌+◌, ◌-◌, ◌<◌, ◌≤◌, List, [], ◌∷◌, length, Option, None, All, refl, sym, ap, ◌∙◌, inl, inr, arith}
 use Rattle.std.proofs.lemmas.Bool.{cases_lt}
 use Rattle.std.proofs.lemmas.List.{get_or_past}
 use Rattle.map_defs.specs.Rows.{Rows, IsLive, links_of}
@@ -136,30 +136,33 @@ module _ (a b : Content) (f : Follows a b) (begun : 1 ≤ length b.rows) where
       tabled IsValueBefore (λ i d. value_at a i d ≢ value_at b i d) value_key (a.dim + 1) (length b.rows) value-rising value-along (λ values.
       keyed IsRuleBefore (λ i. rule_at a i ≢ rule_at b i) rule_key (length a.rules) rule-rising (λ rules.
       let births : ℕ = length b.rows - length a.rows in
-      never (record { first = first_born a births; edit = record { births = births; deaths = deaths.0; changes = changes.0 }; values = values.0; rules = rules.0 }, record {
-        born = let g = grown in omega arith;
-        first = refl;
-        ended = deaths.2;
-        ended_ascending = deaths.1;
-        links = λ c. (
-          λ h. let t = (changes.1.members c).0 h in link-told c t.0 t.2.0 t.2.2.0 t.2.2.1,
-          λ t. let differ : links_of a.rows c.link c.dart ≢ links_of b.rows c.link c.dart = λ e. t.2 (t.0 ∙ e ∙ sym t.1) in
-          (changes.1.members c).1 (c.dart, link-dart c.link c.dart differ, (c.link, link-dim c.link c.dart differ, (differ, link-is c t))),
-        );
-        links_ordered = changes.1.ordered;
-        values = λ c. (
-          λ h. let t = (values.1.members c).0 h in value-told c t.0 t.2.0 t.2.2.0 t.2.2.1,
-          λ t. let differ : value_at a c.dim c.dart ≢ value_at b c.dim c.dart = λ e. t.2 (t.0 ∙ e ∙ sym t.1) in
-          (values.1.members c).1 (c.dim, value-dim c.dim c.dart differ, (c.dart, value-dart c.dim c.dart differ, (differ, value-is c t))),
-        );
-        values_ordered = values.1.ordered;
-        rules = λ c. (
-          λ h. let t = (rules.1.members c).0 h in rule-told c t.0 t.2.0 t.2.1,
-          λ t. let differ : rule_at a c.dim ≢ rule_at b c.dim = λ e. t.2 (t.0 ∙ e ∙ sym t.1) in
-          (rules.1.members c).1 (c.dim, rule-dim c.dim differ, (differ, rule-is c t)),
-        );
-        rules_ordered = rules.1.ordered;
-      })))))
+      never (
+        record { first = first_born a births; edit = record { births = births; deaths = deaths.0; changes = changes.0 }; values = values.0; rules = rules.0 },
+        record {
+          born = let g = grown in omega arith;
+          first = refl;
+          ended = deaths.2;
+          ended_ascending = deaths.1;
+          links = λ c. (
+            λ h. let t = (changes.1.members c).0 h in link-told c t.0 t.2.0 t.2.2.0 t.2.2.1,
+            λ t. let differ : links_of a.rows c.link c.dart ≢ links_of b.rows c.link c.dart = λ e. t.2 (t.0 ∙ e ∙ sym t.1) in
+                (changes.1.members c).1 (c.dart, link-dart c.link c.dart differ, (c.link, link-dim c.link c.dart differ, (differ, link-is c t))),
+          );
+          links_ordered = changes.1.ordered;
+          values = λ c. (
+            λ h. let t = (values.1.members c).0 h in value-told c t.0 t.2.0 t.2.2.0 t.2.2.1,
+            λ t. let differ : value_at a c.dim c.dart ≢ value_at b c.dim c.dart = λ e. t.2 (t.0 ∙ e ∙ sym t.1) in
+                (values.1.members c).1 (c.dim, value-dim c.dim c.dart differ, (c.dart, value-dart c.dim c.dart differ, (differ, value-is c t))),
+          );
+          values_ordered = values.1.ordered;
+          rules = λ c. (
+            λ h. let t = (rules.1.members c).0 h in rule-told c t.0 t.2.0 t.2.1,
+            λ t. let differ : rule_at a c.dim ≢ rule_at b c.dim = λ e. t.2 (t.0 ∙ e ∙ sym t.1) in
+                (rules.1.members c).1 (c.dim, rule-dim c.dim differ, (differ, rule-is c t)),
+          );
+          rules_ordered = rules.1.ordered;
+        },
+      )))))
 
 -- contents in a row have differences between neighbours
 pub differences_found : (cs : List Content) → AllFollow cs → All (λ (c : Content). 1 ≤ length c.rows) cs → NotNot ((steps : List Difference) × AreDifferences cs steps)

@@ -1,20 +1,18 @@
 -- Links across a cell that ends: each remaining dart's link leads to the end of its walk.
-use Rattle.std.proofs.Common.{◌≡◌, ◌≢◌, ◌⊎◌, ℕ, suc, ◌+◌, ◌<◌, ◌≤◌, refl, sym, ap, ◌∙◌, subst, inl, inr, ⊎_elim, arith}
+use Rattle.std.proofs.Common.{◌≡◌, ◌≢◌, ◌⊎◌, ℕ, ◌≤◌, refl, sym, ap, ◌∙◌, subst, inl, inr, ⊎_elim, arith}
 use Rattle.map_defs.specs.Kind.{Kind, alpha, beta, inverse}
-use Rattle.map_defs.specs.Links.{Links, IsTurned}
+use Rattle.map_defs.specs.Links.{Links}
 use Rattle.map_defs.specs.Laws.{Laws}
-use Rattle.map_defs.specs.Rows.{IsLive, links_of}
+use Rattle.map_defs.specs.Rows.{links_of}
 use Rattle.map_defs.specs.Walks.{Walk, stop, go}
-use Rattle.map_defs.specs.Removal.{Lands, IsBridged, IsSmoothed, RunsTo}
+use Rattle.map_defs.specs.Removal.{Lands}
 use Rattle.machine_defs.specs.State.{Content}
 use Rattle.machine_defs.specs.Kept.{IsLawfulContent}
-use Rattle.link_laws.proofs.Basics.{same_or_not, stable, by_cases}
-use Rattle.link_laws.proofs.LawFacts.{dart_of_link}
-use Rattle.link_laws.proofs.RowFacts.{rows_lead_to_live}
-use Rattle.link_laws.proofs.Walking.{walk_one, walk_outside}
+use Rattle.link_laws.proofs.Basics.{same_or_not}
+use Rattle.link_laws.proofs.Walking.{walk_one}
 use Rattle.answer_laws.specs.Answering.{NotNot}
 use Rattle.answer_laws.proofs.RelinkedFound.{LivesAfter}
-use Rattle.answer_laws.proofs.LinksFound.{AreLinks, Tells, links_found, turned_found}
+use Rattle.answer_laws.proofs.LinksFound.{AreLinks, Tells, links_found}
 use Rattle.answer_laws.proofs.SewnFound.{high-free, dead-free}
 
 -- where link i leads after a walk that ends at z
@@ -63,18 +61,24 @@ module _ (c : Content) (kept : IsLawfulContent c) (k : Kind) (w : Laws k (links_
     drawn-tells : Tells c kept 0 C Drawn
     drawn-tells = record {
       some = λ t x l lives never. elim (same_or_not t i) [
-        | inl e ↦ ends x lives.1 (λ walk. let to = lands-some k x walk.0 in never (to.0, record {
-          gone = λ h. absurd (lives.1 h);
-          nothing = λ none. led none to.0 walk.0 to.1 walk.1;
-          others = λ out other. absurd (other e);
-          lands = λ z out same other. subst (λ (u : ℕ). Lands k x u to.0) (walk_one walk.1 other) to.1;
-        }))
-        | inr n ↦ never (L t x, record {
-          gone = λ h. absurd (lives.1 h);
-          nothing = λ none. ap (L t) none ∙ w.nil t;
-          others = λ out other back. refl;
-          lands = λ z out same other. absurd (n same);
-        })
+        | inl e ↦ ends x lives.1 (λ walk. let to = lands-some k x walk.0 in never (
+          to.0,
+          record {
+            gone = λ h. absurd (lives.1 h);
+            nothing = λ none. led none to.0 walk.0 to.1 walk.1;
+            others = λ out other. absurd (other e);
+            lands = λ z out same other. subst (λ (u : ℕ). Lands k x u to.0) (walk_one walk.1 other) to.1;
+          },
+        ))
+        | inr n ↦ never (
+          L t x,
+          record {
+            gone = λ h. absurd (lives.1 h);
+            nothing = λ none. ap (L t) none ∙ w.nil t;
+            others = λ out other back. refl;
+            lands = λ z out same other. absurd (n same);
+          },
+        )
       ];
       above = λ t x h. record {
         gone = λ g. refl;
@@ -98,9 +102,13 @@ module _ (c : Content) (kept : IsLawfulContent c) (k : Kind) (w : Laws k (links_
         led {x} e y z h walk = none-lands k x y z e (in-walk (L i x) z Step (ap (L i) e ∙ w.nil i) walk) h
 
     pub drawn_found : NotNot ((N : Links) × IsDrawn N × AreLinks c kept 0 C N)
-    drawn_found never = links_found c kept 0 C Drawn drawn-tells (λ found. never (found.0, record {
-      gone = λ x t h. (found.1 t x).gone h;
-      nothing = λ t. (found.1 t 0).nothing refl;
-      others = λ x t out other back. (found.1 t x).others out other back;
-      lands = λ x z out walk. (found.1 i x).lands z out refl walk;
-    }, found.2))
+    drawn_found never = links_found c kept 0 C Drawn drawn-tells (λ found. never (
+      found.0,
+      record {
+        gone = λ x t h. (found.1 t x).gone h;
+        nothing = λ t. (found.1 t 0).nothing refl;
+        others = λ x t out other back. (found.1 t x).others out other back;
+        lands = λ x z out walk. (found.1 i x).lands z out refl walk;
+      },
+      found.2,
+    ))

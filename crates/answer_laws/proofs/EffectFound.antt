@@ -1,5 +1,5 @@
 -- Where a line passes its checks, it has an effect.
-use Rattle.std.proofs.Common.{◌≡◌, ◌≢◌, ◌⊎◌, ℕ, zero, suc, ◌+◌, ◌*◌, ◌<◌, ◌≤◌, List, [], ◌∷◌, ◌++◌, length, drop, Option, Some, None, IsSome, All, refl, sym, subst, inl, inr, arith}
+use Rattle.std.proofs.Common.{◌≡◌, ◌≢◌, ℕ, zero, suc, ◌+◌, ◌*◌, ◌<◌, ◌≤◌, List, [], ◌∷◌, ◌++◌, length, drop, Option, Some, None, IsSome, All, refl, subst, inl, inr}
 use Rattle.std.proofs.lemmas.Bool.{cases_lt}
 use Rattle.std.proofs.lemmas.List.{drop-append-le}
 use Rattle.std.proofs.lemmas.List.Elements.{All-contains, All-push, All-drop, All-weaker}
@@ -15,8 +15,7 @@ use Rattle.map_defs.specs.Contraction.{IsContractible}
 use Rattle.machine_defs.specs.State.{Content, State, Mark, value_at, without_dart, steps_to}
 use Rattle.machine_defs.specs.Kept.{IsLawfulContent, IsLawfulState}
 use Rattle.machine_defs.specs.Relinking.{IsRelinked, IsGrown}
-use Rattle.machine_defs.specs.Marking.{IsMark, HasMark, with_mark, back_to, since}
-use Rattle.machine_defs.specs.Difference.{Difference, AreDifferences}
+use Rattle.machine_defs.specs.Marking.{IsMark, with_mark, back_to, since}
 use Rattle.machine_defs.specs.Listing.{listing_with}
 use Rattle.machine_defs.specs.Script as says
 use Rattle.machine_defs.specs.Script.{Line}

@@ -1,5 +1,5 @@
 -- An insertion in general has links.
-use Rattle.std.proofs.Common.{◌≡◌, ◌≢◌, ◌⊎◌, ℕ, zero, suc, ◌+◌, ◌<◌, ◌≤◌, List, length, refl, sym, ap, ◌∙◌, subst, inl, inr, arith}
+use Rattle.std.proofs.Common.{◌≡◌, ◌≢◌, ℕ, zero, suc, ◌+◌, ◌<◌, ◌≤◌, List, length, refl, sym, ap, ◌∙◌, subst, inl, inr, arith}
 use Rattle.map_defs.specs.Kind.{Kind, alpha, beta, inverse, place, IsDistant}
 use Rattle.map_defs.specs.Links.{Links}
 use Rattle.map_defs.specs.Laws.{Laws}
@@ -111,18 +111,24 @@ module _ (c : Content) (kept : IsLawfulContent c) (k : Kind) (w : Laws k (links_
 
   old-some : (t x : ℕ) → (IsNew K star x → ⊥) → NotNot ((y : ℕ) × Inserts t x y)
   old-some t x not-new never = either_way (K x × (t ≡ i)) (λ told. elim told [
-    | inl h ↦ never (star x, record {
-      new = λ h' e'. refl;
-      old = λ z h' e' own'. absurd (not-new (z, h', e'));
-      leads = λ z v h' e' l. absurd (not-new (z, h', e'));
-      others = λ apart none. absurd (apart h.0 h.1);
-    })
-    | inr out ↦ never (L t x, record {
-      new = λ h' e'. absurd (out (h', e'));
-      old = λ z h' e' own'. absurd (not-new (z, h', e'));
-      leads = λ z v h' e' l. absurd (not-new (z, h', e'));
-      others = λ apart none. refl;
-    })
+    | inl h ↦ never (
+      star x,
+      record {
+        new = λ h' e'. refl;
+        old = λ z h' e' own'. absurd (not-new (z, h', e'));
+        leads = λ z v h' e' l. absurd (not-new (z, h', e'));
+        others = λ apart none. absurd (apart h.0 h.1);
+      },
+    )
+    | inr out ↦ never (
+      L t x,
+      record {
+        new = λ h' e'. absurd (out (h', e'));
+        old = λ z h' e' own'. absurd (not-new (z, h', e'));
+        leads = λ z v h' e' l. absurd (not-new (z, h', e'));
+        others = λ apart none. refl;
+      },
+    )
   ])
 
   above-leads : (t z v : ℕ) → c.dim < t → Leads k i P L t z v → 0 ≡ star v
@@ -154,11 +160,15 @@ module _ (c : Content) (kept : IsLawfulContent c) (k : Kind) (w : Laws k (links_
   }
 
   pub inserted_found : NotNot ((N : Links) × IsInserted k i K P star L N × AreLinks c kept (length keys) NoDart N)
-  inserted_found never = links_found c kept (length keys) NoDart Inserts inserts-tells (λ found. never (found.0, record {
-    new = λ x h. (found.1 i x).new h refl;
-    old = λ x h. (found.1 i (star x)).old x h refl refl;
-    beyond = λ x h. (found.1 (suc i) (star x)).leads x (L i x) h refl (over refl refl);
-    paired = λ x y t p. (found.1 t (star x)).leads x y (can.begins x y t p).0 refl (paired p);
-    along = λ x j h d. (found.1 j (star x)).leads x (L (inverse k j) x) h refl (along d refl);
-    kept = λ x t apart none. (found.1 t x).others apart none;
-  }, found.2))
+  inserted_found never = links_found c kept (length keys) NoDart Inserts inserts-tells (λ found. never (
+    found.0,
+    record {
+      new = λ x h. (found.1 i x).new h refl;
+      old = λ x h. (found.1 i (star x)).old x h refl refl;
+      beyond = λ x h. (found.1 (suc i) (star x)).leads x (L i x) h refl (over refl refl);
+      paired = λ x y t p. (found.1 t (star x)).leads x y (can.begins x y t p).0 refl (paired p);
+      along = λ x j h d. (found.1 j (star x)).leads x (L (inverse k j) x) h refl (along d refl);
+      kept = λ x t apart none. (found.1 t x).others apart none;
+    },
+    found.2,
+  ))

@@ -98,20 +98,24 @@ module _ (c : Content) (kept : IsLawfulContent c) (births : ℕ) (Ended : ℕ �
     zeroth-free M others turned y dead = elim (same_or_not y 0) [
       | inl e ↦ ap (M 0) e ∙ turned.nothing
       | inr far ↦ stable _ _ (λ some.
-        let led : N 1 (M 0 y) ≡ y = sym (others 1 (M 0 y) (omega arith)) ∙ (turned.back (M 0 y) y some far).1 refl in
-        lands (M 0 y) (λ none. far (sym led ∙ none)) (λ h. dead (subst After led h)))
+          let led : N 1 (M 0 y) ≡ y = sym (others 1 (M 0 y) (omega arith)) ∙ (turned.back (M 0 y) y some far).1 refl in
+          lands (M 0 y) (λ none. far (sym led ∙ none)) (λ h. dead (subst After led h)))
     ]
 
     pub turned_found : (M : Links) × IsTurned M × ((t x : ℕ) → 1 ≤ t → M t x ≡ N t x) × AreLinks M
     turned_found =
-        let r = turned_links N (length c.rows + births) linked-upto one in
-        (r.0, r.2, r.1, record {
-          high = λ t x h. r.1 t x (omega arith) ∙ are.high t x h;
-          free = λ t x dead. elim (same_or_not t 0) [
-            | inl zeroth ↦ rw zeroth (zeroth-free r.0 r.1 r.2 x dead)
-            | inr other ↦ r.1 t x (omega arith) ∙ are.free t x dead
-          ];
-        })
+        let r = turned_links N (length c.rows + births) linked-upto one in (
+          r.0,
+          r.2,
+          r.1,
+          record {
+            high = λ t x h. r.1 t x (omega arith) ∙ are.high t x h;
+            free = λ t x dead. elim (same_or_not t 0) [
+              | inl zeroth ↦ rw zeroth (zeroth-free r.0 r.1 r.2 x dead)
+              | inr other ↦ r.1 t x (omega arith) ∙ are.free t x dead
+            ];
+          },
+        )
 
   -- a content with links that are told
   pub content_found : (hook : Meaning) (Becomes : Links → Type 0) (N : Links) → AreLinks N → Becomes N → NotNot ((next : Content) × IsRelinked hook c births Ended Becomes next)

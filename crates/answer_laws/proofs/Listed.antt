@@ -1,5 +1,5 @@
 -- Bounded sets make lists in order.
-use Rattle.std.proofs.Common.{◌≡◌, ◌≢◌, ◌⊎◌, ◌↔◌, ℕ, zero, suc, ◌+◌, ◌-◌, ◌<◌, ◌≤◌, List, [], ◌∷◌, ◌++◌, length, get_or, AllPairs, Contains, refl, sym, subst, inl, inr, arith}
+use Rattle.std.proofs.Common.{◌≡◌, ◌⊎◌, ◌↔◌, ℕ, zero, suc, ◌+◌, ◌-◌, ◌<◌, ◌≤◌, List, [], ◌∷◌, ◌++◌, length, get_or, AllPairs, Contains, refl, sym, subst, inl, inr, arith}
 use Rattle.std.specs.List.Sorted.{IsStrictlyIncreasing}
 use Rattle.std.proofs.lemmas.Bool.{cases_lt}
 use Rattle.std.proofs.lemmas.List.{get_or_append_left, get_or-append_right, length-append}
@@ -40,10 +40,13 @@ module _ {T : Type 0} where
     -- lists for the numbers below n, one after another
     pub joined : (At : ℕ → T → Type 0) → ((i j : ℕ) (v w : T) → i < j → At i v → At j w → Before v w) → (n : ℕ)
         → ((i : ℕ) → i < n → NotNot ((xs : List T) × Lists Before (At i) xs)) → NotNot ((xs : List T) × Lists Before (λ v. (i : ℕ) × (i < n) × At i v) xs)
-    joined At rising zero h never = never ([], record {
-      members = λ v. (λ c. absurd (none_held v c), λ a. absurd (let l = a.1 in omega arith));
-      ordered = λ i j d less within. absurd (omega arith);
-    })
+    joined At rising zero h never = never (
+      [],
+      record {
+        members = λ v. (λ c. absurd (none_held v c), λ a. absurd (let l = a.1 in omega arith));
+        ordered = λ i j d less within. absurd (omega arith);
+      },
+    )
     joined At rising (suc n) h never = joined At rising n (λ i l. h i (omega arith)) (λ low. h n (omega arith) (λ top. never (low.0 ++ top.0, add low.0 top.0 low.1 top.1)))
       where
         add : (xs ys : List T) → Lists Before (λ v. (i : ℕ) × (i < n) × At i v) xs → Lists Before (At n) ys → Lists Before (λ v. (i : ℕ) × (i < suc n) × At i v) (xs ++ ys)
@@ -63,14 +66,20 @@ module _ {T : Type 0} where
 
     one_or_none : (P : Type 0) (x : T) → NotNot ((xs : List T) × Lists Before (λ v. P × (v ≡ x)) xs)
     one_or_none P x never = either_way P (λ c. elim c [
-      | inl p ↦ never (x ∷ [], record {
-        members = λ v. (λ h. (p, only v h.0 h.1 h.2), λ a. (0, omega arith, sym a.1));
-        ordered = λ i j d less within. absurd (omega arith);
-      })
-      | inr n ↦ never ([], record {
-        members = λ v. (λ h. absurd (none_held v h), λ a. absurd (n a.0));
-        ordered = λ i j d less within. absurd (omega arith);
-      })
+      | inl p ↦ never (
+        x ∷ [],
+        record {
+          members = λ v. (λ h. (p, only v h.0 h.1 h.2), λ a. (0, omega arith, sym a.1));
+          ordered = λ i j d less within. absurd (omega arith);
+        },
+      )
+      | inr n ↦ never (
+        [],
+        record {
+          members = λ v. (λ h. absurd (none_held v h), λ a. absurd (n a.0));
+          ordered = λ i j d less within. absurd (omega arith);
+        },
+      )
     ])
       where
         only : (v : T) (k : ℕ) → k < length (x ∷ []) → get_or (x ∷ []) k v ≡ v → v ≡ x

@@ -1,5 +1,5 @@
 -- New darts for a bounded set of darts are numbered, and an insertion leads to a content.
-use Rattle.std.proofs.Common.{◌≡◌, ◌≢◌, ◌⊎◌, ◌↔◌, ℕ, ◌+◌, ◌<◌, ◌≤◌, List, length, Contains, refl, sym, ap, ◌∙◌, subst, inl, inr, arith}
+use Rattle.std.proofs.Common.{◌≡◌, ◌↔◌, ℕ, ◌+◌, ◌<◌, List, length, Contains, refl, sym, ap, ◌∙◌, subst, inl, inr, arith}
 use Rattle.std.specs.Prelude.{slice_index}
 use Rattle.std.specs.List.Sorted.{IsStrictlyIncreasing}
 use Rattle.std.proofs.lemmas.List.Elements.{Contains-get_or}
@@ -15,7 +15,7 @@ use Rattle.edit_laws.proofs.RowWrites.{live-within}
 use Rattle.value_laws.proofs.Rising.{rising_place}
 use Rattle.insert_laws.proofs.Paths.{held_is}
 use Rattle.insert_laws.proofs.Fresh.{IsNew}
-use Rattle.insert_laws.proofs.Numbers.{numbered_above, numbered_upto, numbered_all, numbered_fresh}
+use Rattle.insert_laws.proofs.Numbers.{numbered_above, numbered_upto, numbered_fresh}
 use Rattle.machine_laws.proofs.Keeping.{dead-at}
 use Rattle.answer_laws.specs.Answering.{NotNot}
 use Rattle.answer_laws.proofs.Choosing.{either_way, choose}
@@ -38,10 +38,13 @@ module _ (c : Content) (kept : IsLawfulContent c) (K : ℕ → Type 0) (live : (
       | inl h ↦
           let there = (members x).1 h in
           let is : slice_index keys there.0 ≡ x = held_is keys x there in
-          never (made c.rows + 1 + there.0, (
-            λ p l e. ap (λ (q : ℕ). made c.rows + 1 + q) (rising_place keys up there.0 p there.1 l (is ∙ sym e)),
-            λ zeroth. absurd (none-there (subst K zeroth h)),
-          ))
+          never (
+            made c.rows + 1 + there.0,
+            (
+              λ p l e. ap (λ (q : ℕ). made c.rows + 1 + q) (rising_place keys up there.0 p there.1 l (is ∙ sym e)),
+              λ zeroth. absurd (none-there (subst K zeroth h)),
+            ),
+          )
       | inr n ↦ never (0, (λ p l e. absurd (n ((members x).0 (subst (Contains keys) e (Contains-get_or keys p 0 l)))), λ zeroth. refl))
     ])
 

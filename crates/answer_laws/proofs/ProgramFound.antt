@@ -1,5 +1,5 @@
 -- Each program has a text and a status.
-use Rattle.std.proofs.Common.{◌≡◌, ℕ, ◌<◌, ◌≤◌, List, length, Option, Some, None, Result, Ok, Err, refl, ap, ◌∙◌, inl, inr}
+use Rattle.std.proofs.Common.{◌≡◌, ℕ, ◌≤◌, List, length, Option, Some, None, Result, Ok, Err, refl, ap, ◌∙◌, inl, inr}
 use Rattle.std.specs.Prelude.{option_map}
 use Rattle.std.proofs.lemmas.Bool.{cases_lt}
 use Rattle.map_defs.specs.Kind.{Kind}
@@ -12,7 +12,7 @@ use Rattle.machine_defs.specs.Script.{lines_of}
 use Rattle.machine_defs.specs.Text.{replies_text, any_refused}
 use Rattle.machine_defs.specs.Loading.{IsLoaded, first_state, refusal_line, text_fault_line, map_fault_line}
 use Rattle.machine_defs.specs.Outside.{Files, held}
-use Rattle.machine_defs.specs.Program.{Command, RunScript, IsOffered, TellsCommand, FileAnswer, ScriptAnswer, MeshAnswer, CommandAnswer, ProgramAnswer, untold, told, Starts, usage, cannot_read, too_long, file_limit, run_status}
+use Rattle.machine_defs.specs.Program.{Command, RunScript, IsOffered, TellsCommand, FileAnswer, ScriptAnswer, MeshAnswer, CommandAnswer, untold, told, Starts, usage, cannot_read, too_long, file_limit, run_status}
 use Rattle.loading_laws.proofs.MeshContent.{has-map}
 use Rattle.machine_laws.specs.Tracing.{AreTraced}
 use Rattle.machine_laws.proofs.Begun.{empty-kept}

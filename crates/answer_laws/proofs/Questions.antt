@@ -1,5 +1,5 @@
 -- Each question about a map has an answer: yes or no, a list of darts, counts, and the list of values.
-use Rattle.std.proofs.Common.{◌≡◌, ◌≢◌, ◌⊎◌, ◌↔◌, ℕ, suc, ◌+◌, ◌<◌, ◌≤◌, Bool, true, false, IsTrue, List, [], ◌∷◌, ◌++◌, length, get_or, map, Option, Some, None, IsSome, Contains, refl, sym, ap, ◌∙◌, subst, inl, inr, arith}
+use Rattle.std.proofs.Common.{◌≡◌, ◌↔◌, ℕ, suc, ◌+◌, ◌<◌, ◌≤◌, true, false, List, [], ◌∷◌, ◌++◌, length, map, Option, Some, None, IsSome, Contains, refl, sym, ap, ◌∙◌, subst, inl, inr, arith}
 use Rattle.std.specs.Prelude.{slice_index}
 use Rattle.std.specs.List.{range_with_len}
 use Rattle.std.specs.List.Sorted.{IsStrictlyIncreasing}
@@ -15,7 +15,7 @@ use Rattle.map_defs.specs.Values.{Value}
 use Rattle.map_defs.specs.Carry.{known}
 use Rattle.machine_defs.specs.State.{Content, State, value_at, HasPlaces}
 use Rattle.machine_defs.specs.Listing.{ListValue, ListsValues, IsBefore}
-use Rattle.machine_defs.specs.Text.{Reply, Truth}
+use Rattle.machine_defs.specs.Text.{Truth}
 use Rattle.machine_defs.specs.Machine.{TellsWhether}
 use Rattle.link_laws.proofs.RowFacts.{rows_lead_to_live}
 use Rattle.edit_laws.proofs.RowWrites.{live-within}
@@ -134,10 +134,13 @@ module _ (c : Content) (places : HasPlaces c) where
   pub values_listed : NotNot ((values : List ListValue) × ListsValues c values)
   values_listed never =
       tabled IsBefore Names key (c.dim + 1) (length c.rows) rising along (λ found.
-      never (found.0, record {
-        members = λ v. (
-          λ h. let a = (found.1.members v).0 h in told v a.0 a.2.0 a.2.2.0 a.2.2.1,
-          λ h. (found.1.members v).1 (v.dim, dimension v.dim v.dart v.value h.0, (v.dart, dart v.dim v.dart v.value h.0, ((is-some _ v.value h.0, h.1), same v h.0))),
-        );
-        ordered = found.1.ordered;
-      }))
+      never (
+        found.0,
+        record {
+          members = λ v. (
+            λ h. let a = (found.1.members v).0 h in told v a.0 a.2.0 a.2.2.0 a.2.2.1,
+            λ h. (found.1.members v).1 (v.dim, dimension v.dim v.dart v.value h.0, (v.dart, dart v.dim v.dart v.value h.0, ((is-some _ v.value h.0, h.1), same v h.0))),
+          );
+          ordered = found.1.ordered;
+        },
+      ))

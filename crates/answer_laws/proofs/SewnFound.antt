@@ -1,9 +1,8 @@
 -- Two darts that can be sewn are sewn, and each link is unsewn.
-use Rattle.std.proofs.Common.{◌≡◌, ◌≢◌, ◌⊎◌, ℕ, zero, suc, ◌+◌, ◌<◌, ◌≤◌, refl, sym, ◌∙◌, subst, inl, inr, arith}
-use Rattle.map_defs.specs.Kind.{Kind, alpha, beta, inverse, IsDistant}
-use Rattle.map_defs.specs.Laws.{Laws}
-use Rattle.map_defs.specs.Rows.{made, IsLive, links_of}
-use Rattle.map_defs.specs.Pairs.{InPairs, seed, turned, across, IsGood}
+use Rattle.std.proofs.Common.{◌≡◌, ℕ, zero, suc, ◌<◌, ◌≤◌, refl, sym, inl, inr, arith}
+use Rattle.map_defs.specs.Kind.{Kind, alpha, beta, inverse}
+use Rattle.map_defs.specs.Rows.{IsLive, links_of}
+use Rattle.map_defs.specs.Pairs.{seed, turned, across}
 use Rattle.map_defs.specs.Sewing.{SewnPairs, IsSewn, IsFreed, IsUnsewn}
 use Rattle.map_defs.specs.Values.{Meaning}
 use Rattle.machine_defs.specs.State.{Content}

@@ -1,5 +1,5 @@
 -- A vertex on an edge of a combinatorial map has links.
-use Rattle.std.proofs.Common.{◌≡◌, ◌≢◌, ◌⊎◌, ℕ, ◌+◌, ◌<◌, ◌≤◌, List, length, refl, sym, ap, ◌∙◌, subst, inl, inr, arith}
+use Rattle.std.proofs.Common.{◌≡◌, ◌≢◌, ℕ, ◌≤◌, List, length, refl, sym, ap, ◌∙◌, subst, inl, inr, arith}
 use Rattle.map_defs.specs.Kind.{beta}
 use Rattle.map_defs.specs.Links.{Links}
 use Rattle.map_defs.specs.Laws.{Laws}
@@ -44,18 +44,24 @@ module _ (c : Content) (kept : IsLawfulContent c) (w : Laws beta (links_of c.row
 
   in-some : (t x : ℕ) → K x → (IsNew K star x → ⊥) → NotNot ((y : ℕ) × Splits t x y)
   in-some t x h not-new never = elim (same_or_not t 1) [
-    | inl one ↦ never (star x, record {
-      first = λ h' e. refl;
-      new = λ h' l. absurd (omega arith);
-      old = λ z h' e l. absurd (not-new (z, h', e));
-      others = λ l out none. absurd (out h);
-    })
-    | inr more ↦ never (star (L t x), record {
-      first = λ h' e. absurd (more e);
-      new = λ h' l. refl;
-      old = λ z h' e l. absurd (not-new (z, h', e));
-      others = λ l out none. absurd (out h);
-    })
+    | inl one ↦ never (
+      star x,
+      record {
+        first = λ h' e. refl;
+        new = λ h' l. absurd (omega arith);
+        old = λ z h' e l. absurd (not-new (z, h', e));
+        others = λ l out none. absurd (out h);
+      },
+    )
+    | inr more ↦ never (
+      star (L t x),
+      record {
+        first = λ h' e. absurd (more e);
+        new = λ h' l. refl;
+        old = λ z h' e l. absurd (not-new (z, h', e));
+        others = λ l out none. absurd (out h);
+      },
+    )
   ]
 
   out-some : (t x : ℕ) → (K x → ⊥) → (IsNew K star x → ⊥) → Splits t x (L t x)
@@ -108,11 +114,15 @@ module _ (c : Content) (kept : IsLawfulContent c) (w : Laws beta (links_of c.row
   pub split_found : NotNot ((N : Links) × IsSplit K star L N × AreLinks c kept (length keys) NoDart N)
   split_found never = links_found c kept (length keys) NoDart Splits splits-tells (λ found.
       let after = turned_found c kept (length keys) NoDart found.0 found.2 (new-one found.0 found.1) (new-lands found.0 found.1) in
-      never (after.0, record {
-        first = λ x h. after.2 1 x (omega arith) ∙ (found.1 1 x).first h refl;
-        second = λ x h. after.2 1 (star x) (omega arith) ∙ (found.1 1 (star x)).old x h refl (omega arith);
-        new = λ x j h l. after.2 j x (omega arith) ∙ (found.1 j x).new h l;
-        old = λ x j h l. after.2 j (star x) (omega arith) ∙ (found.1 j (star x)).old x h refl (omega arith);
-        kept = λ x t l out none. after.2 t x l ∙ (found.1 t x).others l out none;
-        turned = after.1;
-      }, after.3))
+      never (
+        after.0,
+        record {
+          first = λ x h. after.2 1 x (omega arith) ∙ (found.1 1 x).first h refl;
+          second = λ x h. after.2 1 (star x) (omega arith) ∙ (found.1 1 (star x)).old x h refl (omega arith);
+          new = λ x j h l. after.2 j x (omega arith) ∙ (found.1 j x).new h l;
+          old = λ x j h l. after.2 j (star x) (omega arith) ∙ (found.1 j (star x)).old x h refl (omega arith);
+          kept = λ x t l out none. after.2 t x l ∙ (found.1 t x).others l out none;
+          turned = after.1;
+        },
+        after.3,
+      ))
