@@ -14,14 +14,14 @@ use Rattle.link_laws.proofs.RowFacts.{rows_lead_to_live}
 use Rattle.link_laws.proofs.Walking.{walk_one, walk_outside}
 use Rattle.answer_laws.specs.Answering.{NotNot}
 use Rattle.answer_laws.proofs.RelinkedFound.{LivesAfter}
-use Rattle.answer_laws.proofs.LinksFound.{AreLinks, Tells, links_found, turned_found}
+use Rattle.answer_laws.proofs.LinksFound.{AreLinksAfter, TellsLinks, links_found, turned_found}
 use Rattle.answer_laws.proofs.SewnFound.{high-free}
 use Rattle.answer_laws.proofs.Drawn.{walk-end, lone, IsDrawn, drawn_found}
 
 -- in a generalized map
 module _ (c : Content) (kept : IsLawfulContent c) (w : Laws alpha (links_of c.rows)) (C : ℕ → Type 0) (dart : (x : ℕ) → C x → x ≢ 0)
     (i : ℕ) (within : i ≤ c.dim) (Step : ℕ → ℕ) (ends : (x : ℕ) → (C x → ⊥) → NotNot ((z : ℕ) × Walk C Step (links_of c.rows i x) z)) where
-  pub alpha-bridged : NotNot ((N : Links) × IsBridged alpha i C Step (links_of c.rows) N × AreLinks c kept 0 C N)
+  pub alpha-bridged : NotNot ((N : Links) × IsBridged alpha i C Step (links_of c.rows) N × AreLinksAfter c kept 0 C N)
   alpha-bridged never = drawn_found c kept alpha w C dart i within Step ends (λ found. never (
     found.0,
     record {
@@ -69,7 +69,7 @@ module _ (c : Content) (kept : IsLawfulContent c) (w : Laws beta (links_of c.row
         low (suc zero) h = omega arith
         low (suc (suc j)) h = absurd (omega arith)
 
-    pub high-bridged : NotNot ((N : Links) × IsBridged beta i C Step L N × AreLinks c kept 0 C N)
+    pub high-bridged : NotNot ((N : Links) × IsBridged beta i C Step L N × AreLinksAfter c kept 0 C N)
     high-bridged never = drawn_found c kept beta w C dart i within Step ends (λ found. never (
       found.0,
       record {
@@ -116,7 +116,7 @@ module _ (c : Content) (kept : IsLawfulContent c) (w : Laws beta (links_of c.row
         live : (t u v : ℕ) → v ≢ 0 → L t u ≡ v → IsLive c.rows v
         live t u v far e = subst (IsLive c.rows) e (rows_lead_to_live beta c.rows w t u (λ none. far (sym e ∙ none)))
 
-    pub edge-bridged : NotNot ((N : Links) × IsBridged beta 1 C Step L N × AreLinks c kept 0 C N)
+    pub edge-bridged : NotNot ((N : Links) × IsBridged beta 1 C Step L N × AreLinksAfter c kept 0 C N)
     edge-bridged never = drawn_found c kept beta w C dart 1 within Step ends (λ found.
         let after = turned_found c kept 0 C found.0 found.2 (edge-one found.0 found.1) (edge-lands found.0 found.1) in
         never (
@@ -146,7 +146,7 @@ module _ (c : Content) (kept : IsLawfulContent c) (w : Laws beta (links_of c.row
     lone-run : (x z : ℕ) → L 1 x ≡ 0 → RunsTo L C x z → z ≡ x
     lone-run x z none run = walk_one run (stop (λ h. dart (L 1 x) h none))
 
-    smoothed-tells : Tells c kept 0 C Smoothed
+    smoothed-tells : TellsLinks c kept 0 C Smoothed
     smoothed-tells = record {
       some = λ t x l lives never. run-ends x lives.1 (λ run. never (
         L t run.0,
@@ -182,7 +182,7 @@ module _ (c : Content) (kept : IsLawfulContent c) (w : Laws beta (links_of c.row
           let lives = rows_lead_to_live beta c.rows w 1 run.0 (λ none. some (to ∙ none)) in
           never (subst (LivesAfter c 0 C) (sym to) (inl lives, walk_outside run.1)))
 
-    pub vertex-smoothed : NotNot ((N : Links) × IsSmoothed C L N × AreLinks c kept 0 C N)
+    pub vertex-smoothed : NotNot ((N : Links) × IsSmoothed C L N × AreLinksAfter c kept 0 C N)
     vertex-smoothed never = links_found c kept 0 C Smoothed smoothed-tells (λ found.
         let after = turned_found c kept 0 C found.0 found.2 (smoothed-one found.0 found.1) (smoothed-lands found.0 found.1) in
         never (

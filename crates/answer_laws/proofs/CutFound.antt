@@ -18,7 +18,7 @@ use Rattle.insert_laws.proofs.OneToOne.{cut_one}
 use Rattle.answer_laws.specs.Answering.{NotNot}
 use Rattle.answer_laws.proofs.Choosing.{either_way}
 use Rattle.answer_laws.proofs.RelinkedFound.{LivesAfter}
-use Rattle.answer_laws.proofs.LinksFound.{AreLinks, Tells, links_found, turned_found}
+use Rattle.answer_laws.proofs.LinksFound.{AreLinksAfter, TellsLinks, links_found, turned_found}
 use Rattle.answer_laws.proofs.SewnFound.{high-free, dead-free}
 use Rattle.answer_laws.proofs.Numbered.{fresh, old-lives, new-lives}
 
@@ -111,7 +111,7 @@ module _ (c : Content) (kept : IsLawfulContent c) (w : Laws beta (links_of c.row
     | inr out ↦ never (L t x, out-some t x (λ z v p is e. out (is, (z, v, p, e))) not-new)
   ])
 
-  cuts-tells : Tells c kept (length keys) NoDart Cuts
+  cuts-tells : TellsLinks c kept (length keys) NoDart Cuts
   cuts-tells = record {
     some = λ t x l lives never. either_way (IsNew K star x) (λ told. elim told [
       | inl new ↦ new-some x new.0 new.1.0 new.1.1 new.2 t never
@@ -154,7 +154,7 @@ module _ (c : Content) (kept : IsLawfulContent c) (w : Laws beta (links_of c.row
       ])
     ])
 
-  pub cut_found : NotNot ((N : Links) × IsCut Turn star L N × AreLinks c kept (length keys) NoDart N)
+  pub cut_found : NotNot ((N : Links) × IsCut Turn star L N × AreLinksAfter c kept (length keys) NoDart N)
   cut_found never = links_found c kept (length keys) NoDart Cuts cuts-tells (λ found.
       let after = turned_found c kept (length keys) NoDart found.0 found.2 (cut-one found.0 found.1) (cut-lands found.0 found.1) in
       never (

@@ -12,7 +12,7 @@ use Rattle.link_laws.proofs.Basics.{same_or_not}
 use Rattle.link_laws.proofs.Walking.{walk_one}
 use Rattle.answer_laws.specs.Answering.{NotNot}
 use Rattle.answer_laws.proofs.RelinkedFound.{LivesAfter}
-use Rattle.answer_laws.proofs.LinksFound.{AreLinks, Tells, links_found}
+use Rattle.answer_laws.proofs.LinksFound.{AreLinksAfter, TellsLinks, links_found}
 use Rattle.answer_laws.proofs.SewnFound.{high-free, dead-free}
 
 -- where link i leads after a walk that ends at z
@@ -58,7 +58,7 @@ module _ (c : Content) (kept : IsLawfulContent c) (k : Kind) (w : Laws k (links_
       pub others : (C x → ⊥) → t ≢ i → t ≢ inverse k i → y ≡ L t x
       pub lands : (z : ℕ) → (C x → ⊥) → t ≡ i → Walk C Step (L i x) z → Lands k x z y
 
-    drawn-tells : Tells c kept 0 C Drawn
+    drawn-tells : TellsLinks c kept 0 C Drawn
     drawn-tells = record {
       some = λ t x l lives never. elim (same_or_not t i) [
         | inl e ↦ ends x lives.1 (λ walk. let to = lands-some k x walk.0 in never (
@@ -101,7 +101,7 @@ module _ (c : Content) (kept : IsLawfulContent c) (k : Kind) (w : Laws k (links_
         led : {x : ℕ} → x ≡ 0 → (y z : ℕ) → Lands k x z y → Walk C Step (L i x) z → y ≡ 0
         led {x} e y z h walk = none-lands k x y z e (in-walk (L i x) z Step (ap (L i) e ∙ w.nil i) walk) h
 
-    pub drawn_found : NotNot ((N : Links) × IsDrawn N × AreLinks c kept 0 C N)
+    pub drawn_found : NotNot ((N : Links) × IsDrawn N × AreLinksAfter c kept 0 C N)
     drawn_found never = links_found c kept 0 C Drawn drawn-tells (λ found. never (
       found.0,
       record {

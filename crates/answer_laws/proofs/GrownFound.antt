@@ -19,7 +19,7 @@ use Rattle.insert_laws.proofs.BetaEdgePairs.{edge_turning}
 use Rattle.machine_laws.proofs.Keeping.{laws-of}
 use Rattle.machine_laws.proofs.GrownLaws.{vertex-live, edge-live, face-live}
 use Rattle.answer_laws.specs.Answering.{NotNot}
-use Rattle.answer_laws.proofs.LinksFound.{AreLinks}
+use Rattle.answer_laws.proofs.LinksFound.{AreLinksAfter}
 use Rattle.answer_laws.proofs.Numbered.{grown_found}
 use Rattle.answer_laws.proofs.InsertedFound.{inserted_found}
 use Rattle.answer_laws.proofs.SplitFound.{split_found}
@@ -31,7 +31,7 @@ module _ (c : Content) (kept : IsLawfulContent c) where
 
   -- links as Becomes tells them of the new darts
   abbrev HasLinks : ((ℕ → ℕ) → Links → Type 0) → List ℕ → (ℕ → ℕ) → Type 0
-  HasLinks Becomes keys star = NotNot ((N : Links) × Becomes star N × AreLinks c kept (length keys) NoDart N)
+  HasLinks Becomes keys star = NotNot ((N : Links) × Becomes star N × AreLinksAfter c kept (length keys) NoDart N)
 
   vertex-links : (k : Kind) → Laws k L → (d : ℕ) → d ≢ 0 → ((x : ℕ) → VertexDarts k L d x → IsLive c.rows x)
       → (keys : List ℕ) (star : ℕ → ℕ) → IsNumbered (VertexDarts k L d) keys (made c.rows) star → HasLinks (λ star N. IsVertex k d star L N) keys star

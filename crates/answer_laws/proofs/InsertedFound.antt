@@ -15,7 +15,7 @@ use Rattle.insert_laws.proofs.Places.{IsBeside, same, next, below, far, link_cas
 use Rattle.insert_laws.proofs.Stands.{Leads, over, along, paired}
 use Rattle.answer_laws.specs.Answering.{NotNot}
 use Rattle.answer_laws.proofs.Choosing.{either_way}
-use Rattle.answer_laws.proofs.LinksFound.{AreLinks, Tells, links_found}
+use Rattle.answer_laws.proofs.LinksFound.{AreLinksAfter, TellsLinks, links_found}
 use Rattle.answer_laws.proofs.SewnFound.{high-free, dead-free}
 use Rattle.answer_laws.proofs.Numbered.{fresh, old-lives, new-lives}
 
@@ -139,7 +139,7 @@ module _ (c : Content) (kept : IsLawfulContent c) (k : Kind) (w : Laws k (links_
       sym (ap star (g ∙ none) ∙ f.nothing)
   above-leads t z v h (paired p) = absurd (let e = just z v t p in let a = place-upto k i in let b = place-from k t in omega arith)
 
-  inserts-tells : Tells c kept (length keys) NoDart Inserts
+  inserts-tells : TellsLinks c kept (length keys) NoDart Inserts
   inserts-tells = record {
     some = λ t x l lives never. either_way (IsNew K star x) (λ told. elim told [
       | inl new ↦ new-some t x new.0 new.1 new.2 never
@@ -159,7 +159,7 @@ module _ (c : Content) (kept : IsLawfulContent c) (k : Kind) (w : Laws k (links_
     };
   }
 
-  pub inserted_found : NotNot ((N : Links) × IsInserted k i K P star L N × AreLinks c kept (length keys) NoDart N)
+  pub inserted_found : NotNot ((N : Links) × IsInserted k i K P star L N × AreLinksAfter c kept (length keys) NoDart N)
   inserted_found never = links_found c kept (length keys) NoDart Inserts inserts-tells (λ found. never (
     found.0,
     record {

@@ -18,7 +18,7 @@ module _ (c : Content) (kept : IsLawfulContent c) (births : ℕ) (Ended : ℕ �
   After = LivesAfter c births Ended
 
   -- links of darts that live afterwards, in the map's dimension
-  pub record AreLinks (N : Links) : Type 0 where
+  pub record AreLinksAfter (N : Links) : Type 0 where
     pub high : HasDimension c.dim N
     pub free : (t x : ℕ) → (After x → ⊥) → N t x ≡ 0
 
@@ -27,12 +27,12 @@ module _ (c : Content) (kept : IsLawfulContent c) (births : ℕ) (Ended : ℕ �
   after-within d (inr born, stays) = let l = born.1 in omega (arith, kept.begun)
 
   -- each link of each dart is told, and those of no dart are free
-  pub record Tells (Spec : ℕ → ℕ → ℕ → Type 0) : Type 0 where
+  pub record TellsLinks (Spec : ℕ → ℕ → ℕ → Type 0) : Type 0 where
     pub some : (t x : ℕ) → t ≤ c.dim → After x → NotNot ((y : ℕ) × Spec t x y)
     pub above : (t x : ℕ) → c.dim < t → Spec t x 0
     pub outside : (t x : ℕ) → (After x → ⊥) → Spec t x 0
 
-  module _ (Spec : ℕ → ℕ → ℕ → Type 0) (tells : Tells Spec) where
+  module _ (Spec : ℕ → ℕ → ℕ → Type 0) (tells : TellsLinks Spec) where
     Whole : ℕ → ℕ → ℕ → Type 0
     Whole t x y = Spec t x y × ((After x → ⊥) → y ≡ 0)
 
@@ -73,21 +73,21 @@ module _ (c : Content) (kept : IsLawfulContent c) (births : ℕ) (Ended : ℕ �
       unfolding links
       specs t x = spec-at t x (cases_lt c.dim t) (cases_lt x (length c.rows + births))
 
-      are : AreLinks links
+      are : AreLinksAfter links
       unfolding links
       are = record {
         high = λ t x h. high-at t x h (cases_lt c.dim t) (cases_lt x (length c.rows + births));
         free = λ t x dead. free-at t x dead (cases_lt c.dim t) (cases_lt x (length c.rows + births));
       }
 
-    pub links_found : NotNot ((N : Links) × ((t x : ℕ) → Spec t x (N t x)) × AreLinks N)
+    pub links_found : NotNot ((N : Links) × ((t x : ℕ) → Spec t x (N t x)) × AreLinksAfter N)
     links_found never =
         choose (λ t (row : ℕ → ℕ). (x : ℕ) → x < length c.rows + births → Whole t x (row x)) (λ x. 0) (c.dim + 1)
         (λ t l. choose (Whole t) 0 (length c.rows + births) (λ x m. whole_some t x (omega arith)))
         (λ found. never (links found.0 found.1, specs found.0 found.1, are found.0 found.1))
 
   -- Links with another link 0, which leads back where link 1 leads on: link 1 is one-to-one, and leads to darts that live.
-  module _ (N : Links) (are : AreLinks N) (one : (x y : ℕ) → N 1 x ≢ 0 → N 1 x ≡ N 1 y → x ≡ y) (lands : (x : ℕ) → N 1 x ≢ 0 → NotNot (After (N 1 x))) where
+  module _ (N : Links) (are : AreLinksAfter N) (one : (x y : ℕ) → N 1 x ≢ 0 → N 1 x ≡ N 1 y → x ≡ y) (lands : (x : ℕ) → N 1 x ≢ 0 → NotNot (After (N 1 x))) where
     linked-upto : (x : ℕ) → N 1 x ≢ 0 → x ≤ length c.rows + births
     linked-upto x some = elim (cases_lt (length c.rows + births) x) [
       | inl past ↦ absurd (some (are.free 1 x (λ h. let l = after-within x h in omega arith)))
@@ -102,7 +102,7 @@ module _ (c : Content) (kept : IsLawfulContent c) (births : ℕ) (Ended : ℕ �
           lands (M 0 y) (λ none. far (sym led ∙ none)) (λ h. dead (subst After led h)))
     ]
 
-    pub turned_found : (M : Links) × IsTurned M × ((t x : ℕ) → 1 ≤ t → M t x ≡ N t x) × AreLinks M
+    pub turned_found : (M : Links) × IsTurned M × ((t x : ℕ) → 1 ≤ t → M t x ≡ N t x) × AreLinksAfter M
     turned_found =
         let r = turned_links N (length c.rows + births) linked-upto one in (
           r.0,
@@ -118,5 +118,5 @@ module _ (c : Content) (kept : IsLawfulContent c) (births : ℕ) (Ended : ℕ �
         )
 
   -- a content with links that are told
-  pub content_found : (hook : Meaning) (Becomes : Links → Type 0) (N : Links) → AreLinks N → Becomes N → NotNot ((next : Content) × IsRelinked hook c births Ended Becomes next)
+  pub content_found : (hook : Meaning) (Becomes : Links → Type 0) (N : Links) → AreLinksAfter N → Becomes N → NotNot ((next : Content) × IsRelinked hook c births Ended Becomes next)
   content_found hook Becomes N are becomes = relinked_found hook c kept births Ended Becomes N becomes are.high are.free

@@ -21,7 +21,7 @@ use Rattle.answer_laws.specs.Answering.{NotNot}
 use Rattle.answer_laws.proofs.Choosing.{either_way, choose}
 use Rattle.answer_laws.proofs.Listed.{ascending}
 use Rattle.answer_laws.proofs.RelinkedFound.{LivesAfter}
-use Rattle.answer_laws.proofs.LinksFound.{AreLinks, content_found}
+use Rattle.answer_laws.proofs.LinksFound.{AreLinksAfter, content_found}
 
 module _ (c : Content) (kept : IsLawfulContent c) (K : ℕ → Type 0) (live : (x : ℕ) → K x → IsLive c.rows x) where
   -- the new dart of x, by the place of x among the keys
@@ -79,7 +79,7 @@ module _ (c : Content) (kept : IsLawfulContent c) (K : ℕ → Type 0) (live : (
 
   -- Where the links of an insertion are found, its content is.
   pub grown_found : (hook : Meaning) (Becomes : (ℕ → ℕ) → Links → Type 0)
-      → ((keys : List ℕ) (star : ℕ → ℕ) → IsNumbered K keys (made c.rows) star → NotNot ((N : Links) × Becomes star N × AreLinks c kept (length keys) NoDart N))
+      → ((keys : List ℕ) (star : ℕ → ℕ) → IsNumbered K keys (made c.rows) star → NotNot ((N : Links) × Becomes star N × AreLinksAfter c kept (length keys) NoDart N))
       → NotNot ((births : ℕ) × (next : Content) × IsGrown hook c K Becomes births next)
   grown_found hook Becomes links never = numbered_found (λ found. links found.0 found.1 found.2 (λ made_links.
       content_found c kept (length found.0) NoDart hook (Becomes found.1) made_links.0 made_links.2 made_links.1 (λ after.

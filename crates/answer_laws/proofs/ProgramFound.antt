@@ -21,16 +21,16 @@ use Rattle.answer_laws.specs.Answering.{NotNot, HasAnswer, HasWhole}
 use Rattle.answer_laws.proofs.Choosing.{either_way}
 use Rattle.answer_laws.proofs.RunFound.{run_found}
 
--- some text and status are told
-abbrev Tells : (List ℕ → ℕ → Type 0) → Type 0
-Tells answer = (text : List ℕ) × (status : ℕ) × answer text status
+-- there is such a text with its status
+abbrev HasText : (List ℕ → ℕ → Type 0) → Type 0
+HasText answer = (text : List ℕ) × (status : ℕ) × answer text status
 
-script_found : (hook : Meaning) (start : State) (script : List ℕ) → IsLawfulState start → AreTraced start → NotNot (Tells (ScriptAnswer hook start script))
+script_found : (hook : Meaning) (start : State) (script : List ℕ) → IsLawfulState start → AreTraced start → NotNot (HasText (ScriptAnswer hook start script))
 script_found hook start script kept traced never = run_found hook start (lines_of script) kept traced (λ run.
     never (replies_text run.0, run_status (any_refused run.0), (run.0, run.1, run.2, refl, refl)))
 
 -- a file is missing, too long, or read
-file_found : (o : Option (List ℕ)) (read : List ℕ → List ℕ → ℕ → Type 0) → ((bytes : List ℕ) → NotNot (Tells (read bytes))) → NotNot (Tells (FileAnswer o read))
+file_found : (o : Option (List ℕ)) (read : List ℕ → List ℕ → ℕ → Type 0) → ((bytes : List ℕ) → NotNot (HasText (read bytes))) → NotNot (HasText (FileAnswer o read))
 file_found None read found = λ never. never (cannot_read, 5, (refl, refl))
 file_found (Some bytes) read found = λ never. elim (cases_lt file_limit (length bytes)) [
   | inl long ↦ never (too_long, 4, inl (long, refl, refl))
@@ -38,7 +38,7 @@ file_found (Some bytes) read found = λ never. elim (cases_lt file_limit (length
 ]
 
 module _ (hook : Meaning) (k : Kind) (n : ℕ) (flat : 2 ≤ n) (text script : List ℕ) where
-  sound_found : (mesh : Mesh) → mesh_of text ≡ Ok mesh → (fault : Option MapFault) → mesh_fault k mesh ≡ fault → NotNot (Tells (MeshAnswer hook k n text script))
+  sound_found : (mesh : Mesh) → mesh_of text ≡ Ok mesh → (fault : Option MapFault) → mesh_fault k mesh ≡ fault → NotNot (HasText (MeshAnswer hook k n text script))
   sound_found mesh read (Some fault) e = λ never. never (map_fault_line fault, 3, inl (ap (refusal_line k) read ∙ ap (option_map map_fault_line) e, refl))
   sound_found mesh read None e = λ never.
       let map = has-map k n mesh flat e in
@@ -46,11 +46,11 @@ module _ (hook : Meaning) (k : Kind) (n : ℕ) (flat : 2 ≤ n) (text script : L
       script_found hook (first_state map.0) script (loaded-kept k n text (first_state map.0) flat loaded) tt (λ answer.
       never (answer.0, answer.1, inr (first_state map.0, loaded, answer.2)))
 
-  read_found : (mesh : Result Mesh TextFault) → mesh_of text ≡ mesh → NotNot (Tells (MeshAnswer hook k n text script))
+  read_found : (mesh : Result Mesh TextFault) → mesh_of text ≡ mesh → NotNot (HasText (MeshAnswer hook k n text script))
   read_found (Err fault) e = λ never. never (text_fault_line fault, 3, inl (ap (refusal_line k) e, refl))
   read_found (Ok mesh) e = sound_found mesh e (mesh_fault k mesh) refl
 
-command_found : (hook : Meaning) (files : Files) (c : Command) → IsOffered c → NotNot (Tells (CommandAnswer hook files c))
+command_found : (hook : Meaning) (files : Files) (c : Command) → IsOffered c → NotNot (HasText (CommandAnswer hook files c))
 command_found hook files (RunScript k n None script) offered =
     file_found (held files script) (ScriptAnswer hook (empty_state k n)) (λ bytes. script_found hook (empty_state k n) bytes (empty-kept k n offered.1) tt)
 command_found hook files (RunScript k n (Some name) script) offered =

@@ -19,7 +19,7 @@ use Rattle.remove_laws.proofs.Removed.{vertex_smoothed}
 use Rattle.remove_laws.proofs.Smoothed.{run_ends}
 use Rattle.machine_laws.proofs.Keeping.{laws-of}
 use Rattle.answer_laws.specs.Answering.{NotNot}
-use Rattle.answer_laws.proofs.LinksFound.{AreLinks, content_found}
+use Rattle.answer_laws.proofs.LinksFound.{AreLinksAfter, content_found}
 use Rattle.answer_laws.proofs.Bridged.{alpha-bridged, high-bridged, edge-bridged, vertex-smoothed}
 
 module _ (c : Content) (kept : IsLawfulContent c) (d : ℕ) (dart : d ≢ 0) where
@@ -43,7 +43,7 @@ module _ (c : Content) (kept : IsLawfulContent c) (d : ℕ) (dart : d ≢ 0) whe
   closed : (i t x : ℕ) → t ≤ 1 → InCell beta L (suc (suc i)) d x → L t x ≢ 0 → InCell beta L (suc (suc i)) d (L t x)
   closed i t x l h some = beta_closed L i t d x (λ e. omega arith) h some
 
-  removed-links : (k : Kind) (w : Laws k L) (i : ℕ) → i ≤ c.dim → IsRemovable k L i d → NotNot ((N : Links) × IsRemoved k i d L N × AreLinks c kept 0 (InCell k L i d) N)
+  removed-links : (k : Kind) (w : Laws k L) (i : ℕ) → i ≤ c.dim → IsRemovable k L i d → NotNot ((N : Links) × IsRemoved k i d L N × AreLinksAfter c kept 0 (InCell k L i d) N)
   removed-links alpha w i within can =
       alpha-bridged c kept w (InCell alpha L i d) (in-dart alpha i) i within (across_removed alpha L i) (removal-walks alpha i w (λ e. absurd (cc (e))) can)
   removed-links beta w zero within can =
@@ -55,7 +55,7 @@ module _ (c : Content) (kept : IsLawfulContent c) (d : ℕ) (dart : d ≢ 0) whe
       high-bridged c kept w (InCell beta L (suc (suc i)) d) (in-dart beta (suc (suc i))) (suc (suc i)) (omega arith) within (across_removed beta L (suc (suc i)))
       (removal-walks beta (suc (suc i)) w (λ e h. omega arith) can) (closed i)
 
-  contracted-links : (k : Kind) (w : Laws k L) (i : ℕ) → i ≤ c.dim → IsContractible k L i d → NotNot ((N : Links) × IsContracted k i d L N × AreLinks c kept 0 (InCell k L i d) N)
+  contracted-links : (k : Kind) (w : Laws k L) (i : ℕ) → i ≤ c.dim → IsContractible k L i d → NotNot ((N : Links) × IsContracted k i d L N × AreLinksAfter c kept 0 (InCell k L i d) N)
   contracted-links alpha w i within can =
       alpha-bridged c kept w (InCell alpha L i d) (in-dart alpha i) i within (across_contracted alpha L i) (contraction-walks alpha i w can)
   contracted-links beta w zero within can = λ never. can.each d here

@@ -15,7 +15,7 @@ use Rattle.machine_laws.proofs.Keeping.{laws-of}
 use Rattle.answer_laws.specs.Answering.{NotNot}
 use Rattle.answer_laws.proofs.Choosing.{either_way}
 use Rattle.answer_laws.proofs.RelinkedFound.{LivesAfter}
-use Rattle.answer_laws.proofs.LinksFound.{Tells, links_found, content_found}
+use Rattle.answer_laws.proofs.LinksFound.{TellsLinks, links_found, content_found}
 
 pub inverse-low : (k : Kind) (n t : ℕ) → 2 ≤ n → t ≤ n → inverse k t ≤ n
 inverse-low alpha n t flat l = l
@@ -50,7 +50,7 @@ module _ (c : Content) (kept : IsLawfulContent c) where
     Sewn : ℕ → ℕ → ℕ → Type 0
     Sewn t x y = ((z : ℕ) → P x z t → y ≡ z) × (((z : ℕ) → P x z t → ⊥) → y ≡ links_of c.rows t x)
 
-    sewn-tells : Tells c kept 0 NoDart Sewn
+    sewn-tells : TellsLinks c kept 0 NoDart Sewn
     unfolding Sewn
     sewn-tells = record {
       some = λ t x l lives never. either_way ((z : ℕ) × P x z t) (λ told. elim told [
@@ -71,7 +71,7 @@ module _ (c : Content) (kept : IsLawfulContent c) where
     Unsewn : ℕ → ℕ → ℕ → Type 0
     Unsewn t x y = (IsFreed c.kind (links_of c.rows) i d x t → y ≡ 0) × ((IsFreed c.kind (links_of c.rows) i d x t → ⊥) → y ≡ links_of c.rows t x)
 
-    unsewn-tells : Tells c kept 0 NoDart Unsewn
+    unsewn-tells : TellsLinks c kept 0 NoDart Unsewn
     unfolding Unsewn
     unsewn-tells = record {
       some = λ t x l lives never. either_way (IsFreed c.kind (links_of c.rows) i d x t) (λ told. elim told [

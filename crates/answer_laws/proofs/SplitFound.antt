@@ -16,7 +16,7 @@ use Rattle.insert_laws.proofs.OneToOne.{split_one}
 use Rattle.answer_laws.specs.Answering.{NotNot}
 use Rattle.answer_laws.proofs.Choosing.{either_way}
 use Rattle.answer_laws.proofs.RelinkedFound.{LivesAfter}
-use Rattle.answer_laws.proofs.LinksFound.{AreLinks, Tells, links_found, turned_found}
+use Rattle.answer_laws.proofs.LinksFound.{AreLinksAfter, TellsLinks, links_found, turned_found}
 use Rattle.answer_laws.proofs.SewnFound.{high-free, dead-free}
 use Rattle.answer_laws.proofs.Numbered.{fresh, old-lives, new-lives}
 
@@ -72,7 +72,7 @@ module _ (c : Content) (kept : IsLawfulContent c) (w : Laws beta (links_of c.row
     others = λ l far none. refl;
   }
 
-  splits-tells : Tells c kept (length keys) NoDart Splits
+  splits-tells : TellsLinks c kept (length keys) NoDart Splits
   splits-tells = record {
     some = λ t x l lives never. either_way (IsNew K star x) (λ told. elim told [
       | inl new ↦ never (L t new.0, new-some t x new.0 new.1 new.2)
@@ -111,7 +111,7 @@ module _ (c : Content) (kept : IsLawfulContent c) (w : Laws beta (links_of c.row
       ])
     ])
 
-  pub split_found : NotNot ((N : Links) × IsSplit K star L N × AreLinks c kept (length keys) NoDart N)
+  pub split_found : NotNot ((N : Links) × IsSplit K star L N × AreLinksAfter c kept (length keys) NoDart N)
   split_found never = links_found c kept (length keys) NoDart Splits splits-tells (λ found.
       let after = turned_found c kept (length keys) NoDart found.0 found.2 (new-one found.0 found.1) (new-lands found.0 found.1) in
       never (
