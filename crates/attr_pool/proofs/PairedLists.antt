@@ -1,7 +1,8 @@
 -- The values of a pool and which of them are live, as one list.
-use Rattle.std.proofs.Common.{◌≡◌, ℕ, zero, suc, List, [], ◌∷◌, ◌++◌, length, get_or, set, Bool, true, false, Option, None, Some, cond, refl, ap, arith}
+use Rattle.std.proofs.Common.{◌≡◌, ℕ, zero, suc, List, [], ◌∷◌, ◌++◌, length, get_or, set, Bool, true, false, Option, None, Some, cond, All, refl, sym, ap, subst, arith}
 use Rattle.std.proofs.lemmas.Bool.{false≢true}
 use Rattle.map_defs.specs.Values.{Value}
+use Rattle.map_defs.specs.Carry.{known}
 use Rattle.attr_pool.specs.Pools.{slots_of}
 
 pub length-slots : (vs : List Value) (ls : List Bool) → length ls ≡ length vs → length (slots_of vs ls) ≡ length vs
@@ -36,3 +37,15 @@ slots-push [] [] v h = refl
 slots-push [] (l ∷ ls) v h = absurd (omega arith)
 slots-push (u ∷ vs) [] v h = absurd (omega arith)
 slots-push (u ∷ vs) (k ∷ ls) v h = ap (λ (xs : List (Option Value)). cond k (Some u) None ∷ xs) (slots-push vs ls v (omega arith))
+
+-- what holds of all values holds of those at live places
+pub held-slots : (P : Value → Type 0) (vs : List Value) (ls : List Bool) → All P vs → (id : ℕ) (v : Value) → get_or (None ∷ slots_of vs ls) id None ≡ Some v → P v
+held-slots P vs ls all zero v is = cc (is)
+held-slots P vs ls all (suc p) v is = go vs ls all p is
+  where
+    go : (xs : List Value) (bs : List Bool) → All P xs → (p : ℕ) → get_or (slots_of xs bs) p None ≡ Some v → P v
+    go [] bs all p is = cc (is)
+    go (x ∷ xs) [] all p is = cc (is)
+    go (x ∷ xs) (b ∷ bs) all (suc p) is = go xs bs (λ i d h. all (suc i) d (omega (arith, h))) p is
+    go (x ∷ xs) (true ∷ bs) all zero is = subst P (ap known is) (all 0 x (omega arith))
+    go (x ∷ xs) (false ∷ bs) all zero is = cc (is)

@@ -1,6 +1,6 @@
 -- What the type of a pool keeps.
-use Rattle.std.specs.Prelude.{ℕ, suc, Bool, ◌≡◌, ◌≢◌, ◌+◌, ◌≤◌, ◌<◌, ◌^◌, pos, List, [], ◌∷◌, Option, Some, None, cond, length, filter, is_some, slice_index, slice_index_or, vec_capacity}
-use Rattle.map_defs.specs.Values.{Value}
+use Rattle.std.specs.Prelude.{ℕ, suc, Bool, ◌≡◌, ◌≢◌, ◌+◌, ◌≤◌, ◌<◌, ◌^◌, pos, List, [], ◌∷◌, Option, Some, None, cond, length, filter, is_some, slice_index, slice_index_or, vec_capacity, All}
+use Rattle.map_defs.specs.Values.{Value, IsRepresentable}
 use Rattle.attr_pool.specs.declared.pool.Pool.TheInside.{Inside}
 
 -- what stands at each place: the value, if the place is live
@@ -36,6 +36,8 @@ pub record ArePoolParts (values : List Value) (lives : List Bool) (first live : 
 pub record IsPool (pool : Inside) : Type 0 where
   pub places : List ℕ
   pub kept : ArePoolParts pool.values.items pool.lives.items pool.free pool.live places
+  -- all that stands in the list of values is within 64 bits
+  pub held : All IsRepresentable pool.values.items
   -- both lists have room for so many ids
   pub placed : length pool.values.items ≤ pool.room
   pub values_room : pool.room ≤ vec_capacity pool.values

@@ -1,5 +1,6 @@
 ghost use Rattle.std.specs.Prelude.{◌≡◌, ℕ, pos, ◌+◌, ◌-◌, ◌^◌, ◌≤◌, ◌<◌, [], ◌∷◌, None, Some, IsOk, OnOk, OnErr};
-ghost use Rattle.store_defs.specs.Stores.{value_of, IsHeld, live_count, IsPut};
+ghost use Rattle.map_defs.specs.Values.{IsRepresentable};
+ghost use Rattle.store_defs.specs.Stores.{value_of, IsHeld, live_count, IsPut, HasRepresentable};
 
 use crate::id::AttrId;
 use map_kind::Value;
@@ -70,6 +71,9 @@ impl Pool {
         // It fails only where room was missing.
         ensures had_room { ids ≤ self.old.spare → IsOk result }
         ensures err { OnErr result (self.new ≡ self.old) }
+
+        // What ids stand for are values of 64 bits.
+        ensures held { HasRepresentable self.old }
     {
         let wanted = self.live + ids;
         if wanted <= self.room {
@@ -156,7 +160,8 @@ fn place(id: AttrId) -> u32
 
 /// What is written at a free place: the place that follows it.
 fn free_value(next: u32) -> Value
-    ensures { result.a ≡ pos next }
+    ensures next { result.a ≡ pos next }
+    ensures held { IsRepresentable result }
 {
     Value {
         a: i64::from(next),

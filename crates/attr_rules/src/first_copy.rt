@@ -13,7 +13,7 @@ impl Rule for FirstCopy {
 
     ghost ready = { λ _. Unit };
 
-    ghost whole = { λ _ v. refl };
+    ghost whole = { λ _ v _. refl };
 
     fn merged(&self, x: Value, _y: Value) -> Value {
         x

@@ -19,7 +19,7 @@ use Rattle.machine_laws.proofs.Ended.{kept-ended, same-value}
 use Rattle.store_defs.specs.Stores.{Store}
 use Rattle.store_defs.specs.Labelings.{Labeling, id_of, KeepsIds, KeepsPlaces, HasPlaces as HasIdPlaces}
 use Rattle.store_defs.specs.Groups.{Group, group_at, rule_at, labelled_value, AreTouchedCells, HasCarriedValue}
-use Rattle.label_laws.specs.Stored.{stored_value}
+use Rattle.label_laws.specs.Stored.{stored_value, AreSmall}
 use Rattle.label_laws.specs.Changing.{AreTaken, AreRelabelled, IsGroupedBelow}
 use Rattle.label_laws.specs.Contents.{content_of, all_rules, IsCarriedOn}
 use Rattle.label_laws.specs.Maps.{IsStoredMap}
@@ -266,13 +266,13 @@ module _ (k : Kind) (n : ℕ) (old new : Rows) (l m : Labeling) (p q : Store) (r
   pub relinked-outside : (i d : ℕ) → (((i < n + 1) × Ended d) ⊎ IsGroupedBelow (length groups) groups i d → ⊥) → stored_value q m i d ≡ stored_value p l i d
   relinked-outside = stored_value-outside k n old new s.laws laws l p s.stored Ended ends lives-on rules s.bare (λ i some. ruled-low n i rules s.ruled some) touched live groups t touches r.0 r.1 r.2 m q r.3
 
-  module _ (hook : Meaning) (whole : KeepsWhole hook) (carried : (g : ℕ) → g < length groups → HasCarriedValue k (links_of new) (IsLive new) (id_of l) p hook rules (group_at groups g)) where
+  module _ (hook : Meaning) (whole : KeepsWhole hook) (small : AreSmall rules p) (carried : (g : ℕ) → g < length groups → HasCarriedValue k (links_of new) (IsLive new) (id_of l) p hook rules (group_at groups g)) where
     values-carried : (i : ℕ) (o : Option Rule) → rule_at rules i ≡ o → AreCarriedBy hook (content_of k n old l p rules) (content_of k n new m q rules) i o
     values-carried i None e = λ d. value-shown k n new m q rules relinked-stored i d ∙ ap (labelled_value q) (relinked-stored.bare i d e)
     values-carried i (Some rule) e =
         carried-alike k i _ (links_of old) (IsLive old) (λ x. stored_value p l i x) _ (links_of new) (IsLive new) (λ x. stored_value q m i x) _
         (λ x. value-shown k n old l p rules s i x) (λ x. value-shown k n new m q rules relinked-stored i x)
-        (carried-after k n old new s.laws laws l p s.stored Ended ends lives-on rules s.bare (λ i some. ruled-low n i rules s.ruled some) touched live groups t touches r.0 r.1 r.2 m q r.3 hook whole carried i rule e)
+        (carried-after k n old new s.laws laws l p s.stored Ended ends lives-on rules s.bare (λ i some. ruled-low n i rules s.ruled some) touched live groups t touches r.0 r.1 r.2 m q r.3 hook whole small carried i rule e)
 
     pub relinked-carried : IsCarriedOn hook (content_of k n old l p rules) new (content_of k n new m q rules)
     relinked-carried = record {

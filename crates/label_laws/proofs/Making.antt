@@ -21,7 +21,7 @@ use Rattle.value_laws.proofs.Covering.{touching_covers}
 use Rattle.store_defs.specs.Stores.{Store}
 use Rattle.store_defs.specs.Labelings.{Labeling, id_of, KeepsIds, KeepsPlaces}
 use Rattle.store_defs.specs.Groups.{Group, group_at, rule_at, HasCarriedValue}
-use Rattle.label_laws.specs.Stored.{AreStored, stored_value}
+use Rattle.label_laws.specs.Stored.{AreStored, AreSmall, stored_value}
 use Rattle.label_laws.specs.Changing.{AreTaken, AreRelabelled, IsGroupedBelow}
 use Rattle.label_laws.specs.Contents.{content_of, IsCarriedOn}
 use Rattle.label_laws.specs.Maps.{IsStoredMap}
@@ -123,11 +123,11 @@ module _ (k : Kind) (n : ℕ) (rows : Rows) (e : Edit) (l : Labeling) (p : Store
           relink-outside =
               relinked-outside k n rows New m m' q q' rules grown-stored laws (Contains e.deaths) gone-for-good live-or-ended touched.0 touched.1 groups touched.2 touched.3 r labels-long begun-new sound-new
 
-          pub relink-carried : (hook : Meaning) → KeepsWhole hook → ((g : ℕ) → g < length groups → HasCarriedValue k (links_of New) (IsLive New) (id_of m) q hook rules (group_at groups g))
+          pub relink-carried : (hook : Meaning) → KeepsWhole hook → AreSmall rules q → ((g : ℕ) → g < length groups → HasCarriedValue k (links_of New) (IsLive New) (id_of m) q hook rules (group_at groups g))
               → IsCarriedOn hook (content_of k n rows l p rules) New (content_of k n New m' q' rules)
-          relink-carried hook whole carried =
+          relink-carried hook whole small carried =
               subst (λ (c : Content). IsCarriedOn hook c New (content_of k n New m' q' rules)) (content-alike k n rows l m p q rules ids slots)
-              (relinked-carried k n rows New m m' q q' rules grown-stored laws (Contains e.deaths) gone-for-good live-or-ended touched.0 touched.1 groups touched.2 touched.3 r labels-long begun-new sound-new hook whole carried)
+              (relinked-carried k n rows New m m' q q' rules grown-stored laws (Contains e.deaths) gone-for-good live-or-ended touched.0 touched.1 groups touched.2 touched.3 r labels-long begun-new sound-new hook whole small carried)
 
 -- A dart without links ends.
 module _ (k : Kind) (n : ℕ) (rows : Rows) (dart : ℕ) (l m : Labeling) (p q : Store) (rules : List (Option Rule)) (s : IsStoredMap k n rows l p rules)

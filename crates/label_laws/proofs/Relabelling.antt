@@ -8,7 +8,7 @@ use Rattle.map_defs.specs.Rows.{Rows, IsLive, links_of}
 use Rattle.map_defs.specs.Cells.{InCell}
 use Rattle.map_defs.specs.Walks.{IsTold}
 use Rattle.map_defs.specs.Touched.{IsOldCell, Touches, IsAlike}
-use Rattle.map_defs.specs.Values.{Value, Rule, Meaning, KeepsWhole, meaning_of}
+use Rattle.map_defs.specs.Values.{Value, Rule, Meaning, KeepsWhole, IsRepresentable, meaning_of}
 use Rattle.map_defs.specs.Carry.{IsCarried, IsValuedWith, AreEqualOnCells, AreCarried, known}
 use Rattle.link_laws.proofs.Basics.{same_or_not}
 use Rattle.link_laws.proofs.CellFacts.{cell_back}
@@ -21,7 +21,7 @@ use Rattle.value_laws.proofs.Rising.{rising_one}
 use Rattle.store_defs.specs.Stores.{Store, value_of}
 use Rattle.store_defs.specs.Labelings.{Labeling, id_of, KeepsPlaces}
 use Rattle.store_defs.specs.Groups.{Group, group_at, rule_at, least_of, known_value, labelled_value, IsTouchedCell, AreTouchedCells, HasCarriedValue}
-use Rattle.label_laws.specs.Stored.{stored_value, AreStored}
+use Rattle.label_laws.specs.Stored.{stored_value, AreStored, AreSmall}
 use Rattle.label_laws.specs.Changing.{AreTaken, IsGroupedBelow, AreGroupsGiven}
 use Rattle.label_laws.proofs.Storing.{AreSpared, stored_value-stays, stored-taken}
 use Rattle.label_laws.proofs.Giving.{AreCells, AreUpTo, groups-given, groups-places}
@@ -178,7 +178,7 @@ module _ (k : Kind) (n : ℕ) (old new : Rows) (w : Laws k (links_of old)) (wn :
           left-none (inr h) = h.1 ∙ bare i d none
 
       -- and each new cell has the value that the rule carries to it
-      module _ (hook : Meaning) (whole : KeepsWhole hook)
+      module _ (hook : Meaning) (whole : KeepsWhole hook) (small : AreSmall rules p)
           (carried : (g : ℕ) → g < length groups → HasCarriedValue k (links_of new) (IsLive new) (id_of l) p hook rules (group_at groups g)) where
         abbrev Goal : ℕ → Rule → ℕ → Option Value → Type 0
         Goal i rule d r = IsCarried (meaning_of hook rule) (λ x. known (stored_value p l i x)) (λ x. IsLive old x × IsLive new x)
@@ -212,11 +212,15 @@ module _ (k : Kind) (n : ℕ) (old new : Rows) (w : Laws k (links_of old)) (wn :
               | inr no-id ↦ inr (λ cell. no-id (s.whole i d x c e (((spared-cell i d c out e).same x).0 cell)))
             ]))
 
+        small_label : (i : ℕ) (rule : Rule) → rule_at rules i ≡ Some rule → (o : Option ℕ) (v : Value) → labelled_value p o ≡ Some v → IsRepresentable v
+        small_label i rule ruled None v is = cc (is)
+        small_label i rule ruled (Some id) v is = small i rule ruled id v is
+
         spared-carried : (i : ℕ) (rule : Rule) (d : ℕ) → rule_at rules i ≡ Some rule → IsLive new d → (Place i d → ⊥) → Goal i rule d (stored_value q m i d)
         spared-carried i rule d is h out =
             let o = old-cell i d (subst (λ (z : Option Rule). IsSome z) (sym is) refl) h out in
             let kept = kept_is_carried k i (meaning_of hook rule) (links_of old) (links_of new) (IsLive old) (IsLive new) w wn (rows_lead_to_live k new wn)
-            (λ x. stored_value p l i x) (stored_value-equal i) d h o (keeps_whole hook rule whole) (told i d out) in
+            (λ x. stored_value p l i x) (stored_value-equal i) d (small_label i rule is (id_of l i d)) h o (keeps_whole hook rule whole) (told i d out) in
             subst (λ (v : Option Value). Goal i rule d v) (sym (stored_value-outside i d out)) kept
 
         pub carried-after : (i : ℕ) (rule : Rule) → rule_at rules i ≡ Some rule

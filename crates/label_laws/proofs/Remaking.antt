@@ -1,23 +1,16 @@
 -- What an edit that fits leaves of a map besides its links.
-use Rattle.std.proofs.Common.{◌≡◌, ℕ, ◌+◌, ◌<◌, ◌≤◌, ◌⊎◌, ◌↔◌, List, length, Option, Some, None, is_some, IsSome, refl, sym, ap, subst, ◌∙◌, arith, inl, inr}
+use Rattle.std.proofs.Common.{◌≡◌, ℕ, ◌+◌, ◌<◌, ◌≤◌, ◌⊎◌, ◌↔◌, List, length, Option, Some, None, is_some, IsSome, refl, sym, ap, ◌∙◌, arith, inl, inr}
 use Rattle.std.specs.Prelude.{Contains}
 use Rattle.std.proofs.lemmas.Bool.{cases_lt, false≢true}
 use Rattle.std.proofs.lemmas.List.{get_or_default}
 use Rattle.map_defs.specs.Kind.{Kind}
-use Rattle.map_defs.specs.Links.{Links}
-use Rattle.map_defs.specs.Rows.{Rows, row_at, links_of, made, IsLive, IsSound, AreWide}
-use Rattle.map_defs.specs.Values.{Rule, Meaning}
-use Rattle.machine_defs.specs.State.{Content}
+use Rattle.map_defs.specs.Rows.{Rows, row_at, made, IsLive, IsSound, AreWide}
 use Rattle.map_defs.specs.Edits.{Edit, with_births, with_changes, after_edit, Fits}
-use Rattle.machine_defs.specs.Relinking.{IsRelinked}
 use Rattle.edit_laws.proofs.RowWrites.{births-wide, births-old, live-within}
 use Rattle.edit_laws.proofs.EditSteps.{linked-live, linked-wide, buried-wide, buried-dead, buried-none}
-use Rattle.edit_laws.proofs.EditSound.{length-after, length-births}
+use Rattle.edit_laws.proofs.EditSound.{length-births}
 use Rattle.edit_laws.proofs.EditLinks.{lives-on}
 use Rattle.edit_laws.proofs.EditBack.{born-live}
-use Rattle.store_defs.specs.Stores.{Store}
-use Rattle.store_defs.specs.Labelings.{Labeling}
-use Rattle.label_laws.specs.Contents.{content_of, IsCarriedOn}
 
 none-or-some : (o : Option (List ℕ)) → (o ≡ None) ⊎ IsSome o
 none-or-some None = inl refl
@@ -56,18 +49,3 @@ module _ (k : Kind) (n : ℕ) (rows : Rows) (e : Edit) (sound : IsSound k n rows
 
   pub wide-after : AreWide n (after_edit n e rows)
   wide-after = buried-wide n e.deaths (with_changes n e rows) (linked-wide n e.changes (with_births n e.births rows) (births-wide n e.births rows sound.wide))
-
-  -- where the values are carried too, it is the content after a change of links
-  pub relinked : (hook : Meaning) (l : Labeling) (p : Store) (rules : List (Option Rule)) (next : Content) → IsCarriedOn hook (content_of k n rows l p rules) (after_edit n e rows) next
-      → (Becomes : Links → Type 0) → Becomes (links_of (after_edit n e rows)) → IsRelinked hook (content_of k n rows l p rules) e.births Ended Becomes next
-  relinked hook l p rules next on Becomes becomes = record {
-    kind = on.kind;
-    dim = on.dim;
-    long = ap (λ (r : Rows). length r) on.rows_are ∙ length-after n e rows;
-    live = λ d. subst (λ (r : Rows). IsLive r d ↔ ((IsLive rows d ⊎ ((made rows < d) × (d ≤ made rows + e.births))) × (Ended d → ⊥))) (sym on.rows_are) (live-after d);
-    wide = subst (λ (r : Rows). AreWide n r) (sym on.rows_are) wide-after;
-    links = subst (λ (r : Rows). Becomes (links_of r)) (sym on.rows_are) becomes;
-    rules = on.rules;
-    places = on.places;
-    values = on.values;
-  }

@@ -12,7 +12,7 @@ use Rattle.link_laws.proofs.CellFacts.{cell_back}
 use Rattle.link_laws.proofs.RowFacts.{rows_lead_to_live}
 use Rattle.value_laws.proofs.Touching.{cell_live}
 use Rattle.value_laws.proofs.Rising.{rising_one}
-use Rattle.store_defs.specs.Stores.{Store, value_of}
+use Rattle.store_defs.specs.Stores.{Store}
 use Rattle.store_defs.specs.Labelings.{Labeling, id_of}
 use Rattle.store_defs.specs.Groups.{Group, group_at, least_of, labelled_value}
 use Rattle.label_laws.specs.Stored.{stored_value, AreStored}

@@ -1,11 +1,10 @@
 -- Totals: what the values of a dimension add up to over its cells. Source: this project's.
-use Rattle.std.specs.Prelude.{ℕ, ◌≤◌, ◌+ℤ◌, ◌↔◌, pos, List, [], ◌∷◌, length, take, Option, None, IsSome, Contains, FitsSigned}
-use Rattle.std.specs.Int.{w64}
+use Rattle.std.specs.Prelude.{ℕ, ◌≤◌, ◌+ℤ◌, ◌↔◌, pos, List, [], ◌∷◌, length, take, Option, None, IsSome, Contains}
 use Rattle.std.specs.List.Sorted.{IsStrictlyIncreasing}
 use Rattle.map_defs.specs.Kind.{Kind}
 use Rattle.map_defs.specs.Links.{Links}
 use Rattle.map_defs.specs.Cells.{InCell, NamesCell}
-use Rattle.map_defs.specs.Values.{Value, Sum, Share, Meaning, meaning_of, on_each}
+use Rattle.map_defs.specs.Values.{Value, IsRepresentable, Sum, Share, Meaning, meaning_of, on_each}
 use Rattle.map_defs.specs.Carry.{IsCarried, IsValuedWith, known, merged_all}
 
 -- the rule `sum share`, beside a hook: values add up where cells merge, and are dealt out where a cell is split
@@ -26,13 +25,9 @@ abbrev pub total_value : (ℕ → Option Value) → List ℕ → Value
 total_value values [] = record { a = pos 0; b = pos 0; c = pos 0 }
 total_value values (d ∷ darts) = plain_sum (known (values d)) (total_value values darts)
 
--- each of the three numbers is within 64 bits
-abbrev pub IsWithin : Value → Type 0
-IsWithin v = FitsSigned w64 v.a × FitsSigned w64 v.b × FitsSigned w64 v.c
-
 -- added up from the left, the parts never leave 64 bits
 abbrev pub StayWithin : List (Option Value) → Type 0
-StayWithin parts = (n : ℕ) → n ≤ length parts → IsWithin (known (merged_all plain_sum None (take n parts)))
+StayWithin parts = (n : ℕ) → n ≤ length parts → IsRepresentable (known (merged_all plain_sum None (take n parts)))
 
 -- In no new cell of dimension i does a sum of parts leave 64 bits, where values are carried over a change of links.
 abbrev pub NoSumLeaves : Kind → ℕ → Meaning → Links → (ℕ → Type 0) → (ℕ → Option Value) → Links → (ℕ → Type 0) → Type 0

@@ -1,6 +1,6 @@
 -- Values, and the rules by which they merge and split. Source: the manual's merge and split functions; the table is this
 -- project's.
-use Rattle.std.specs.Prelude.{ℕ, zero, suc, ◌≡◌, ◌+ℤ◌, ℤ, pos, int_lt, cond, nat_eq, Option, Some, None}
+use Rattle.std.specs.Prelude.{ℕ, zero, suc, ◌≡◌, ◌+ℤ◌, ℤ, pos, int_lt, cond, nat_eq, Option, Some, None, FitsSigned}
 use Rattle.std.specs.Int.{w64, saturate_signed, int_min, int_max, int_div_euclid, int_rem_euclid}
 
 -- a value: three whole numbers, which a map keeps within 64 bits
@@ -8,6 +8,10 @@ pub record Value : Type 0 where
   pub a : ℤ
   pub b : ℤ
   pub c : ℤ
+
+-- each of the three numbers is within 64 bits
+abbrev pub IsRepresentable : Value → Type 0
+IsRepresentable v = FitsSigned w64 v.a × FitsSigned w64 v.b × FitsSigned w64 v.c
 
 -- a cell, named by its least dart, and its value
 pub record Place : Type 0 where
@@ -87,6 +91,6 @@ abbrev pub meaning_of : Meaning → Rule → Meaning
 meaning_of hook rule = record { merged = merged_by hook rule.merge; share = share_by hook rule.split }
 
 -- A cell that is not split keeps its value. Without this a cell far from a change would lose it, under a hook that gives
--- each piece nothing.
+-- each piece nothing. No more is asked than of values that a map can hold, so that a hook may clamp.
 abbrev pub KeepsWhole : Meaning → Type 0
-KeepsWhole rule = (v : Value) → rule.share v 1 0 ≡ Some v
+KeepsWhole rule = (v : Value) → IsRepresentable v → rule.share v 1 0 ≡ Some v

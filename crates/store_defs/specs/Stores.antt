@@ -1,6 +1,6 @@
 -- What a contract sees of a pool: the values that its ids stand for, and how many more it can take.
-use Rattle.std.specs.Prelude.{ℕ, ◌≡◌, ◌≢◌, List, length, filter, Option, None, is_some, IsSome, slice_index_or}
-use Rattle.map_defs.specs.Values.{Value}
+use Rattle.std.specs.Prelude.{ℕ, ◌≡◌, ◌≢◌, List, length, filter, Option, Some, None, is_some, IsSome, slice_index_or}
+use Rattle.map_defs.specs.Values.{Value, IsRepresentable}
 
 -- The value of id n stands at place n, where n is live. Place 0 is no id's. So many new ids as `spare` can be given
 -- without memory.
@@ -14,6 +14,10 @@ value_of s id = slice_index_or s.slots id None
 
 abbrev pub IsHeld : Store → ℕ → Type 0
 IsHeld s id = IsSome (value_of s id)
+
+-- the values that ids stand for are within 64 bits
+abbrev pub HasRepresentable : Store → Type 0
+HasRepresentable s = (id : ℕ) (value : Value) → value_of s id ≡ Some value → IsRepresentable value
 
 -- how many ids are live
 abbrev pub live_count : Store → ℕ

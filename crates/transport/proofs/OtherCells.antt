@@ -3,13 +3,13 @@ use Rattle.std.proofs.Common.{◌≡◌, ◌⊎◌, ◌↔◌, inl, inr, ℕ, su
 use Rattle.map_defs.specs.Kind.{Kind}
 use Rattle.map_defs.specs.Rows.{Rows, links_of, IsLive, IsSound}
 use Rattle.map_defs.specs.Cells.{InCell}
-use Rattle.map_defs.specs.Values.{Value, Meaning, KeepsWhole}
+use Rattle.map_defs.specs.Values.{Value, Meaning, KeepsWhole, IsRepresentable}
 use Rattle.map_defs.specs.Touched.{IsAlike, IsWhole, Covers}
 use Rattle.map_defs.specs.Carry.{known, NamesPiece, ArePieces, IsCarried}
 use Rattle.value_laws.proofs.Rising.{find_least}
 use Rattle.value_laws.proofs.Keeping.{IsKeptCell, without_is_carried, with_is_carried}
 use Rattle.value_laws.proofs.OfRows.{told_live}
-use Rattle.store_defs.specs.Stores.{Store, value_of, IsHeld}
+use Rattle.store_defs.specs.Stores.{Store, value_of, IsHeld, HasRepresentable}
 use Rattle.store_defs.specs.Groups.{labelled_value, known_value}
 use Rattle.transport.proofs.Finding.{AreClasses, sound_classes}
 use Rattle.transport.proofs.Gathering.{told_eq}
@@ -20,7 +20,7 @@ told_label None c = inr (λ e. cc (e))
 told_label (Some a) c = elim (told_eq a c) [ inl p ↦ inl (ap Some p.0) | inr p ↦ inr (λ e. p.0 (cc (e))) ]
 
 module _ (Cell : ℕ → ℕ → Type 0) (classes : AreClasses Cell) (Live : ℕ → Type 0) (told : (x : ℕ) → Live x ⊎ (Live x → ⊥)) (stays : (d x : ℕ) → Live d → Cell d x → Live x) (label : ℕ → Option ℕ)
-    (pool : Store) (rule : Meaning) (whole : KeepsWhole rule) (held : (d id : ℕ) → Live d → label d ≡ Some id → IsHeld pool id) (d : ℕ) (live : Live d) where
+    (pool : Store) (rule : Meaning) (whole : KeepsWhole rule) (small : HasRepresentable pool) (held : (d id : ℕ) → Live d → label d ≡ Some id → IsHeld pool id) (d : ℕ) (live : Live d) where
   kept : IsKeptCell Live Cell d
   kept = record {
     own = classes.own d;
@@ -57,6 +57,14 @@ module _ (Cell : ℕ → ℕ → Type 0) (classes : AreClasses Cell) (Live : ℕ
     the_value None e = absurd (let f = w.inside d (classes.own d) in cc (e, f))
     the_value (Some id) e = ap (λ o. Some (known (labelled_value pool o))) e ∙ some_known (value_of pool id) (held d id live e)
 
+    known_small : (id : ℕ) (r : Option Value) → value_of pool id ≡ r → IsSome r → IsRepresentable (known r)
+    known_small id (Some v) is h = small id v is
+    known_small id None is h = absurd (cc (h))
+
+    whole_value : (o : Option ℕ) → label d ≡ o → rule.share (known_value pool label d) 1 0 ≡ Some (known_value pool label d)
+    whole_value None e = absurd (let f = w.inside d (classes.own d) in cc (e, f))
+    whole_value (Some id) e = whole (known_value pool label d) (subst (λ o. IsRepresentable (known (labelled_value pool o))) (sym e) (known_small id (value_of pool id) refl (held d id live e)))
+
     one_value : (o : Option ℕ) → label d ≡ o → IsCarried rule (known_value pool label) Live (IsAlike label) Cell d (labelled_value pool o)
     one_value o e = go (find_least (Cell d) inside_told (suc d))
       where
@@ -64,18 +72,18 @@ module _ (Cell : ℕ → ℕ → Type 0) (classes : AreClasses Cell) (Live : ℕ
         go (inr none) = absurd (none d (omega arith) (classes.own d))
         go (inl (m, s, least)) =
             subst (λ v. IsCarried rule (known_value pool label) Live (IsAlike label) Cell d v) (the_value o e)
-            (with_is_carried rule (known_value pool label) Live (IsAlike label) Cell d kept valued whole constant m s least)
+            (with_is_carried rule (known_value pool label) Live (IsAlike label) Cell d kept valued (whole_value o e) constant m s least)
 
   pub other_carried : ((x : ℕ) → Cell d x → label x ≡ None) ⊎ ((c : ℕ) × IsWhole Live (Cell d) label c) → IsCarried rule (known_value pool label) Live (IsAlike label) Cell d (labelled_value pool (label d))
   other_carried (inl none) = no_value none (label d) refl
   other_carried (inr (c, w)) = one_value c w (label d) refl
 
 -- the cells of rows without a touched dart
-pub other_cells : (k : Kind) (n : ℕ) (rows : Rows) → IsSound k n rows → (i : ℕ) (label : ℕ → Option ℕ) (pool : Store) (touched : List ℕ) (rule : Meaning) → KeepsWhole rule
+pub other_cells : (k : Kind) (n : ℕ) (rows : Rows) → IsSound k n rows → (i : ℕ) (label : ℕ → Option ℕ) (pool : Store) (touched : List ℕ) (rule : Meaning) → KeepsWhole rule → HasRepresentable pool
     → ((d id : ℕ) → IsLive rows d → label d ≡ Some id → IsHeld pool id) → Covers k i (links_of rows) (IsLive rows) label (Contains touched) → (d : ℕ) → IsLive rows d
     → ((x : ℕ) → InCell k (links_of rows) i d x → Contains touched x → ⊥) → IsCarried rule (known_value pool label) (IsLive rows) (IsAlike label) (InCell k (links_of rows) i) d (labelled_value pool (label d))
-other_cells k n rows sound i label pool touched rule whole held covers d live untouched =
-    other_carried (InCell k (links_of rows) i) (sound_classes k n i rows sound) (IsLive rows) (told_live rows) (λ e x. cell_live k n rows sound i e x) label pool rule whole held d live (covers d live untouched)
+other_cells k n rows sound i label pool touched rule whole small held covers d live untouched =
+    other_carried (InCell k (links_of rows) i) (sound_classes k n i rows sound) (IsLive rows) (told_live rows) (λ e x. cell_live k n rows sound i e x) label pool rule whole small held d live (covers d live untouched)
 
 -- Where each dart with a label lived before, pieces are of darts that live before and after.
 module _ (rule : Meaning) (value : ℕ → Value) (Live After : ℕ → Type 0) (Old New : ℕ → ℕ → Type 0) (lived : (m x : ℕ) → After x → Old m x → Live x) where

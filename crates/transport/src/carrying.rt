@@ -4,7 +4,7 @@ ghost use Rattle.map_defs.specs.Touched.{Covers, IsAlike};
 ghost use Rattle.map_defs.specs.Cells.{InCell};
 ghost use Rattle.map_defs.specs.Values.{Rule, meaning_of};
 ghost use Rattle.map_defs.specs.Carry.{IsCarried};
-ghost use Rattle.store_defs.specs.Stores.{IsHeld};
+ghost use Rattle.store_defs.specs.Stores.{IsHeld, HasRepresentable};
 ghost use Rattle.store_defs.specs.Labelings.{id_of};
 ghost use Rattle.store_defs.specs.Groups.{group_at, rule_at, labelled_value, known_value, AreTouchedCells, HasCarriedValue};
 ghost use Rattle.transport.specs.Joined.{IsCarriedCell, IsWanted, AreAllOf};
@@ -49,7 +49,8 @@ pub fn carry<K: Kind, H: Hook, const DIM: usize>(
     ensures values { IfOk result (λ groups. (n : ℕ) → n < length groups.items
         → HasCarriedValue K.kind (links_of links.now.rows) (IsLive links.now.rows) (id_of labels.now) pool.now
         (H.meaning hook.now) rules.now (group_at groups.items n)) }
-    ensures others { OnOk result ((i d : ℕ) (rule : Rule) → rule_at rules.now i ≡ Some rule → IsLive links.now.rows d
+    // a pool's values are within 64 bits: `Pool::reserve`, `held`
+    ensures others { OnOk result (HasRepresentable pool.now → (i d : ℕ) (rule : Rule) → rule_at rules.now i ≡ Some rule → IsLive links.now.rows d
         → ((x : ℕ) → InCell K.kind (links_of links.now.rows) i d x → Contains touched.now x → ⊥)
         → IsCarried (meaning_of (H.meaning hook.now) rule) (known_value pool.now (id_of labels.now i))
         (IsLive links.now.rows) (IsAlike (id_of labels.now i)) (InCell K.kind (links_of links.now.rows) i) d

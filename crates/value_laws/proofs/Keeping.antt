@@ -1,6 +1,6 @@
 -- A cell that is an old one keeps its value, or its want of one.
 use Rattle.std.proofs.Common.{ℕ, zero, suc, ◌≡◌, ◌⊎◌, ◌↔◌, ◌≤◌, ◌<◌, inl, inr, refl, sym, ap, subst, ◌∙◌, List, [], ◌∷◌, length, Contains, slice_index, slice_index_or, Option, Some, None, arith}
-use Rattle.map_defs.specs.Values.{Value, Meaning, KeepsWhole}
+use Rattle.map_defs.specs.Values.{Value, Meaning}
 use Rattle.map_defs.specs.Carry.{merged_all, NamesPiece, ArePieces, Gets, IsCarried}
 use Rattle.value_laws.proofs.Rising.{held_case, held_first, held_none, rising_alone, has_least}
 
@@ -41,8 +41,8 @@ module _ (rule : Meaning) (value : ℕ → Value) (Live : ℕ → Type 0) (Old N
         from x f = subst (Contains p) (sym f) ((a.members m).1 (n, (e m n).1 h))
 
     -- its one piece gets the whole value
-    gets_whole : KeepsWhole rule → (m : ℕ) (v : Option Value) → NamesPiece Live Old New m → New d m → Gets rule value Live Old New m v → v ≡ Some (value m)
-    gets_whole whole m v n h g = g.is ∙ (ap (λ l. rule.share (value m) (length l) g.at) same ∙ (ap (rule.share (value m) 1) first ∙ whole (value m)))
+    gets_whole : (m : ℕ) (v : Option Value) → NamesPiece Live Old New m → New d m → Gets rule value Live Old New m v → v ≡ rule.share (value m) 1 0
+    gets_whole m v n h g = g.is ∙ (ap (λ l. rule.share (value m) (length l) g.at) same ∙ ap (rule.share (value m) 1) first)
       where
         same : g.pieces ≡ m ∷ []
         same = alone (Old m) g.pieces m g.are n h (λ x q. valued m x h q.live)
@@ -51,12 +51,12 @@ module _ (rule : Meaning) (value : ℕ → Value) (Live : ℕ → Type 0) (Old N
         first = let l : g.at < 1 = subst (λ p. g.at < length p) same g.within in omega arith
 
     -- and so the cell keeps its value
-    pub stays_with : KeepsWhole rule → ((m : ℕ) → New d m → value m ≡ value d) → (r : Option Value) → IsCarried rule value Live Old New d r → r ≡ Some (value d)
+    pub stays_with : rule.share (value d) 1 0 ≡ Some (value d) → ((m : ℕ) → New d m → value m ≡ value d) → (r : Option Value) → IsCarried rule value Live Old New d r → r ≡ Some (value d)
     stays_with whole constant r a = go a.pieces a.parts a.even a.are a.each a.is
       where
         one : (m : ℕ) (q : List (Option Value)) → length q ≡ 1 → NamesPiece Live Old New m → New d m → Gets rule value Live Old New m (slice_index_or q 0 None) → r ≡ merged_all rule.merged None q → r ≡ Some (value d)
         one m [] e n h g is = absurd (omega arith)
-        one m (v ∷ []) e n h g is = is ∙ (gets_whole whole m v n h g ∙ ap Some (constant m h))
+        one m (v ∷ []) e n h g is = is ∙ (gets_whole m v n h g ∙ (ap (λ u. rule.share u 1 0) (constant m h) ∙ whole))
         one m (v ∷ u ∷ q) e n h g is = absurd (omega arith)
 
         go : (p : List ℕ) (q : List (Option Value)) → length q ≡ length p → ArePieces Live Old New (New d) p → ((at : ℕ) → at < length p → Gets rule value Live Old New (slice_index p at) (slice_index_or q at None)) → r ≡ merged_all rule.merged None q → r ≡ Some (value d)
@@ -78,7 +78,7 @@ module _ (rule : Meaning) (value : ℕ → Value) (Live : ℕ → Type 0) (Old N
     is = refl;
   }
 
-  module _ (valued : (m x : ℕ) → New d m → Live x → Old m x ↔ New d x) (whole : KeepsWhole rule) (constant : (m : ℕ) → New d m → value m ≡ value d)
+  module _ (valued : (m x : ℕ) → New d m → Live x → Old m x ↔ New d x) (whole : rule.share (value d) 1 0 ≡ Some (value d)) (constant : (m : ℕ) → New d m → value m ≡ value d)
       (m : ℕ) (inside : New d m) (least : (x : ℕ) → New d x → m ≤ x) where
     one_piece : (Cell : ℕ → Type 0) → ((x : ℕ) → NamesPiece Live Old New x → Cell x ↔ New d x) → ArePieces Live Old New Cell (m ∷ [])
     one_piece Cell e = record { ascending = λ k h. absurd (omega arith); members = λ x. (to x, from x) }
@@ -103,7 +103,7 @@ module _ (rule : Meaning) (value : ℕ → Value) (Live : ℕ → Type 0) (Old N
       at = 0;
       within = omega arith;
       named = refl;
-      is = sym (whole (value m) ∙ ap Some (constant m inside));
+      is = sym (ap (λ u. rule.share u 1 0) (constant m inside) ∙ whole);
     }
 
     pub with_is_carried : IsCarried rule value Live Old New d (Some (value d))

@@ -7,7 +7,7 @@ use Rattle.map_defs.specs.LinkWords.{IsCellWord}
 use Rattle.map_defs.specs.Cells.{here, Leads, InCell}
 use Rattle.map_defs.specs.Walks.{IsTold}
 use Rattle.map_defs.specs.Touched.{IsOldCell, IsAlike}
-use Rattle.map_defs.specs.Values.{Value, Meaning, KeepsWhole}
+use Rattle.map_defs.specs.Values.{Value, Meaning, KeepsWhole, IsRepresentable}
 use Rattle.map_defs.specs.Carry.{IsCarried, AreCarried, AreCarriedByLabel, IsValuedWith, AreEqualOnCells, known}
 use Rattle.link_laws.proofs.Orbits.{orbit_trans}
 use Rattle.link_laws.proofs.CellFacts.{cell_back}
@@ -31,7 +31,8 @@ module _ (k : Kind) (i : ℕ) (rule : Meaning) (L N : Links) (Live LiveAfter : �
   pub carried_alike : (values after other : ℕ → Option Value) → AreCarried k i rule L Live values N LiveAfter after → AreCarried k i rule L Live values N LiveAfter other → (d : ℕ) → LiveAfter d → after d ≡ other d
   carried_alike values after other a b d l = carried_one rule _ _ _ _ d d (after d) (other d) (λ m. ((λ h. h), λ h. h)) (a d l) (b d l)
 
-  module _ (leads : LeadsToLive LiveAfter N) (values : ℕ → Option Value) (equal : AreEqualOnCells k i L Live values) (d : ℕ) (live : LiveAfter d) (o : IsOldCell k i L Live N d) where
+  module _ (leads : LeadsToLive LiveAfter N) (values : ℕ → Option Value) (equal : AreEqualOnCells k i L Live values) (d : ℕ) (held : (v : Value) → values d ≡ Some v → IsRepresentable v)
+      (live : LiveAfter d) (o : IsOldCell k i L Live N d) where
     kept_cell : IsKeptCell (λ x. Live x × LiveAfter x) (InCell k N i) d
     kept_cell = record {
       own = here;
@@ -60,19 +61,22 @@ module _ (k : Kind) (i : ℕ) (rule : Meaning) (L N : Links) (Live LiveAfter : �
     constant : (m : ℕ) → InCell k N i d m → known (values m) ≡ known (values d)
     constant m h = ap known (sym (same_value m h))
 
+    stays_whole : KeepsWhole rule → (v : Value) → values d ≡ Some v → rule.share (known (values d)) 1 0 ≡ Some (known (values d))
+    stays_whole whole v e = ap (λ r. rule.share (known r) 1 0) e ∙ (whole v (held v e) ∙ sym (ap (λ r. Some (known r)) e))
+
     -- an untouched cell keeps its value
     pub keeps_value : KeepsWhole rule → (r : Option Value) → IsCarried rule (λ x. known (values x)) (λ x. Live x × LiveAfter x) (IsValuedWith k i L values) (InCell k N i) d r → r ≡ values d
     keeps_value whole r a = go (values d) refl
       where
         go : (v : Option Value) → values d ≡ v → r ≡ values d
         go None e = stays_without rule _ _ _ _ d kept_cell (unvalued e) r a ∙ sym e
-        go (Some v) e = stays_with rule _ _ _ _ d kept_cell (valued v e) whole constant r a ∙ (ap Some (ap known e) ∙ sym e)
+        go (Some v) e = stays_with rule _ _ _ _ d kept_cell (valued v e) (stays_whole whole v e) constant r a ∙ (ap Some (ap known e) ∙ sym e)
 
     abbrev Carries : Option Value → Type 0
     Carries = IsCarried rule (λ x. known (values x)) (λ x. Live x × LiveAfter x) (IsValuedWith k i L values) (InCell k N i) d
 
     with_value : KeepsWhole rule → (v : Value) → values d ≡ Some v → ((m : ℕ) × InCell k N i d m × ((y : ℕ) → InCell k N i d y → m ≤ y)) ⊎ ((y : ℕ) → y < suc d → InCell k N i d y → ⊥) → Carries (values d)
-    with_value whole v e (inl f) = subst Carries (ap Some (ap known e) ∙ sym e) (with_is_carried rule _ _ _ _ d kept_cell (valued v e) whole constant f.0 f.1 f.2)
+    with_value whole v e (inl f) = subst Carries (ap Some (ap known e) ∙ sym e) (with_is_carried rule _ _ _ _ d kept_cell (valued v e) (stays_whole whole v e) constant f.0 f.1 f.2)
     with_value whole v e (inr n) = absurd (n d (omega arith) here)
 
     -- and the kept value is the one that the definition gives

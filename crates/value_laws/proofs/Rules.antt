@@ -16,13 +16,13 @@ same_value x y p q r = λ i. record { a = p i; b = q i; c = r i }
 
 -- a rule of the table deals a whole value to the one piece of a cell that is not split, where the hook does
 pub keeps_whole : (hook : Meaning) (rule : Rule) → KeepsWhole hook → KeepsWhole (meaning_of hook rule)
-keeps_whole hook rule h v = go rule.split
+keeps_whole hook rule h v held = go rule.split
   where
     go : (s : Split) → share_by hook s v 1 0 ≡ Some v
     go Copied = refl
     go Keep = refl
     go Share = ap Some (same_value (dealt_value 1 0 v) v (dealt_whole v.a) (dealt_whole v.b) (dealt_whole v.c))
-    go Host = h v
+    go Host = h v held
 
 -- the quotient and the rest by which a value is dealt out
 pub rest_below : (k : ℕ) (v : ℤ) → 0 < k → (r : ℕ) × (r < k) × (int_rem_euclid v (pos k) ≡ pos r)

@@ -4,9 +4,9 @@ use Rattle.std.proofs.Common.{ℕ, suc, ◌≡◌, ◌<◌, ◌≤◌, ◌+ℤ�
 use Rattle.std.proofs.lemmas.Int.{ints}
 use Rattle.std.specs.Prelude.{FitsSigned}
 use Rattle.std.specs.Int.{w64, saturate_signed}
-use Rattle.map_defs.specs.Values.{Value, on_each, held_sum, dealt, dealt_value, total}
+use Rattle.map_defs.specs.Values.{Value, IsRepresentable, on_each, held_sum, dealt, dealt_value, total}
 use Rattle.map_defs.specs.Carry.{merged_with, merged_all, known}
-use Rattle.map_defs.specs.Totals.{plain_sum, IsWithin, StayWithin}
+use Rattle.map_defs.specs.Totals.{plain_sum, StayWithin}
 use Rattle.value_laws.proofs.Rules.{same_value}
 use Rattle.value_laws.proofs.Adding.{total_first}
 
@@ -18,10 +18,10 @@ held_within x y h = go (x +ℤ y) h
     go (negsuc n) h = ap negsuc (omega arith)
 
 abbrev within_64 : List (Option Value) → Option Value → Type 0
-within_64 parts sofar = (n : ℕ) → n ≤ length parts → IsWithin (known (merged_all plain_sum sofar (take n parts)))
+within_64 parts sofar = (n : ℕ) → n ≤ length parts → IsRepresentable (known (merged_all plain_sum sofar (take n parts)))
 
 -- the value so far, while nothing leaves 64 bits
-held_step : (sofar part : Option Value) → IsWithin (known (merged_with plain_sum sofar part)) → merged_with (on_each held_sum) sofar part ≡ merged_with plain_sum sofar part
+held_step : (sofar part : Option Value) → IsRepresentable (known (merged_with plain_sum sofar part)) → merged_with (on_each held_sum) sofar part ≡ merged_with plain_sum sofar part
 held_step None part h = refl
 held_step (Some x) None h = refl
 held_step (Some x) (Some y) h = ap Some (same_value (on_each held_sum x y) (plain_sum x y) (held_within x.a y.a h.0) (held_within x.b y.b h.1) (held_within x.c y.c h.2))

@@ -30,7 +30,7 @@ ghost use Rattle.map_defs.specs.Rows.{Rows, IsLive, links_of};
 ghost use Rattle.map_defs.specs.Cells.{InCell};
 ghost use Rattle.map_defs.specs.Walks.{IsTold};
 ghost use Rattle.map_defs.specs.Touched.{IsTouched, IsOldCell, Touches, IsAlike, IsLabelled, Covers};
-ghost use Rattle.map_defs.specs.Values.{Value, Rule, Meaning, meaning_of, KeepsWhole, dealt, total};
+ghost use Rattle.map_defs.specs.Values.{Value, Rule, Meaning, meaning_of, KeepsWhole, IsRepresentable, dealt, total};
 ghost use Rattle.map_defs.specs.Carry.{IsCarried, AreCarried, AreCarriedByLabel, IsValuedWith, AreEqualOnCells, known};
 ghost use Rattle.map_defs.specs.Totals.{sum_share, ListsValuedCells, total_value, NoSumLeaves};
 
@@ -74,22 +74,22 @@ pub fn new_cells_have_one_value()
         → (d : ℕ) → IsLive new d → after d ≡ other d }
 {}
 
-/// A new cell that is an old one keeps its value, or its want of one, under each rule that leaves whole what is not split.
-/// And the value that it keeps is the one that the definition gives it, where it is told which darts lie in the cell.
+/// A new cell that is an old one keeps its value, or its want of one, under each rule that leaves whole what is not split,
+/// where the value is within 64 bits. And the value that it keeps is the one that the definition gives it, where it is told which darts lie in the cell.
 ///
 /// For whoever leaves the cells alone in which no dart is touched.
 pub fn old_cells_keep_their_values()
     ensures kept { (k : Kind) (i : ℕ) (rule : Meaning) (old new : Rows) (values : ℕ → Option Value)
         → Laws k (links_of old) → Laws k (links_of new) → KeepsWhole rule
         → AreEqualOnCells k i (links_of old) (IsLive old) values
-        → (d : ℕ) → IsLive new d → IsOldCell k i (links_of old) (IsLive old) (links_of new) d
+        → (d : ℕ) → ((v : Value) → values d ≡ Some v → IsRepresentable v) → IsLive new d → IsOldCell k i (links_of old) (IsLive old) (links_of new) d
         → (r : Option Value)
         → IsCarried rule (λ x. known (values x)) (λ x. IsLive old x × IsLive new x)
         (IsValuedWith k i (links_of old) values) (InCell k (links_of new) i) d r → r ≡ values d }
     ensures given { (k : Kind) (i : ℕ) (rule : Meaning) (old new : Rows) (values : ℕ → Option Value)
         → Laws k (links_of old) → Laws k (links_of new) → KeepsWhole rule
         → AreEqualOnCells k i (links_of old) (IsLive old) values
-        → (d : ℕ) → IsLive new d → IsOldCell k i (links_of old) (IsLive old) (links_of new) d
+        → (d : ℕ) → ((v : Value) → values d ≡ Some v → IsRepresentable v) → IsLive new d → IsOldCell k i (links_of old) (IsLive old) (links_of new) d
         → IsTold (InCell k (links_of new) i d) ⊎ (values d ≡ None)
         → IsCarried rule (λ x. known (values x)) (λ x. IsLive old x × IsLive new x)
         (IsValuedWith k i (links_of old) values) (InCell k (links_of new) i) d (values d) }

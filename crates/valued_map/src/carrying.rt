@@ -3,9 +3,11 @@ ghost use Rattle.std.specs.Prelude.{◌≡◌, ℕ, ◌≤◌, ◌<◌, length, 
 ghost use Rattle.map_defs.specs.Rows.{Rows, IsLive, links_of};
 ghost use Rattle.map_defs.specs.Laws.{Laws};
 ghost use Rattle.map_defs.specs.Edits.{IsLed};
+ghost use Rattle.store_defs.specs.Stores.{HasRepresentable};
 ghost use Rattle.store_defs.specs.Labelings.{id_of};
 ghost use Rattle.store_defs.specs.Groups.{group_at, HasCarriedValue};
 ghost use Rattle.label_laws.specs.Maps.{IsStoredMap};
+ghost use Rattle.label_laws.specs.Stored.{AreSmall};
 ghost use Rattle.label_laws.specs.Touching.{AreAllTouched};
 
 use crate::rules::has_places;
@@ -39,6 +41,7 @@ pub(crate) fn carried<K: Kind, H: Hook, const DIM: usize>(
         (H.meaning hook.now) rules.now (group_at groups.items n)) }
     ensures room { IfOk result (λ groups. length groups.items ≤ pool.new.spare) }
     ensures slots { pool.new.slots ≡ pool.old.slots }
+    ensures small { OnOk result (AreSmall rules.now pool.old) }
 {
     if !has_places(rules) {
         return Ok(Vec::new(alloc));
@@ -53,6 +56,7 @@ pub(crate) fn carried<K: Kind, H: Hook, const DIM: usize>(
 pub(crate) fn make_room(pool: &mut Pool, values: usize) -> Result<(), AllocError>
     ensures slots { pool.new.slots ≡ pool.old.slots }
     ensures room { OnOk result (values ≤ pool.new.spare) }
+    ensures small { OnOk result (HasRepresentable pool.old) }
 {
     let most = u32::MAX - pool.live_count();
     if values > most as usize {

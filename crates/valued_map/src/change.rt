@@ -8,6 +8,7 @@ ghost use Rattle.store_defs.specs.Labelings.{id_of};
 ghost use Rattle.store_defs.specs.Groups.{group_at, HasCarriedValue};
 ghost use Rattle.label_laws.specs.Maps.{IsStoredMap};
 ghost use Rattle.label_laws.specs.Contents.{IsCarriedOn};
+ghost use Rattle.label_laws.specs.Stored.{AreSmall};
 ghost use Rattle.label_laws.specs.Touching.{AreAllTouched};
 ghost use Rattle.valued_map.specs.Told.{AreOldValues, IsRelabelledPlace, IsStep};
 
@@ -148,6 +149,7 @@ fn moved<K: Kind, H: Hook, const DIM: usize>(
         (H.meaning hook.now) rules.now (group_at moved.0.items n)) }
     ensures room { IfOk result (λ moved. length moved.0.items ≤ pool.new.spare) }
     ensures slots { pool.new.slots ≡ pool.old.slots }
+    ensures small { OnOk result (AreSmall rules.now pool.old) }
     ensures olds { IfOk result (λ moved. IsTrue asked
         → AreOldValues (IsRelabelledPlace DIM edit.now.deaths moved.0.items) labels.now pool.new moved.1.items) }
 {

@@ -1,8 +1,8 @@
-use Rattle.std.proofs.Common.{◌≡◌, ◌+◌, ◌<◌, List, [], ◌∷◌, length, Option, refl, ap, sym, subst, ◌∙◌, inl, inr, lit<, arith, rules}
+use Rattle.std.proofs.Common.{◌≡◌, ◌+◌, ◌<◌, List, [], ◌∷◌, length, Option, None, refl, ap, sym, subst, ◌∙◌, inl, inr, lit<, arith, rules}
 use Rattle.map_defs.specs.Rows.{Rows}
 use Rattle.map_defs.specs.Values.{Rule}
 use Rattle.edit_laws.proofs.EditSound.{length-after}
-use Rattle.store_defs.specs.Groups.{Group}
+use Rattle.store_defs.specs.Groups.{Group, rule_at}
 use Rattle.label_laws.specs.Touching.{AreAllTouched}
 use Rattle.label_laws.proofs.Making.{none-touched, darts-touch, darts-cover}
 use Rattle.valued_map.proofs.carrying.carried.Goals as goal
@@ -59,3 +59,11 @@ returns-clause-cells g c = λ old led laws.
       cells,
       λ i some. darts-touch g.K.Kind.kind old c.args.links.now.rows laws c.requires.laws c.in_ok-touched.touched.items (c.in_ok-touched.ensures.all old led) i,
     )
+
+pub returns-then-not-has_places-clause-small : goal.returns-then-not-has_places-clause-small
+returns-then-not-has_places-clause-small g c = λ i rule ruled.
+    let none : c.args.rules.now ≡ [] = empty-list c.args.rules.now (λ some. let yes-there = c.has_places.ensures.1 some in cc) in
+    absurd (let missing : rule_at c.args.rules.now i ≡ None = ap (λ (rs : List (Option Rule)). rule_at rs i) none in cc (missing, ruled))
+
+pub returns-clause-small : goal.returns-clause-small
+returns-clause-small g c = λ i rule ruled. c.in_ok-make_room.ensures.small

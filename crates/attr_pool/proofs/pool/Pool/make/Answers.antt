@@ -1,5 +1,7 @@
-use Rattle.std.proofs.Common.{◌≡◌, ◌<◌, ◌≤◌, ◌∷◌, ◌+◌, true, None, Some, drop, length, sym, ap, ◌∙◌, arith, length-set}
+use Rattle.std.proofs.Common.{◌≡◌, ◌<◌, ◌≤◌, ◌∷◌, ◌+◌, true, None, Some, drop, length, sym, ap, ◌∙◌, arith, length-set, rules}
 use Rattle.std.proofs.lemmas.List.{get_or_past, get_or_read}
+use Rattle.std.proofs.lemmas.List.Elements.{All-set, All-push}
+use Rattle.map_defs.specs.Values.{IsRepresentable}
 use Rattle.dart_arena.proofs.RowLemmas.{count-revived}
 use Rattle.attr_pool.specs.Pools.{slots_of, no_value}
 use Rattle.attr_pool.proofs.PairedLists.{length-slots, set-slots, slots-push}
@@ -66,6 +68,7 @@ invariant_of-self c =
     record {
       places = drop 1 k.places;
       kept = kept_reused pool.values.items pool.lives.items pool.free pool.live c.next_place-self-inside.result k.places c.args.value k.kept some next;
+      held = All-set IsRepresentable pool.values.items pool.free c.args.value (search rules) k.held;
       placed = rw length-set k.placed;
       values_room = k.values_room;
       lives_room = k.lives_room;
@@ -105,6 +108,7 @@ invariant_of-self-2 c =
     record {
       places = k.places;
       kept = rw (c.push_reserved.ensures.items, c.push_reserved-2.ensures.items) kept;
+      held = rw c.push_reserved.ensures.items (All-push IsRepresentable pool.values.items c.args.value k.held (search rules));
       placed = omega (arith, kept.all, k.kept.all, c.push_reserved.ensures.len, c.push_reserved.new.self.ok.0, pool.values.ok.0, full, spare);
       values_room = omega (arith, k.values_room);
       lives_room = omega (arith, k.lives_room);

@@ -1,4 +1,4 @@
-use Rattle.std.proofs.Common.{[], ◌∷◌, ◌≡◌, List, None, get_or, refl, sym, subst, rules}
+use Rattle.std.proofs.Common.{[], ◌∷◌, ◌≡◌, List, None, get_or, refl, sym, subst, rules, arith}
 use Rattle.map_defs.specs.Values.{Value}
 use Rattle.attr_pool.specs.Pools.{slots_of}
 use Rattle.attr_pool.proofs.PoolSteps.{kept_none, bare_none}
@@ -8,6 +8,7 @@ pub invariant_of-result : goal.invariant_of-result
 invariant_of-result c = record {
   places = [];
   kept = rw (c.new.ensures.items, c.new-2.ensures.items) kept_none;
+  held = rw c.new.ensures.items (λ i d h. absurd (omega arith));
   placed = search rules;
   values_room = search rules;
   lives_room = search rules;

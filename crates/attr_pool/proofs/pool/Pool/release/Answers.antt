@@ -1,4 +1,6 @@
 use Rattle.std.proofs.Common.{◌∷◌, None, Some, false, sym, ap, ◌∙◌, arith, length-set}
+use Rattle.std.proofs.lemmas.List.Elements.{All-set}
+use Rattle.map_defs.specs.Values.{IsRepresentable}
 use Rattle.dart_arena.proofs.RowLemmas.{count-buried}
 use Rattle.attr_pool.specs.Pools.{slots_of}
 use Rattle.attr_pool.proofs.PairedLists.{set-slots}
@@ -43,7 +45,8 @@ invariant_of-self c =
     let h = held pool.values.items pool.lives.items c.args.id c.place-place.result k.kept.paired c.place-place.ensures live in
     record {
       places = c.place-place.result ∷ k.places;
-      kept = kept_released pool.values.items pool.lives.items pool.free pool.live c.args.id c.place-place.result k.places c.free_value.result k.kept h c.free_value.ensures;
+      kept = kept_released pool.values.items pool.lives.items pool.free pool.live c.args.id c.place-place.result k.places c.free_value.result k.kept h c.free_value.ensures.next;
+      held = All-set IsRepresentable pool.values.items c.place-place.result c.free_value.result c.free_value.ensures.held k.held;
       placed = rw length-set k.placed;
       values_room = k.values_room;
       lives_room = k.lives_room;

@@ -1,4 +1,6 @@
-use Rattle.std.proofs.Common.{Some, sym, ap, ◌∙◌, arith, length-set}
+use Rattle.std.proofs.Common.{Some, sym, ap, ◌∙◌, arith, length-set, rules}
+use Rattle.std.proofs.lemmas.List.Elements.{All-set}
+use Rattle.map_defs.specs.Values.{IsRepresentable}
 use Rattle.dart_arena.proofs.RowLemmas.{count-replaced}
 use Rattle.attr_pool.specs.Pools.{slots_of}
 use Rattle.attr_pool.proofs.PairedLists.{set-slots_value}
@@ -28,6 +30,7 @@ invariant_of-self c =
     record {
       places = k.places;
       kept = kept_replaced pool.values.items pool.lives.items pool.free pool.live c.args.id c.place-place.result k.places c.args.value k.kept h;
+      held = All-set IsRepresentable pool.values.items c.place-place.result c.args.value (search rules) k.held;
       placed = rw length-set k.placed;
       values_room = k.values_room;
       lives_room = k.lives_room;

@@ -8,6 +8,7 @@ use Rattle.store_defs.specs.Labelings.{id_of}
 use Rattle.store_defs.specs.Groups.{group_at, HasCarriedValue}
 use Rattle.label_laws.specs.Contents.{content_of, IsCarriedOn}
 use Rattle.label_laws.specs.Maps.{IsStoredMap}
+use Rattle.label_laws.specs.Stored.{AreSmall}
 use Rattle.label_laws.specs.Touching.{AreAllTouched}
 use Rattle.label_laws.proofs.Making.{led, ended-within, groups-labelled, relink-stored, relink-carried}
 use Rattle.label_laws.proofs.Same.{carried-pool, content-alike}
@@ -133,8 +134,9 @@ returns-in-Ok-clause-carried g c =
     let carried : (h : ℕ) → h < length c.in-Ok.groups.items → HasCarriedValue k (links_of (after_edit n e rows)) (IsLive (after_edit n e rows)) (id_of c.grow.new.self) c.moved.new.pool hook rules (group_at c.in-Ok.groups.items h) =
     λ h lt. carried-pool k (links_of (after_edit n e rows)) (IsLive (after_edit n e rows)) c.grow.new.self c.self.inside.pool c.moved.new.pool hook rules (group_at c.in-Ok.groups.items h) c.moved.ensures.slots
     (subst (λ (r : Rows). HasCarriedValue k (links_of r) (IsLive r) (id_of c.grow.new.self) c.self.inside.pool hook rules (group_at c.in-Ok.groups.items h)) is (c.in-Ok.ensures.values h lt)) in
+    let small : AreSmall rules c.moved.new.pool = λ i rule ruled. rw c.moved.ensures.slots (c.in-Ok.ensures.small i rule ruled) in
     let on = relink-carried k n rows e c.self.inside.labels c.self.inside.pool rules c.self.invariant fits few laws c.grow.new.self c.grow.ensures.ids c.grow.ensures.places grown c.moved.new.pool c.moved.ensures.slots
-    c.in-Ok.groups.items touched c.relabel.new.labels c.relabel.new.pool relabelled hook (g.met.H.Rule.whole c.args.hook.now) carried in
+    c.in-Ok.groups.items touched c.relabel.new.labels c.relabel.new.pool relabelled hook (g.met.H.Rule.whole c.args.hook.now) small carried in
     rw (← c.self.view_is)
     (subst (λ (r : Rows). IsCarriedOn hook (content_of k n rows c.self.inside.labels c.self.inside.pool rules) (after_edit n e rows) (content_of k n r c.relabel.new.labels c.relabel.new.pool rules)) (sym is) on)
 
