@@ -44,4 +44,4 @@ pub record IsLawfulState (s : State) : Type 0 where
   pub past : All IsLawfulContent s.past
   pub marks : All (λ m. IsLawfulContent m.content) s.marks
   pub marked : AreMarksKept s.marks s.past s.present
-  pub undone : All (λ u. IsLawfulContent u.present × All IsLawfulContent u.past × All (λ m. IsLawfulContent m.content) u.marks) s.undone
+  pub undone : All (λ u. IsLawfulContent u.present × All IsLawfulContent u.past × All (λ m. IsLawfulContent m.content) u.marks × AreMarksKept u.marks u.past u.present) s.undone
