@@ -5,9 +5,8 @@ ghost use Rattle.map_defs.specs.Walks.{step};
 ghost use Rattle.map_defs.specs.Removal.{CommutesAt};
 ghost use Rattle.cell_edit.specs.Bridging.{across, LeadsAcross};
 
-use crate::kinds::is_generalized;
 use link_rows::Links;
-use map_kind::{Dart, Kind};
+use map_kind::{Dart, Kind, is_generalized};
 
 /// The dart at a link of a dart, if there is one. A link above the dimension is free.
 fn linked<K: Kind, const DIM: usize>(links: &Links<K, DIM>, link: usize, dart: Dart) -> Option<Dart>

@@ -7,9 +7,8 @@ ghost use Rattle.cell_edit.specs.Bridging.{across, CanEnd, IsEndingEntry, IsBrid
 ghost use Rattle.cell_edit.specs.Removing.{PlansEnding};
 
 use crate::crossing::{first_outside, is_among};
-use crate::kinds::is_generalized;
 use link_rows::{Change, Edit, Links};
-use map_kind::{Dart, Kind};
+use map_kind::{Dart, Kind, is_generalized};
 use std::alloc::{AllocError, Global};
 
 /// The edit by which darts end that can: their links become free, and a link of each remaining dart that leads to one of

@@ -1,15 +1,8 @@
 ghost use Rattle.std.specs.Prelude.{◌≡◌, ◌↔◌, IsTrue};
-ghost use Rattle.map_defs.specs.Kind.{alpha, inverse};
+ghost use Rattle.map_defs.specs.Kind.{inverse};
 ghost use Rattle.map_defs.specs.Insertion.{IsJustBelow};
 
 use map_kind::Kind;
-
-/// Whether maps of the kind are generalized, whose links are each their own inverse.
-pub(crate) fn is_generalized<K: Kind>() -> bool
-    ensures { IsTrue result ↔ (K.kind ≡ alpha) }
-{
-    K::inverse(0) == 0
-}
 
 /// Whether a link stands one place below another, which is its own inverse.
 pub(crate) fn is_just_below<K: Kind>(link: usize, at: usize) -> bool

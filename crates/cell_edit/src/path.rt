@@ -5,10 +5,9 @@ ghost use Rattle.sewing.specs.Triples.{Lists};
 ghost use Rattle.cell_edit.specs.Circles.{next_place, vertex_words, side_seed};
 
 use crate::along::reached;
-use crate::kinds::is_generalized;
 use cell_walk::reaches;
 use link_rows::Links;
-use map_kind::{Dart, Kind, LinkWord};
+use map_kind::{Dart, Kind, LinkWord, is_generalized};
 use sewing::Triple;
 use std::alloc::{AllocError, Global};
 use std::collections::BTreeSet;

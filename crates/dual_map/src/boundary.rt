@@ -3,9 +3,9 @@ ghost use Rattle.std.specs.Prelude.{◌≡◌, ◌≢◌, ℕ, ◌≤◌, ◌↔
 ghost use Rattle.map_defs.specs.Rows.{links_of, IsLive};
 ghost use Rattle.map_defs.specs.Dual.{IsDualable, StaysApartDual};
 
-use crate::entries::{dual_number_at, is_generalized};
+use crate::entries::dual_number_at;
 use link_rows::Links;
-use map_kind::{Dart, Kind};
+use map_kind::{Dart, Kind, is_generalized};
 
 /// Whether a map has a dual: no link of a live dart is free, and in a combinatorial map the dual joins no dart to itself.
 ///

@@ -1,18 +1,10 @@
 //! The entries of the rows, and of those of the dual.
-ghost use Rattle.std.specs.Prelude.{◌≡◌, ◌≤◌, ◌↔◌, IsTrue};
-ghost use Rattle.map_defs.specs.Kind.{alpha};
+ghost use Rattle.std.specs.Prelude.{◌≡◌, ◌≤◌};
 ghost use Rattle.map_defs.specs.Rows.{links_of};
 ghost use Rattle.dual_map.specs.DualLinks.{dual_link};
 
 use link_rows::Links;
-use map_kind::{Dart, Kind};
-
-/// Whether maps of the kind are generalized, whose links are each their own inverse.
-pub(crate) fn is_generalized<K: Kind>() -> bool
-    ensures { IsTrue result ↔ (K.kind ≡ alpha) }
-{
-    K::inverse(0) == 0
-}
+use map_kind::{Dart, Kind, is_generalized};
 
 /// The number of the dart to which two links lead, one after the other, 0 where one on the way is free.
 fn number_beyond<K: Kind, const DIM: usize>(

@@ -9,7 +9,7 @@ use Rattle.trail_laws.specs.Trails.{Trail}
 use Rattle.trail_laws.specs.Told.{told}
 use Rattle.valued_map.specs.TakingDual.{BecomesDual}
 use Rattle.map_core.specs.Calls.{Does}
-use Rattle.map_core.specs.declared.map.Done.{Done}
+use Rattle.map_kind.specs.declared.done.Done.{Done}
 
 -- the map is as it was
 pub dual-unmade : (old new : Content) (r : Refused) → BecomesDual old new (Err r) → new ≡ old

@@ -25,7 +25,7 @@ use Rattle.map_core.specs.Calls.{Does}
 use Rattle.map_core.specs.Growing.{Grows}
 use Rattle.cell_edit.specs.Inserting.{PlansInsertion}
 use Rattle.cell_edit.specs.Planning.{PlansVertex, PlansEdge, PlansFace}
-use Rattle.map_core.specs.declared.map.Done.{Done}
+use Rattle.map_kind.specs.declared.done.Done.{Done}
 
 module _ (k : Kind) (n : ℕ) (rows : Rows) (hook : Meaning) where
   -- what is inserted, once all other checks have passed; its darts and its links are told for each content

@@ -21,7 +21,7 @@ use Rattle.map_core.proofs.Present.{seen_as, seen-is, seen-sound, seen-begun, re
 use Rattle.cell_edit.specs.Removing.{PlansEnding}
 use Rattle.cell_edit.specs.Planning.{PlansRemoval, PlansContraction}
 use Rattle.map_core.specs.Calls.{Does}
-use Rattle.map_core.specs.declared.map.Done.{Done}
+use Rattle.map_kind.specs.declared.done.Done.{Done}
 
 module _ (k : Kind) (n : ℕ) (rows : Rows) (hook : Meaning) (s : State) (kind : s.present.kind ≡ k) (dim : s.present.dim ≡ n) (same : rows ≡ s.present.rows) (kept : IsLawfulContent s.present) (i d : ℕ)
     (low : n < i → ⊥) (live : IsLive s.present.rows d) where

@@ -18,7 +18,7 @@ use Rattle.machine_defs.specs.Text as text
 use Rattle.machine_defs.specs.Kept.{IsLawfulContent}
 use Rattle.label_laws.specs.Contents.{IsCarriedOn}
 use Rattle.map_core.specs.Calls.{Does}
-use Rattle.map_core.specs.declared.map.Done.{Done}
+use Rattle.map_kind.specs.declared.done.Done.{Done}
 use Rattle.map_core.proofs.Present.{seen_as, seen-is, seen-sound, seen-begun, relinked}
 
 -- the number is no link that can be sewn

@@ -4,7 +4,7 @@ use Rattle.map_kind.specs.declared.refusal.Refusal.{Refusal}
 use Rattle.map_kind.specs.declared.refusal.Refused.{Refused}
 use Rattle.map_kind.specs.declared.refusal.Refused.TheVariants as why
 use Rattle.map_kind.specs.Refusals.{meaning}
-use Rattle.map_core.specs.declared.map.Done.{Done}
+use Rattle.map_kind.specs.declared.done.Done.{Done}
 use Rattle.map_defs.specs.Values.{Meaning}
 use Rattle.machine_defs.specs.State.{State}
 use Rattle.machine_defs.specs.Script.{Line}

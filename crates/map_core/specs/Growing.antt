@@ -4,7 +4,7 @@ use Rattle.std.specs.declared.alloc.Global.{Global}
 use Rattle.map_kind.specs.declared.refusal.Refusal.TheVariants as told
 use Rattle.map_kind.specs.declared.refusal.Refused.{Refused}
 use Rattle.map_kind.specs.declared.refusal.Refused.TheVariants as why
-use Rattle.map_core.specs.declared.map.Done.{Done}
+use Rattle.map_kind.specs.declared.done.Done.{Done}
 use Rattle.map_defs.specs.Rows.{Rows, made, made_max, IsLive}
 use Rattle.map_defs.specs.Edits.{Edit, after_edit}
 use Rattle.map_defs.specs.Values.{Meaning}

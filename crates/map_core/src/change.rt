@@ -4,10 +4,10 @@ ghost use Rattle.map_defs.specs.Rows.{IsLive, links_of};
 ghost use Rattle.machine_defs.specs.Script.{Polygon, Dart as MakeDart, Del};
 ghost use Rattle.map_core.specs.Calls.{Does};
 
-use crate::map::{Done, Map};
+use crate::map::Map;
 use attr_rules::Hook;
 use link_rows::{Edit, Links, SIDES_MAX, polygon_edit};
-use map_kind::{Dart, Kind, Refusal, Refused};
+use map_kind::{Dart, Done, Kind, Refusal, Refused};
 use std::alloc::Global;
 
 impl<'h, K: Kind, H: Hook, const DIM: usize> Map<'h, K, H, DIM> {

@@ -3,12 +3,12 @@ ghost use Rattle.std.specs.Prelude.{◌≡◌};
 ghost use Rattle.machine_defs.specs.Script.{Dual};
 ghost use Rattle.map_core.specs.Calls.{Does};
 
-use crate::map::{Done, Map};
+use crate::map::Map;
 use crate::note::{begin, finish, is_noting};
 use attr_rules::Hook;
 use dual_map::dual_plan;
 use kind_edit::Edits;
-use map_kind::Refused;
+use map_kind::{Done, Refused};
 use std::alloc::Global;
 
 impl<'h, K: Edits<DIM>, H: Hook, const DIM: usize> Map<'h, K, H, DIM> {

@@ -7,11 +7,11 @@ ghost use Rattle.machine_defs.specs.Script.{Vertex, Edge, Face};
 ghost use Rattle.map_core.specs.Calls.{Does};
 ghost use Rattle.map_core.specs.Growing.{Grows, AreLiveDarts};
 
-use crate::map::{Done, Map};
+use crate::map::Map;
 use attr_rules::Hook;
 use kind_edit::Edits;
 use link_rows::{Edit, MADE_MAX};
-use map_kind::{Dart, Kind, Refusal, Refused};
+use map_kind::{Dart, Done, Kind, Refusal, Refused};
 use std::alloc::Global;
 
 impl<'h, K: Edits<DIM>, H: Hook, const DIM: usize> Map<'h, K, H, DIM> {
@@ -53,7 +53,7 @@ impl<'h, K: Edits<DIM>, H: Hook, const DIM: usize> Map<'h, K, H, DIM> {
         self.insert(alloc, &edit)
     }
 
-    /// Puts a face into a volume along a closed path of 1 to 4096 darts, one at the begin of each of its sides. Each dart of
+    /// Puts a face into a volume along a closed path of 1 to `PATH_MAX` darts, one at the begin of each of its sides. Each dart of
     /// these sides, with their copies on the other volumes, gets a new dart, numbered on from those that were made in the
     /// order of the sides' darts; the answer tells them. The values of the cells are carried to the new cells. It costs
     /// the darts of the path's vertices and sides, and the cells of the sides' darts where a dimension has a rule, times a
@@ -67,7 +67,7 @@ impl<'h, K: Edits<DIM>, H: Hook, const DIM: usize> Map<'h, K, H, DIM> {
     pub fn face(&mut self, alloc: Global, path: &[u64]) -> Result<Done, Refused>
         requires ready { H.ready self.old.hook }
         requires some { 1 ≤ length path.now }
-        requires few { length path.now ≤ 4096 }
+        requires few { length path.now ≤ PATH_MAX }
         ensures hook { self.new.hook ≡ self.old.hook }
         ensures does { Does (H.meaning self.old.hook) self.old.state (Face path.now) result self.new.state }
     {

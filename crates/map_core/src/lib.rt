@@ -22,5 +22,6 @@ mod undo;
 mod value;
 
 pub use kind_edit::{Edits, LinkStore, Plans};
-pub use map::{Done, Map};
+pub use map::Map;
+pub use map_kind::Done;
 pub use undo_journal::{RuleChange, Step, ValueChange};

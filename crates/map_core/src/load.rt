@@ -10,11 +10,11 @@ ghost use Rattle.machine_defs.specs.Loading.{first_state};
 ghost use Rattle.cell_walk.specs.CellLists.{AreCellsOf, lists_of};
 ghost use Rattle.valued_map.specs.Made.{IsMadeOf};
 
-use crate::map::{Done, Map};
+use crate::map::Map;
 use attr_rules::Hook;
 use cell_walk::cells_of;
 use link_rows::{Edit, Links, MADE_MAX};
-use map_kind::{Dart, Kind, Place};
+use map_kind::{Dart, Done, Kind, Place};
 use std::alloc::{AllocError, Global};
 use undo_journal::Journal;
 

@@ -14,19 +14,6 @@ use std::marker::Model;
 use undo_journal::Journal;
 use valued_map::ValuedMap;
 
-/// What a changing line made: its first new dart and how many, the darts being numbered on from the first. Both are 0
-/// where no dart is made.
-#[derive(Clone, Copy, Debug, PartialEq, Eq)]
-pub struct Done {
-    pub first: u32,
-    pub count: u32,
-}
-
-impl Done {
-    /// No dart was made.
-    pub(crate) const NONE: Done = Done { first: 0, count: 0 };
-}
-
 /// A map of a kind and a dimension from 2 to 8 with values on its cells, seen as the state of the plain map machine
 /// beside the hook that was handed in. Its type keeps the laws of a map: at every moment its links obey them, and the
 /// darts of a cell have one value or none. Of the past it keeps what each step since the first mark changed, and tells

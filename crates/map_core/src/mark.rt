@@ -4,10 +4,10 @@ ghost use Rattle.machine_defs.specs.Script.{Mark, Log};
 ghost use Rattle.machine_defs.specs.Text.{Logged};
 ghost use Rattle.map_core.specs.Calls.{Does, AnswersAtOnce};
 
-use crate::map::{Done, Map};
+use crate::map::Map;
 use crate::note::see_order;
 use attr_rules::Hook;
-use map_kind::{Kind, Refusal, Refused};
+use map_kind::{Done, Kind, Refusal, Refused};
 use undo_journal::Step;
 
 impl<'h, K: Kind, H: Hook, const DIM: usize> Map<'h, K, H, DIM> {

@@ -4,10 +4,10 @@ ghost use Rattle.machine_defs.specs.Script.{Remove, Contract, Removable, Contrac
 ghost use Rattle.machine_defs.specs.Text.{Truth};
 ghost use Rattle.map_core.specs.Calls.{Does, AnswersQuestion};
 
-use crate::map::{Done, Map};
+use crate::map::Map;
 use attr_rules::Hook;
 use kind_edit::Edits;
-use map_kind::Refused;
+use map_kind::{Done, Refused};
 use std::alloc::Global;
 
 impl<'h, K: Edits<DIM>, H: Hook, const DIM: usize> Map<'h, K, H, DIM> {

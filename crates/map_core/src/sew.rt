@@ -5,10 +5,10 @@ ghost use Rattle.machine_defs.specs.Text.{Truth};
 ghost use Rattle.map_core.specs.Calls.{Does, AnswersQuestion};
 ghost use Rattle.map_core.specs.Numbers.{NamesSewingLink};
 
-use crate::map::{Done, Map};
+use crate::map::Map;
 use attr_rules::Hook;
 use link_rows::Links;
-use map_kind::{Kind, Refusal, Refused};
+use map_kind::{Done, Kind, Refusal, Refused};
 use sewing::{sew_plan, sewable, unsew_plan};
 use std::alloc::Global;
 

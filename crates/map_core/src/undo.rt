@@ -3,10 +3,10 @@ ghost use Rattle.std.specs.Prelude.{◌≡◌};
 ghost use Rattle.machine_defs.specs.Script.{Undo};
 ghost use Rattle.map_core.specs.Calls.{Does};
 
-use crate::map::{Done, Map};
+use crate::map::Map;
 use crate::note::see_order;
 use attr_rules::Hook;
-use map_kind::{Kind, Refused};
+use map_kind::{Done, Kind, Refused};
 use std::alloc::Global;
 
 impl<'h, K: Kind, H: Hook, const DIM: usize> Map<'h, K, H, DIM> {

@@ -8,10 +8,10 @@ ghost use Rattle.machine_defs.specs.Script.{Rule as SetRule, Set, Clear, Value a
 ghost use Rattle.machine_defs.specs.Text.{CellValue};
 ghost use Rattle.map_core.specs.Calls.{Does, AnswersAtOnce};
 
-use crate::map::{Done, Map};
+use crate::map::Map;
 use crate::note::{begin, finish};
 use attr_rules::{Hook, TableRule, merge_named, split_named};
-use map_kind::{Dart, Kind, Refusal, Refused, Value};
+use map_kind::{Dart, Done, Kind, Refusal, Refused, Value};
 use std::alloc::{AllocError, Global};
 
 impl<'h, K: Kind, H: Hook, const DIM: usize> Map<'h, K, H, DIM> {

@@ -1,8 +1,9 @@
 -- The dual of a map without free links. Source: the textbook for generalized maps; the condition and the formula of
 -- combinatorial maps are this project's.
-use Rattle.std.specs.Prelude.{ℕ, ◌≡◌, ◌≢◌, ◌<◌, ◌≤◌, ◌-◌}
+use Rattle.std.specs.Prelude.{ℕ, ◌≡◌, ◌≢◌, ◌<◌, ◌≤◌, ◌-◌, ◌==◌, if◌then◌else◌}
 use Rattle.map_defs.specs.Kind.{Kind, alpha, beta}
 use Rattle.map_defs.specs.Links.{Links, IsTurned, HasDimension}
+use Rattle.map_defs.specs.LinkWords.{LinkWord, one_link, two_links, inverse_word}
 
 -- In the dual of a combinatorial map no dart would be joined to itself. The smallest map that shows why, of dimension 3: a
 -- face with the two sides 1 and 2, joined by links 2 and 3; link 2 of the dual joins each to itself.
@@ -35,3 +36,9 @@ pub record IsBetaDual (n : ℕ) (L N : Links) : Type 0 where
 abbrev pub IsDual : Kind → ℕ → Links → Links → Type 0
 IsDual alpha n L N = IsAlphaDual n L N
 IsDual beta n L N = IsBetaDual n L N
+
+-- The word of the map along which link i of its dual runs. In a combinatorial map link 0 of the dual runs along link 1
+-- backwards.
+abbrev pub dual_word : Kind → ℕ → ℕ → LinkWord
+dual_word alpha n i = one_link (n - i)
+dual_word beta n i = if i == 0 then inverse_word beta (two_links n (n - 1)) else (if i == n then one_link n else two_links n (n - i))

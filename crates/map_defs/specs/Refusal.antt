@@ -24,6 +24,7 @@ pub data Refusal : Type 0 where
   NoPoint : Refusal
   ThinFace : Refusal
   Full : Refusal
+  NoRedo : Refusal
 
 -- a refusal's number: a line is refused with the least number whose condition holds
 abbrev pub number : Refusal → ℕ
@@ -48,6 +49,7 @@ number NoMark = 18
 number NoPoint = 19
 number ThinFace = 20
 number Full = 21
+number NoRedo = 22
 
 -- a refusal's name, as replies write it
 abbrev pub name : Refusal → List ℕ
@@ -72,3 +74,4 @@ name NoMark = codes "NoMark"
 name NoPoint = codes "NoPoint"
 name ThinFace = codes "ThinFace"
 name Full = codes "Full"
+name NoRedo = codes "NoRedo"

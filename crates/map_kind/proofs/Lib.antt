@@ -1,2 +1,3 @@
 mod CellWords
 mod SingleLinks
+mod Around

@@ -25,3 +25,4 @@ meaning told.NoMark = machine.NoMark
 meaning told.NoPoint = machine.NoPoint
 meaning told.ThinFace = machine.ThinFace
 meaning told.Full = machine.Full
+meaning told.NoRedo = machine.NoRedo

@@ -1,5 +1,6 @@
-ghost use Rattle.std.specs.Prelude.{◌≡◌, ℕ, ◌≤◌, ◌<◌, ◌↔◌, IsTrue, Contains, IfOk};
+ghost use Rattle.std.specs.Prelude.{◌≡◌, ℕ, ◌≤◌, ◌<◌, ◌-◌, ◌↔◌, IsTrue, Contains, IfOk};
 ghost use Rattle.map_defs.specs.Kind.{Kind as MapKind, alpha, inverse, IsDistant, letter};
+ghost use Rattle.map_defs.specs.Dual.{dual_word};
 ghost use Rattle.map_defs.specs.Polygon.{per_side};
 ghost use Rattle.map_defs.specs.LinkWords.{LinkWord as MapWord, IsCellWord, IsWithin, inverse_word};
 ghost use Rattle.map_kind.specs.KindLaws.{inverse-inverse, IsDistant-symmetric, IsCellWord-inverse};
@@ -35,11 +36,26 @@ pub trait Kind {
         requires cell { cell ≤ dim }
         ensures { IfOk result (λ words. (w : MapWord) → Contains words.items w ↔ (IsCellWord kind cell w × IsWithin dim w)) };
 
+    /// The word of a map of dimension `dim` along which link `link` of its dual runs. In a combinatorial map link 0 of the
+    /// dual runs along link 1 backwards.
+    fn dual_word(dim: usize, link: usize) -> LinkWord
+        requires low { 2 ≤ dim }
+        requires high { dim ≤ 8 }
+        requires link { link ≤ dim }
+        ensures { result ≡ dual_word kind dim link };
+
     ghost inverse_twice: { (i : ℕ) → inverse kind (inverse kind i) ≡ i };
 
     ghost distant_symmetric: { (i j : ℕ) → IsDistant kind i j → IsDistant kind j i };
 
     ghost words_turn: { (i : ℕ) (w : MapWord) → IsCellWord kind i w → IsCellWord kind i (inverse_word kind w) };
+}
+
+/// Whether maps of the kind are generalized, whose links are each their own inverse.
+pub fn is_generalized<K: Kind>() -> bool
+    ensures { IsTrue result ↔ (K.kind ≡ alpha) }
+{
+    K::inverse(0) == 0
 }
 
 /// The kind of generalized maps, whose links are the involutions alpha 0 to n.
@@ -74,5 +90,9 @@ impl Kind for Alpha {
 
     fn words(alloc: Global, dim: usize, cell: usize) -> Result<Vec<LinkWord>, AllocError> {
         single_links(alloc, 0, dim, cell)
+    }
+
+    fn dual_word(dim: usize, link: usize) -> LinkWord {
+        LinkWord::one(dim - link)
     }
 }

@@ -72,6 +72,9 @@ pub enum Refusal {
     /// More darts would be made than are ever made.
     #[error("more darts would be made than are ever made")]
     Full,
+    /// No undo stands that can be taken back, or the last one went back to another mark.
+    #[error("no undo to that mark is the last that can be taken back")]
+    NoRedo,
 }
 
 impl Refusal {
@@ -101,6 +104,7 @@ impl Refusal {
             Refusal::NoPoint => 19,
             Refusal::ThinFace => 20,
             Refusal::Full => 21,
+            Refusal::NoRedo => 22,
         }
     }
 
@@ -130,6 +134,7 @@ impl Refusal {
             Refusal::NoPoint => "NoPoint",
             Refusal::ThinFace => "ThinFace",
             Refusal::Full => "Full",
+            Refusal::NoRedo => "NoRedo",
         }
     }
 }

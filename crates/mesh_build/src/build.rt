@@ -19,7 +19,7 @@ use crate::sew::{Sewn, sew_faces};
 use cell_walk::cell_lists;
 use link_rows::{Edit, Links, MADE_MAX};
 use map_kind::{Dart, Kind, Place};
-use off_text::Mesh;
+use off_text::{CORNERS_MAX, Mesh};
 use std::alloc::Global;
 
 /// The map of a mesh: an edit that makes it from nothing, and for each 0-cell its least dart and its point, ascending.
@@ -148,9 +148,9 @@ fn dart_count(oriented: bool, sides: u64) -> u64
 /// How many sides the faces have.
 fn count_sides(faces: &[Vec<u32>]) -> u64
     requires few { length faces.now < 2 ^ 32 }
-    requires short { All (λ face. vec_len face ≤ 65536) faces.now }
+    requires short { All (λ face. vec_len face ≤ CORNERS_MAX) faces.now }
     ensures sides { result ≡ length (sides_of (faces_view faces.now)) }
-    ensures few { result ≤ 65536 * length faces.now }
+    ensures few { result ≤ CORNERS_MAX * length faces.now }
 {
     let mut sides = 0;
     for face in faces {

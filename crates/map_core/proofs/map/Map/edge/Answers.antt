@@ -6,7 +6,7 @@ use Rattle.map_defs.specs.Rows.{Rows}
 use Rattle.map_defs.specs.Edits.{Edit}
 use Rattle.machine_defs.specs.Script.{Edge}
 use Rattle.cell_edit.specs.Planning.{PlansEdge}
-use Rattle.map_core.specs.declared.map.Done.{Done}
+use Rattle.map_kind.specs.declared.done.Done.{Done}
 use Rattle.map_core.specs.Calls.{Does}
 use Rattle.map_core.proofs.InsertingSteps.{edge-does, edge-refused}
 use Rattle.map_core.proofs.map.Map.edge.Goals as goal

@@ -5,7 +5,7 @@ use Rattle.map_defs.specs.Kind.{Kind}
 use Rattle.map_defs.specs.Rows.{Rows}
 use Rattle.machine_defs.specs.Script.{Face}
 use Rattle.cell_edit.specs.Planning.{PlansFace}
-use Rattle.map_core.specs.declared.map.Done.{Done}
+use Rattle.map_kind.specs.declared.done.Done.{Done}
 use Rattle.map_core.specs.Calls.{Does}
 use Rattle.map_core.proofs.InsertingSteps.{face-does, face-refused}
 use Rattle.map_core.proofs.map.Map.face.Goals as goal

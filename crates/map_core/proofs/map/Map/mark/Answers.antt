@@ -8,7 +8,7 @@ use Rattle.trail_laws.specs.Trails.{Book, Trail, HasMark}
 use Rattle.trail_laws.specs.Told.{told, IsTraced}
 use Rattle.trail_laws.proofs.Marking.{traced-marked}
 use Rattle.map_core.specs.Calls.{Does}
-use Rattle.map_core.specs.declared.map.Done.{Done}
+use Rattle.map_kind.specs.declared.done.Done.{Done}
 use Rattle.map_core.proofs.Marks.{mark-refused, mark-obeyed}
 use Rattle.map_core.proofs.map.Map.mark.Goals as goal
 
