@@ -2,6 +2,8 @@
 use Rattle.std.proofs.Common.{◌≡◌, ℕ, ◌≤◌, ◌⊎◌, List, [], Option, Some, None, Result, Ok, Err, Bool, true, false, cond, nat_lt, refl, sym, subst, inl, inr, arith, lit≤}
 use Rattle.std.proofs.lemmas.List.{append-nil}
 use Rattle.std.proofs.lemmas.Bool.{lt-ltb}
+use Rattle.map_io.specs.declared.shelf.FetchFault.{FetchFault}
+use Rattle.map_io.specs.declared.shelf.FetchFault.TheVariants as fetch
 use Rattle.map_io.specs.declared.sink.PutFault.{PutFault}
 use Rattle.map_io.specs.declared.sink.PutFault.TheVariants.{Failed, NoMemory}
 use Rattle.map_defs.specs.Kind.{Kind}
@@ -10,9 +12,9 @@ use Rattle.machine_defs.specs.Outside.{Files, held, Appended}
 use Rattle.machine_defs.specs.State.{State, empty_state}
 use Rattle.map_defs.specs.Off.{mesh_of}
 use Rattle.machine_defs.specs.Loading.{refusal_line}
-use Rattle.machine_defs.specs.Program.{RunScript, TellsCommand, ProgramAnswer, told, ScriptAnswer, FileAnswer, MeshAnswer, CommandAnswer, IsFile, StartsFrom, Starts, whole, lines, Outcome, answered, unread, unwritten, no_memory, cannot_read}
+use Rattle.machine_defs.specs.Program.{RunScript, TellsCommand, ProgramAnswer, told, ScriptAnswer, FileAnswer, MeshAnswer, CommandAnswer, IsFile, StartsFrom, Starts, whole, lines, Outcome, answered, unread, unwritten, no_memory, cannot_read, too_long}
 use Rattle.map_run.specs.Going.{IsObeyed}
-use Rattle.map_run.specs.Texts.{IsMeshOf, IsFirst, TextsEnd, refused, starved, obeyed, EndsTexts}
+use Rattle.map_run.specs.Texts.{AreFetched, IsMeshOf, IsFirst, TextsEnd, refused, starved, obeyed, EndsTexts}
 use Rattle.map_run.specs.Ending.{IsLast, WritesLast, EndsCall, EndsWhole, status_of}
 use Rattle.map_run.proofs.StartFacts.{starts-nothing}
 use Rattle.text_lines.proofs.WritingFacts.{Appended-nothing, Appended-then, IsFront-all, IsFront-nothing}
@@ -130,6 +132,18 @@ Ends-nothing hook k n mesh script o words files shelf_rose sink_rose tells = rec
   appended = Appended-nothing o;
   outcome = no_memory refl (inl refl) (inl (starts-nothing hook words files k n script mesh tells));
 }
+
+-- a file was not fetched
+pub Ends-unfetched : (hook : Meaning) (k : Kind) (n : ℕ) (mesh : Option (List ℕ)) (script : List ℕ) (before after : Option (List ℕ)) (words : List (List ℕ)) (files : Files) (shelf_rose sink_rose : Type 0)
+    (fault : FetchFault) (result : ℕ) → TellsCommand words (RunScript k n mesh script) → AreFetched files (RunScript k n mesh script) (Err fault) → (fault ≡ fetch.Failed → shelf_rose)
+    → (fault ≡ fetch.Failed → WritesLast before after sink_rose cannot_read 5 result) → ((seen : ℕ) → fault ≡ fetch.TooLong seen → WritesLast before after sink_rose too_long 4 result)
+    → (fault ≡ fetch.NoMemory → (result ≡ 7) × (after ≡ before)) → EndsCall hook before after words files shelf_rose sink_rose result
+Ends-unfetched hook k n mesh script before after words files shelf_rose sink_rose fetch.Failed result tells fetched rose failed long starved =
+    Ends-unread hook before after words files shelf_rose sink_rose result (rose refl) (failed refl)
+Ends-unfetched hook k n mesh script before after words files shelf_rose sink_rose (fetch.TooLong seen) result tells fetched rose failed long starved =
+    Ends-last hook before after words files shelf_rose sink_rose too_long 4 result (told (RunScript k n mesh script) tells (fetched hook)) (lit≤ tt) (long seen refl)
+Ends-unfetched hook k n mesh script before after words files shelf_rose sink_rose fetch.NoMemory result tells fetched rose failed long starved =
+    let end = starved refl in rw (end.0, end.1) (Ends-nothing hook k n mesh script before words files shelf_rose sink_rose tells)
 
 pub Ends-texts : (hook : Meaning) (k : Kind) (n : ℕ) (mesh : Option (List ℕ)) (script : List ℕ) (words : List (List ℕ)) (files : Files) (before after : Option (List ℕ)) (shelf_rose sink_rose : Type 0) (status : ℕ)
     (bytes : Option (List ℕ)) (text : List ℕ) → TellsCommand words (RunScript k n mesh script) → IsMeshOf files mesh bytes × IsFile files script text

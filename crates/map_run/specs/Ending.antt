@@ -1,10 +1,12 @@
 -- How the program ends.
-use Rattle.std.specs.Prelude.{ℕ, ◌≡◌, ◌⊎◌, List, [], Option, Result, Ok, Err, Bool, true, false}
+use Rattle.std.specs.Prelude.{ℕ, ◌≡◌, ◌⊎◌, List, [], Option, Some, None, Result, Ok, Err, Bool, true, false}
+use Rattle.map_io.specs.declared.shelf.FetchFault.{FetchFault}
+use Rattle.map_io.specs.declared.shelf.FetchFault.TheVariants as fetch
 use Rattle.map_io.specs.declared.sink.PutFault.{PutFault}
 use Rattle.map_io.specs.declared.sink.PutFault.TheVariants.{Failed, NoMemory}
 use Rattle.map_defs.specs.Values.{Meaning}
 use Rattle.machine_defs.specs.Outside.{Files, Appended, IsFront}
-use Rattle.machine_defs.specs.Program.{Outcome, ProgramAnswer}
+use Rattle.machine_defs.specs.Program.{Outcome, ProgramAnswer, cannot_read, too_long}
 
 -- the one line that ends the program was written whole, and the status is as it should be; or the sink had a fault; or
 -- there was no memory
@@ -16,6 +18,12 @@ pub record WritesLast (before after : Option (List ℕ)) (rose : Type 0) (line :
   pub piece : List ℕ
   pub appended : Appended before after piece
   pub is : IsLast rose line status result piece
+
+-- the line that ends the program where a file was not fetched, and the status; none for want of memory
+abbrev pub last_of : FetchFault → Option (List ℕ × ℕ)
+last_of fetch.Failed = Some (cannot_read, 5)
+last_of (fetch.TooLong seen) = Some (too_long, 4)
+last_of fetch.NoMemory = None
 
 -- the status of a script that was obeyed, or cut short
 abbrev pub status_of : Result Bool PutFault → ℕ

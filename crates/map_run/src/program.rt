@@ -1,5 +1,5 @@
 //! The top call: what the whole program does.
-ghost use Rattle.std.specs.Prelude.{◌≡◌, ◌≢◌, ℕ, ◌⊎◌, ◌≤◌, List, Some, map, string_bytes, nat_lt, if◌then◌else◌};
+ghost use Rattle.std.specs.Prelude.{◌≡◌, ◌≢◌, ℕ, ◌⊎◌, ◌≤◌, List, [], Some, map, string_bytes, nat_lt, if◌then◌else◌};
 ghost use Rattle.machine_defs.specs.Outside.{Files, Rose};
 ghost use Rattle.machine_defs.specs.Program.{TellsCommand, NeedsFile, IsNeededBy, Known, IsNoCommand};
 ghost use Rattle.map_run.specs.Commands.{command_of};
@@ -7,10 +7,10 @@ ghost use Rattle.map_run.specs.Ending.{EndsCall, EndsWhole};
 
 use crate::command::{RunScript, read_command};
 use crate::files::fetch_texts;
-use crate::last::write_last;
+use crate::last::{write_last, write_unfetched};
 use crate::obey::obey_in_dimension;
 use attr_rules::Hook;
-use map_io::{FetchFault, Shelf, Sink};
+use map_io::{Shelf, Sink};
 use map_kind::Alpha;
 use std::alloc::Global;
 
@@ -40,9 +40,7 @@ fn run_script<F: Shelf, S: Sink, H: Hook>(
         Ok(texts) => {
             obey_in_dimension::<Alpha, S, H>(alloc, command.dimension, &texts, out, hook)
         }
-        Err(FetchFault::Failed) => write_last(out, b"cannot read\n", 5),
-        Err(FetchFault::TooLong { .. }) => write_last(out, b"too long\n", 4),
-        Err(FetchFault::NoMemory) => 7,
+        Err(fault) => write_unfetched(out, fault),
     }
 }
 
@@ -95,6 +93,7 @@ fn serve<F: Shelf, S: Sink, H: Hook>(
     ensures range { result ≤ 7 }
     ensures unread { result ≡ 5 → Rose (F.faults shelf.old) (F.faults shelf.new) }
     ensures unwritten { result ≡ 6 → Rose (S.faults out.old) (S.faults out.new) }
+    ensures handed_on { result ≤ 5 → S.kept_back out.new ≡ [] }
 {
     let status = answer(alloc, words, shelf, out, hook);
     match out.flush() {
@@ -122,8 +121,9 @@ fn serve<F: Shelf, S: Sink, H: Hook>(
 /// | 6 | the sink could not take the text | a front of the text |
 /// | 7 | there was not enough memory | a front of the text that ends with a line |
 ///
-/// What is said of the text holds where the shelf tells what it holds and the sink what was written; what is said of the
-/// statuses 2, 5 and 6 holds always. Nothing else is free: where no fault was counted the answer is the whole text and its
+/// With the statuses 0 to 5 the sink has handed on all that it took. What is said of the text holds where the shelf tells
+/// what it holds and the sink what was written; what is said of the statuses 2, 5 and 6, and of what was handed on, holds
+/// always. Nothing else is free: where no fault was counted the answer is the whole text and its
 /// status, or 7.
 pub fn run<F: Shelf, S: Sink, H: Hook>(
     alloc: Global,
@@ -144,6 +144,7 @@ pub fn run<F: Shelf, S: Sink, H: Hook>(
     ensures range { result ≤ 7 }
     ensures unread { result ≡ 5 → Rose (F.faults shelf.old) (F.faults shelf.new) }
     ensures unwritten { result ≡ 6 → Rose (S.faults out.old) (S.faults out.new) }
+    ensures handed_on { result ≤ 5 → S.kept_back out.new ≡ [] }
 {
     serve(alloc, words, shelf, out, hook)
 }

@@ -110,7 +110,9 @@ fn faults(rt: HostRuntime) -> Result<(), Fail> {
         ("OFF 4294967296 0 0", 1, OffWhat::BadCounts),
         ("OFF 0 0 4294967296", 1, OffWhat::BadCounts),
         ("OFF 0 0 -1", 1, OffWhat::BadCounts),
+        // no memory is asked for what a header promises
         ("OFF\n4294967295 1 0", 3, OffWhat::Short),
+        ("OFF\n0 4294967295 0", 3, OffWhat::Short),
         ("OFF 1 0 0\n0 0", 2, OffWhat::Short),
         ("OFF 1 0 0\n0 0 0 0", 2, OffWhat::Extra),
         ("OFF 1 0 0\nx 0", 2, OffWhat::Short),
