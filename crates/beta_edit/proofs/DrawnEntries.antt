@@ -1,0 +1,150 @@
+-- The changes of one link of a dart that ends, of one dart after another of them, and of one after another.
+use Rattle.std.proofs.Common.{ℕ, ◌≡◌, ◌≢◌, ◌+◌, ◌<◌, ◌≤◌, ◌⊎◌, List, [], ◌∷◌, ◌++◌, Option, length, take, slice_index, get_or, Contains, sym, ap, ◌∙◌, subst, inl, inr, append_assoc, arith}
+use Rattle.std.specs.List.Sorted.{IsStrictlyIncreasing}
+use Rattle.std.proofs.lemmas.Bool.{cases_lt}
+use Rattle.std.proofs.lemmas.List.{append-nil, take_all, take_more, get_or-take, get_or_default, length-take}
+use Rattle.std.proofs.lemmas.List.Elements.{Contains-append_left, Contains-push, Contains-push_cases}
+use Rattle.map_defs.specs.Kind.{beta, inverse}
+use Rattle.map_defs.specs.Links.{Links}
+use Rattle.map_defs.specs.Laws.{Laws}
+use Rattle.map_defs.specs.Edits.{Change}
+use Rattle.link_laws.proofs.Basics.{inverse_twice}
+use Rattle.link_laws.proofs.Walking.{walk_one}
+use Rattle.cell_edit.specs.Writing.{WritesEntries, Appends}
+use Rattle.cell_edit.proofs.StarNumbers.{rises}
+use Rattle.cell_edit.proofs.Writings.{writes-none, writes-one, writes-append, writes-same}
+use Rattle.beta_edit.specs.Crossing.{DrawsTo}
+use Rattle.beta_edit.specs.Drawing.{IsLinkEntry, IsDartEntry, IsCellEntry}
+
+-- the link that leads back
+pub link-back : (L : Links) → Laws beta L → (s b x : ℕ) → x ≡ L s b → L s b ≢ 0 → L (inverse beta s) x ≡ b
+link-back L w s b x is some = ap (L (inverse beta s)) is ∙ w.back s b some
+
+-- no entry, and so no change
+appends-none : (L : Links) (E : ℕ → ℕ → ℕ → Type 0) (cs : List Change) → ((d t y : ℕ) → E d t y → ⊥) → Appends L E cs cs
+appends-none L E cs none = ([], sym (append-nil cs), writes-none L E none)
+
+module _ (L : Links) (beside : Option ℕ) (keys : List ℕ) (b s : ℕ) where
+  -- ---- one link of a dart that ends
+  -- it is free
+  pub link-free : (cs : List Change) → L s b ≡ 0 → Appends L (IsLinkEntry L beside keys b s) cs cs
+  link-free cs free = appends-none L (IsLinkEntry L beside keys b s) cs (λ d t y e. e.0 free)
+
+  abbrev Freed : ℕ → ℕ → ℕ → Type 0
+  Freed d t y = (d ≡ b) × (t ≡ s) × (y ≡ 0)
+
+  -- it leads to a dart that ends too
+  pub link-inner : (x : ℕ) (a c : List Change) → x ≡ L s b → L s b ≢ 0 → Contains keys x → c ≡ a ++ record { dart = b; link = s; old = x; new = 0 } ∷ [] → Appends L (IsLinkEntry L beside keys b s) a c
+  link-inner x a c is some has grown = (
+    record { dart = b; link = s; old = x; new = 0 } ∷ [],
+    grown,
+    writes-same L Freed (IsLinkEntry L beside keys b s) _ (λ d t y. ((λ o. (some, inl o)), λ e. from d t y e.1)) (writes-one L (record { dart = b; link = s; old = x; new = 0 }) is),
+  )
+    where
+      from : (d t y : ℕ) → Freed d t y ⊎ ((d ≡ L s b) × (Contains keys d → ⊥) × (t ≡ inverse beta s) × DrawsTo L beside t keys b y) → Freed d t y
+      from d t y (inl o) = o
+      from d t y (inr e) = absurd (e.1 (subst (Contains keys) (is ∙ sym e.0) has))
+
+  -- it leads to a remaining dart x, whose link that leads back is drawn to z
+  pub link-outer : (x z : ℕ) (a c f : List Change) → x ≡ L s b → L s b ≢ 0 → Contains keys b → (Contains keys x → ⊥) → L (inverse beta s) x ≡ b → DrawsTo L beside (inverse beta s) keys b z
+      → c ≡ a ++ record { dart = b; link = s; old = x; new = 0 } ∷ [] → f ≡ c ++ record { dart = x; link = inverse beta s; old = b; new = z } ∷ [] → Appends L (IsLinkEntry L beside keys b s) a f
+  link-outer x z a c f is some key out back walk first then = (
+    record { dart = b; link = s; old = x; new = 0 } ∷ record { dart = x; link = inverse beta s; old = b; new = z } ∷ [],
+    then ∙ ap (λ (cs : List Change). cs ++ record { dart = x; link = inverse beta s; old = b; new = z } ∷ []) first ∙ append_assoc a _ _,
+    writes-same L (λ d t y. Freed d t y ⊎ Drawn d t y) (IsLinkEntry L beside keys b s) _ (λ d t y. (to d t y, λ e. from d t y e.1))
+        (writes-append L Freed Drawn (record { dart = b; link = s; old = x; new = 0 } ∷ []) (record { dart = x; link = inverse beta s; old = b; new = z } ∷ []) (λ d t y v e o. out (subst (Contains keys) (sym e.0 ∙ o.0) key))
+        (writes-one L (record { dart = b; link = s; old = x; new = 0 }) is) (writes-one L (record { dart = x; link = inverse beta s; old = b; new = z }) (sym back))),
+  )
+    where
+      Drawn : ℕ → ℕ → ℕ → Type 0
+      Drawn d t y = (d ≡ x) × (t ≡ inverse beta s) × (y ≡ z)
+
+      to : (d t y : ℕ) → Freed d t y ⊎ Drawn d t y → IsLinkEntry L beside keys b s d t y
+      to d t y (inl o) = (some, inl o)
+      to d t y (inr o) = (some, inr (o.0 ∙ is, (λ has. out (subst (Contains keys) o.0 has)), o.1, rw (o.1, o.2) walk))
+
+      from : (d t y : ℕ) → Freed d t y ⊎ ((d ≡ L s b) × (Contains keys d → ⊥) × (t ≡ inverse beta s) × DrawsTo L beside t keys b y) → Freed d t y ⊎ Drawn d t y
+      from d t y (inl o) = inl o
+      from d t y (inr e) = inr (e.0 ∙ sym is, e.2, walk_one (subst (λ r. DrawsTo L beside r keys b y) e.2 e.3) walk)
+
+-- ---- one entry more
+module _ (L : Links) (beside : Option ℕ) (keys : List ℕ) where
+  -- the entries of two links of one dart stand at places of their own
+  links-apart : (b s u d t y z : ℕ) → Contains keys b → s ≢ u → IsLinkEntry L beside keys b s d t y → IsLinkEntry L beside keys b u d t z → ⊥
+  links-apart b s u d t y z key other (some, inl e) (some', inl f) = other (sym e.1 ∙ f.1)
+  links-apart b s u d t y z key other (some, inl e) (some', inr f) = f.1 (subst (Contains keys) (sym e.0) key)
+  links-apart b s u d t y z key other (some, inr e) (some', inl f) = e.1 (subst (Contains keys) (sym f.0) key)
+  links-apart b s u d t y z key other (some, inr e) (some', inr f) = other (sym (inverse_twice beta s) ∙ ap (inverse beta) (sym e.2 ∙ f.2) ∙ inverse_twice beta u)
+
+  -- and so do those of two darts
+  darts-apart : Laws beta L → (m b x d t y z : ℕ) → Contains keys b → Contains keys x → b ≢ x → IsDartEntry L beside keys m b d t y → IsDartEntry L beside keys m x d t z → ⊥
+  darts-apart w m b x d t y z key key' other (s, low, (some, inl e)) (u, low', (some', inl f)) = other (sym e.0 ∙ f.0)
+  darts-apart w m b x d t y z key key' other (s, low, (some, inl e)) (u, low', (some', inr f)) = f.1 (subst (Contains keys) (sym e.0) key)
+  darts-apart w m b x d t y z key key' other (s, low, (some, inr e)) (u, low', (some', inl f)) = e.1 (subst (Contains keys) (sym f.0) key')
+  darts-apart w m b x d t y z key key' other (s, low, (some, inr e)) (u, low', (some', inr f)) =
+      other (sym (w.back s b some) ∙ ap (L (inverse beta s)) (sym e.0) ∙ ap (λ r. L r d) (sym e.2 ∙ f.2) ∙ ap (L (inverse beta u)) f.0 ∙ w.back u x some')
+
+  -- ---- the links of a dart, one after another
+  pub dart-none : (b : ℕ) (cs : List Change) → Appends L (IsDartEntry L beside keys 0 b) cs cs
+  dart-none b cs = appends-none L (IsDartEntry L beside keys 0 b) cs (λ d t y e. omega (arith, e.1))
+
+  pub dart-all : (b m n : ℕ) (a c : List Change) → m ≡ n → Appends L (IsDartEntry L beside keys m b) a c → Appends L (IsDartEntry L beside keys n b) a c
+  dart-all b m n a c e has = subst (λ k. Appends L (IsDartEntry L beside keys k b) a c) e has
+
+  pub dart-more : (b m : ℕ) (a c f : List Change) → Contains keys b → Appends L (IsDartEntry L beside keys m b) a c → Appends L (IsLinkEntry L beside keys b m) c f → Appends L (IsDartEntry L beside keys (m + 1) b) a f
+  dart-more b m a c f key (first, grown, writes) (then, again, behind) = (
+    first ++ then,
+    again ∙ ap (λ (cs : List Change). cs ++ then) grown ∙ append_assoc a first then,
+    writes-same L (λ d t y. IsDartEntry L beside keys m b d t y ⊎ IsLinkEntry L beside keys b m d t y) (IsDartEntry L beside keys (m + 1) b) (first ++ then)
+        (λ d t y. (to d t y, λ e. from d t y e (cases_lt e.0 m)))
+        (writes-append L (IsDartEntry L beside keys m b) (IsLinkEntry L beside keys b m) first then
+        (λ d t y z e o. let less : e.0 ≢ m = (let h = e.1 in omega arith) in links-apart b e.0 m d t y z key less e.2 o) writes behind),
+  )
+    where
+      to : (d t y : ℕ) → IsDartEntry L beside keys m b d t y ⊎ IsLinkEntry L beside keys b m d t y → IsDartEntry L beside keys (m + 1) b d t y
+      to d t y (inl e) = (e.0, (let h = e.1 in omega arith), e.2)
+      to d t y (inr e) = (m, omega arith, e)
+
+      from : (d t y : ℕ) (e : IsDartEntry L beside keys (m + 1) b d t y) → (e.0 < m) ⊎ (m ≤ e.0) → IsDartEntry L beside keys m b d t y ⊎ IsLinkEntry L beside keys b m d t y
+      from d t y e (inl below) = inl (e.0, below, e.2)
+      from d t y e (inr above) = let same : e.0 ≡ m = (let h = e.1 in omega arith) in inr (subst (λ s. IsLinkEntry L beside keys b s d t y) same e.2)
+
+  -- ---- one dart after another
+  pub cell-none : (m : ℕ) → WritesEntries L (IsCellEntry L beside keys m (take 0 keys)) []
+  cell-none m = writes-none L (IsCellEntry L beside keys m (take 0 keys)) (λ d t y e. omega (arith, length-take 0 keys, e.1.1))
+
+  listed-apart : (q x u : ℕ) → IsStrictlyIncreasing keys → q < length keys → x ≡ get_or keys q x → Contains (take q keys) u → u ≢ x
+  listed-apart q x u up low at has e =
+      let p : ℕ = has.0 in
+      let p_low : p < q = omega (arith, has.1, length-take q keys) in
+      let p_at : slice_index keys p ≡ u = get_or_default keys p 0 u (omega arith) ∙ sym (get_or-take q keys p u p_low) ∙ has.2 in
+      let k_at : slice_index keys q ≡ x = get_or_default keys q 0 x low ∙ sym at in
+      let less : slice_index keys p < slice_index keys q = rises keys up p q p_low low in omega arith
+
+  taken : (q u : ℕ) → Contains (take q keys) u → Contains keys u
+  taken q u has =
+      let p_low : has.0 < q = omega (arith, has.1, length-take q keys) in
+      (has.0, omega (arith, has.1, length-take q keys), sym (get_or-take q keys has.0 u p_low) ∙ has.2)
+
+  pub cell-more : Laws beta L → (m q x : ℕ) (a c : List Change) → IsStrictlyIncreasing keys → q < length keys → x ≡ get_or keys q x → Contains keys x
+      → WritesEntries L (IsCellEntry L beside keys m (take q keys)) a → Appends L (IsDartEntry L beside keys m x) a c → WritesEntries L (IsCellEntry L beside keys m (take (q + 1) keys)) c
+  cell-more w m q x a c up low at key writes (added, grown, then) =
+      subst (WritesEntries L (IsCellEntry L beside keys m (take (q + 1) keys))) (sym grown)
+      (writes-same L (λ d t y. IsCellEntry L beside keys m (take q keys) d t y ⊎ IsDartEntry L beside keys m x d t y) (IsCellEntry L beside keys m (take (q + 1) keys)) (a ++ added)
+      (λ d t y. (to d t y, λ e. from d t y e (Contains-push_cases (take q keys) x e.0 (subst (λ xs. Contains xs e.0) more e.1))))
+      (writes-append L (IsCellEntry L beside keys m (take q keys)) (IsDartEntry L beside keys m x) a added
+      (λ d t y z e f. darts-apart w m e.0 x d t y z (taken q e.0 e.1) key (listed-apart q x e.0 up low at e.1) e.2 f) writes then))
+    where
+      more : take (q + 1) keys ≡ take q keys ++ x ∷ []
+      more = take_more keys q x low ∙ ap (λ e. take q keys ++ e ∷ []) (sym at)
+
+      to : (d t y : ℕ) → IsCellEntry L beside keys m (take q keys) d t y ⊎ IsDartEntry L beside keys m x d t y → IsCellEntry L beside keys m (take (q + 1) keys) d t y
+      to d t y (inl e) = (e.0, subst (λ xs. Contains xs e.0) (sym more) (Contains-append_left (take q keys) (x ∷ []) e.0 e.1), e.2)
+      to d t y (inr e) = (x, subst (λ xs. Contains xs x) (sym more) (Contains-push (take q keys) x), e)
+
+      from : (d t y : ℕ) (e : IsCellEntry L beside keys m (take (q + 1) keys) d t y) → Contains (take q keys) e.0 ⊎ (x ≡ e.0) → IsCellEntry L beside keys m (take q keys) d t y ⊎ IsDartEntry L beside keys m x d t y
+      from d t y e (inl had) = inl (e.0, had, e.2)
+      from d t y e (inr is) = inr (subst (λ u. IsDartEntry L beside keys m u d t y) (sym is) e.2)
+
+  pub cell-all : (m q : ℕ) (cs : List Change) → length keys ≤ q → WritesEntries L (IsCellEntry L beside keys m (take q keys)) cs → WritesEntries L (IsCellEntry L beside keys m keys) cs
+  cell-all m q cs past writes = subst (λ ks. WritesEntries L (IsCellEntry L beside keys m ks) cs) (take_all q keys past) writes

@@ -1,0 +1,11 @@
+mod Listed
+mod StaysApart
+mod SameCells
+mod VertexRuns
+mod CellTold
+mod DrawnEntries
+mod DrawnEdit
+mod DrawnTurned
+mod CellEnds
+mod HighEnds
+mod DrawnEnds

@@ -1,0 +1,113 @@
+ghost use Rattle.std.specs.Prelude.{◌≡◌, ℕ, ◌↔◌, Contains, IsNone, IfSome, IsTrue};
+ghost use Rattle.std.specs.List.Sorted.{IsStrictlyIncreasing};
+ghost use Rattle.map_defs.specs.Kind.{beta};
+ghost use Rattle.map_defs.specs.Rows.{links_of, IsSound};
+ghost use Rattle.beta_edit.specs.Crossing.{side_of, drawn_step, DrawsTo};
+
+use link_rows::Links;
+use map_kind::{Beta, Dart};
+
+/// The dart at a link of a dart, if there is one. A link above the dimension is free.
+pub(crate) fn linked<const DIM: usize>(
+    links: &Links<Beta, DIM>,
+    link: usize,
+    dart: Dart,
+) -> Option<Dart>
+    ensures free { IsNone result ↔ (links_of links.now.rows link dart ≡ 0) }
+    ensures linked { IfSome result (λ other. other ≡ links_of links.now.rows link dart) }
+    ensures sound { IsSound beta DIM links.now.rows }
+{
+    if link > links.dimension() {
+        return None;
+    }
+    links.link(dart, link)
+}
+
+/// The link that leads round a face as a link is drawn: 1 forward for link 1, and 0 backward for all others.
+fn side(link: usize) -> usize
+    ensures { result ≡ side_of link }
+{
+    if link == 1 { 1 } else { 0 }
+}
+
+/// The dart to which one step leads of the walk by which a link is drawn across a cell; none exactly where it comes to a
+/// free link.
+fn across<const DIM: usize>(
+    links: &Links<Beta, DIM>,
+    link: usize,
+    beside: Option<usize>,
+    dart: Dart,
+) -> Option<Dart>
+    ensures free { IsNone result ↔ (drawn_step (links_of links.now.rows) beside link dart ≡ 0) }
+    ensures leads { IfSome result (λ other. other ≡ drawn_step (links_of links.now.rows) beside link dart) }
+{
+    match beside {
+        Some(beside) => linked(links, link, linked(links, beside, dart)?),
+        None => linked(links, side(link), dart),
+    }
+}
+
+/// Whether a dart is one of these, which are ascending.
+pub(crate) fn is_among(darts: &[Dart], dart: Dart) -> bool
+    requires { IsStrictlyIncreasing darts.now }
+    ensures { IsTrue result ↔ Contains darts.now dart }
+{
+    darts.binary_search(&dart).is_ok()
+}
+
+/// The number of the first dart outside a cell on the walk from a dart by which a link is drawn across the cell, 0 where the
+/// walk comes to a free link. It costs the steps of the walk, times the logarithm of the cell.
+pub(crate) fn first_outside<const DIM: usize>(
+    links: &Links<Beta, DIM>,
+    link: usize,
+    beside: Option<usize>,
+    cell: &[Dart],
+    from: Dart,
+) -> u32
+    requires ascending { IsStrictlyIncreasing cell.now }
+    requires darts { Contains cell.now 0 → ⊥ }
+    requires ends { (y : ℕ) × DrawsTo (links_of links.now.rows) beside link cell.now from y }
+    ensures { DrawsTo (links_of links.now.rows) beside link cell.now from result }
+{
+    let mut at = from;
+    // The walk comes to no dart twice.
+    for _turn in 0..cell.len() + 1 {
+        if !is_among(cell, at) {
+            return at.number();
+        }
+        let Some(next) = across(links, link, beside, at) else {
+            return 0;
+        };
+        at = next;
+    }
+    unreachable!()
+}
+
+/// Whether the walk from a dart by which a link is drawn across a cell leads to another dart. It costs the steps of the walk,
+/// times the logarithm of the cell.
+pub(crate) fn leads_to<const DIM: usize>(
+    links: &Links<Beta, DIM>,
+    link: usize,
+    beside: Option<usize>,
+    cell: &[Dart],
+    from: Dart,
+    to: Dart,
+) -> bool
+    requires ascending { IsStrictlyIncreasing cell.now }
+    requires darts { Contains cell.now 0 → ⊥ }
+    ensures { IsTrue result ↔ DrawsTo (links_of links.now.rows) beside link cell.now from to }
+{
+    let end = to.number();
+    let mut at = from;
+    // A walk that comes to no end comes to some dart twice.
+    for _turn in 0..cell.len() + 1 {
+        if !is_among(cell, at) {
+            return at.number() == end;
+        }
+        let Some(next) = across(links, link, beside, at) else {
+            return false;
+        };
+        at = next;
+    }
+    false
+}
