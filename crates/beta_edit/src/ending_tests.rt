@@ -161,9 +161,9 @@ fn a_side_is_not_joined_to_itself(rt: HostRuntime) -> Result<(), Fail> {
     let mut links = Links::<Beta, 2>::new(alloc);
     polygon(&rt, alloc, &mut links, 3)?;
     remove(&rt, alloc, &mut links, 0, 1);
-    let second = dart(&rt, &links, 2);
-    assert!(&rt; removable(alloc, &links, 0, second)?);
+    assert!(&rt; removable(alloc, &links, 0, dart(&rt, &links, 2))?);
     sew(&rt, alloc, &mut links, 2, 2, 3);
+    let second = dart(&rt, &links, 2);
     assert!(&rt; !removable(alloc, &links, 0, second)?);
     assert_eq!(&rt;
         refusal(remove_plan(alloc, &links, 0, second)),
