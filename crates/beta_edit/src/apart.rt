@@ -6,7 +6,7 @@ ghost use Rattle.map_defs.specs.Laws.{Laws};
 ghost use Rattle.map_defs.specs.Removal.{JoinsNoDart};
 ghost use Rattle.beta_edit.specs.Crossing.{drawn_step, IsDrawnBack};
 
-use crate::crossing::{is_among, leads_to};
+use crate::crossing::{is_among, walk_end};
 use link_rows::Links;
 use map_kind::{Beta, Dart};
 
@@ -52,7 +52,10 @@ fn is_drawn_back<const DIM: usize>(
     if is_among(darts, remaining) {
         return false;
     }
-    leads_to(links, link, beside, darts, dart, remaining)
+    match walk_end(links, link, beside, darts, dart) {
+        Some(end) => end == remaining.number(),
+        None => false,
+    }
 }
 
 /// Whether no remaining dart would be joined to itself by a link from 2 upwards after these darts are taken out of their

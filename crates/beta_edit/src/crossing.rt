@@ -1,4 +1,4 @@
-ghost use Rattle.std.specs.Prelude.{◌≡◌, ℕ, ◌↔◌, Contains, IsNone, IfSome, IsTrue};
+ghost use Rattle.std.specs.Prelude.{◌≡◌, ℕ, ◌↔◌, Contains, IsNone, IfSome, IfNone, IsTrue};
 ghost use Rattle.std.specs.List.Sorted.{IsStrictlyIncreasing};
 ghost use Rattle.map_defs.specs.Kind.{beta};
 ghost use Rattle.map_defs.specs.Rows.{links_of, IsSound};
@@ -56,58 +56,30 @@ pub(crate) fn is_among(darts: &[Dart], dart: Dart) -> bool
 }
 
 /// The number of the first dart outside a cell on the walk from a dart by which a link is drawn across the cell, 0 where the
-/// walk comes to a free link. It costs the steps of the walk, times the logarithm of the cell.
-pub(crate) fn first_outside<const DIM: usize>(
+/// walk comes to a free link; none exactly where the walk has no end. It costs the steps of the walk, times the logarithm of
+/// the cell.
+pub(crate) fn walk_end<const DIM: usize>(
     links: &Links<Beta, DIM>,
     link: usize,
     beside: Option<usize>,
     cell: &[Dart],
     from: Dart,
-) -> u32
+) -> Option<u32>
     requires ascending { IsStrictlyIncreasing cell.now }
     requires darts { Contains cell.now 0 → ⊥ }
-    requires ends { (y : ℕ) × DrawsTo (links_of links.now.rows) beside link cell.now from y }
-    ensures { DrawsTo (links_of links.now.rows) beside link cell.now from result }
+    ensures end { IfSome result (λ end. DrawsTo (links_of links.now.rows) beside link cell.now from end) }
+    ensures endless { IfNone result ((y : ℕ) → DrawsTo (links_of links.now.rows) beside link cell.now from y → ⊥) }
 {
     let mut at = from;
-    // The walk comes to no dart twice.
+    // A walk that ends comes to no dart twice.
     for _turn in 0..cell.len() + 1 {
         if !is_among(cell, at) {
-            return at.number();
+            return Some(at.number());
         }
         let Some(next) = across(links, link, beside, at) else {
-            return 0;
+            return Some(0);
         };
         at = next;
     }
-    unreachable!()
-}
-
-/// Whether the walk from a dart by which a link is drawn across a cell leads to another dart. It costs the steps of the walk,
-/// times the logarithm of the cell.
-pub(crate) fn leads_to<const DIM: usize>(
-    links: &Links<Beta, DIM>,
-    link: usize,
-    beside: Option<usize>,
-    cell: &[Dart],
-    from: Dart,
-    to: Dart,
-) -> bool
-    requires ascending { IsStrictlyIncreasing cell.now }
-    requires darts { Contains cell.now 0 → ⊥ }
-    ensures { IsTrue result ↔ DrawsTo (links_of links.now.rows) beside link cell.now from to }
-{
-    let end = to.number();
-    let mut at = from;
-    // A walk that comes to no end comes to some dart twice.
-    for _turn in 0..cell.len() + 1 {
-        if !is_among(cell, at) {
-            return at.number() == end;
-        }
-        let Some(next) = across(links, link, beside, at) else {
-            return false;
-        };
-        at = next;
-    }
-    false
+    None
 }

@@ -7,7 +7,7 @@ ghost use Rattle.cell_edit.specs.Removing.{PlansEnding};
 ghost use Rattle.beta_edit.specs.Crossing.{drawn_step};
 ghost use Rattle.beta_edit.specs.Drawing.{IsDrawn, CanBeDrawn, IsLinkEntry, IsDartEntry, IsCellEntry};
 
-use crate::crossing::{first_outside, is_among};
+use crate::crossing::{is_among, walk_end};
 use link_rows::{Change, Edit, Links};
 use map_kind::{Beta, Dart, Kind};
 use std::alloc::{AllocError, Global};
@@ -106,11 +106,15 @@ fn push_link<const DIM: usize>(
         return Ok(());
     }
     let back = Beta::inverse(link);
+    let Some(end) = walk_end(links, back, beside, darts, dart) else {
+        // Each walk from a remaining dart ends.
+        unreachable!()
+    };
     changes.push(Change {
         dart: other,
         link: back,
         old: dart.number(),
-        new: first_outside(links, back, beside, darts, dart),
+        new: end,
     })?;
     Ok(())
 }
