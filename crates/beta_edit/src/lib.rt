@@ -1,4 +1,4 @@
-//! The edits that insert a vertex or an edge into a combinatorial map, and those that remove or contract a cell.
+//! The edits that remove or contract a cell of a combinatorial map.
 //!
 //! A removal and a contraction end the darts of a cell, and draw links across it. A plan looks at the links and answers the
 //! edit; it changes nothing. What a plan answers is told for both kinds of map at once, in `cell_edit::specs::Planning`.

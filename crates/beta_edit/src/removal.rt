@@ -33,10 +33,11 @@ pub fn removable<const DIM: usize>(
     Ok(can_remove(links, dim, &darts))
 }
 
-/// The edit that removes a dart's cell of dimension `dim`. All its darts end, and the links `dim` of each remaining dart
-/// that led into the cell lead to the first dart outside it on the walk along links `dim + 1` and `dim` in turn, and are free
-/// where the walk comes to a free link; without an edge link 0 leads back where link 1 leads on. Without a vertex a remaining
-/// dart takes the links of the last dart of its run into the vertex. The deaths are ascending; no dart is born.
+/// The edit that removes a dart's cell of dimension `dim`. All its darts end. From dimension 1 on, the link `dim` of each
+/// remaining dart that led into the cell leads to the first dart outside it on the walk along links `dim + 1` and `dim` in
+/// turn, and is free where the walk comes to a free link; without an edge, link 0 leads back where link 1 leads on. Without a
+/// vertex, a remaining dart takes the links of the last dart of its run along link 1 into the vertex. The deaths are
+/// ascending; no dart is born.
 ///
 /// `NotRemovable` comes exactly where the cell cannot be removed, memory aside.
 ///
