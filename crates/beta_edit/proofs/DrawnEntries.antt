@@ -2,7 +2,7 @@
 use Rattle.std.proofs.Common.{ℕ, ◌≡◌, ◌≢◌, ◌+◌, ◌<◌, ◌≤◌, ◌⊎◌, List, [], ◌∷◌, ◌++◌, Option, length, take, slice_index, get_or, Contains, sym, ap, ◌∙◌, subst, inl, inr, append_assoc, arith}
 use Rattle.std.specs.List.Sorted.{IsStrictlyIncreasing}
 use Rattle.std.proofs.lemmas.Bool.{cases_lt}
-use Rattle.std.proofs.lemmas.List.{append-nil, take_all, take_more, get_or-take, get_or_default, length-take}
+use Rattle.std.proofs.lemmas.List.{append-nil, take_more, get_or-take, get_or_default, length-take}
 use Rattle.std.proofs.lemmas.List.Elements.{Contains-append_left, Contains-push, Contains-push_cases}
 use Rattle.map_defs.specs.Kind.{beta, inverse}
 use Rattle.map_defs.specs.Links.{Links}
@@ -85,12 +85,6 @@ module _ (L : Links) (beside : Option ℕ) (keys : List ℕ) where
       other (sym (w.back s b some) ∙ ap (L (inverse beta s)) (sym e.0) ∙ ap (λ r. L r d) (sym e.2 ∙ f.2) ∙ ap (L (inverse beta u)) f.0 ∙ w.back u x some')
 
   -- ---- the links of a dart, one after another
-  pub dart-none : (b : ℕ) (cs : List Change) → Appends L (IsDartEntry L beside keys 0 b) cs cs
-  dart-none b cs = appends-none L (IsDartEntry L beside keys 0 b) cs (λ d t y e. omega (arith, e.1))
-
-  pub dart-all : (b m n : ℕ) (a c : List Change) → m ≡ n → Appends L (IsDartEntry L beside keys m b) a c → Appends L (IsDartEntry L beside keys n b) a c
-  dart-all b m n a c e has = subst (λ k. Appends L (IsDartEntry L beside keys k b) a c) e has
-
   pub dart-more : (b m : ℕ) (a c f : List Change) → Contains keys b → Appends L (IsDartEntry L beside keys m b) a c → Appends L (IsLinkEntry L beside keys b m) c f → Appends L (IsDartEntry L beside keys (m + 1) b) a f
   dart-more b m a c f key (first, grown, writes) (then, again, behind) = (
     first ++ then,
@@ -110,9 +104,6 @@ module _ (L : Links) (beside : Option ℕ) (keys : List ℕ) where
       from d t y e (inr above) = let same : e.0 ≡ m = (let h = e.1 in omega arith) in inr (subst (λ s. IsLinkEntry L beside keys b s d t y) same e.2)
 
   -- ---- one dart after another
-  pub cell-none : (m : ℕ) → WritesEntries L (IsCellEntry L beside keys m (take 0 keys)) []
-  cell-none m = writes-none L (IsCellEntry L beside keys m (take 0 keys)) (λ d t y e. omega (arith, length-take 0 keys, e.1.1))
-
   listed-apart : (q x u : ℕ) → IsStrictlyIncreasing keys → q < length keys → x ≡ get_or keys q x → Contains (take q keys) u → u ≢ x
   listed-apart q x u up low at has e =
       let p : ℕ = has.0 in
@@ -145,6 +136,3 @@ module _ (L : Links) (beside : Option ℕ) (keys : List ℕ) where
       from : (d t y : ℕ) (e : IsCellEntry L beside keys m (take (q + 1) keys) d t y) → Contains (take q keys) e.0 ⊎ (x ≡ e.0) → IsCellEntry L beside keys m (take q keys) d t y ⊎ IsDartEntry L beside keys m x d t y
       from d t y e (inl had) = inl (e.0, had, e.2)
       from d t y e (inr is) = inr (subst (λ u. IsDartEntry L beside keys m u d t y) (sym is) e.2)
-
-  pub cell-all : (m q : ℕ) (cs : List Change) → length keys ≤ q → WritesEntries L (IsCellEntry L beside keys m (take q keys)) cs → WritesEntries L (IsCellEntry L beside keys m keys) cs
-  cell-all m q cs past writes = subst (λ ks. WritesEntries L (IsCellEntry L beside keys m ks) cs) (take_all q keys past) writes
