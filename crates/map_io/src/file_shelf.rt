@@ -58,15 +58,15 @@ impl<S: Opener> Shelf for FileShelf<S> {
 
     fn fetch(&mut self, alloc: Global, name: &str, limit: u64) -> Result<Vec<u8>, FetchFault>
         requires { limit < 2 ^ 64 - 1 }
-        ensures bytes { IsFetched (⟦<FileShelf<S> as Shelf>⟧.holds self.old) name.now limit result }
+        ensures bytes { IsFetched (⟦<Self as Shelf>⟧.holds self.old) name.now limit result }
         // of a file that is too long, one byte more than the limit was seen
         ensures most { (seen : ℕ) → IsErrOf result (FetchFault.TooLong seen) → seen ≡ limit + 1 }
-        ensures same { ⟦<FileShelf<S> as Shelf>⟧.holds self.new ≡ ⟦<FileShelf<S> as Shelf>⟧.holds self.old }
-        ensures cause { HasCause (⟦<FileShelf<S> as Shelf>⟧.faults self.old) (⟦<FileShelf<S> as Shelf>⟧.faults self.new)
+        ensures same { ⟦<Self as Shelf>⟧.holds self.new ≡ ⟦<Self as Shelf>⟧.holds self.old }
+        ensures cause { HasCause (⟦<Self as Shelf>⟧.faults self.old) (⟦<Self as Shelf>⟧.faults self.new)
             (IsErrOf result FetchFault.Failed) }
         // a fault is counted only where the call fails
         ensures quiet { result ≢ Err FetchFault.Failed →
-            ⟦<FileShelf<S> as Shelf>⟧.faults self.new ≡ ⟦<FileShelf<S> as Shelf>⟧.faults self.old }
+            ⟦<Self as Shelf>⟧.faults self.new ≡ ⟦<Self as Shelf>⟧.faults self.old }
         // the call fails only where the file cannot be opened or read
         ensures failed { IsErrOf result FetchFault.Failed → S.fails (system_of self.old) name.now }
     {
