@@ -1,7 +1,7 @@
 //! A shelf over files that are opened by their names, and so over those of the system.
 ghost use Rattle.std.specs.Prelude.{◌≡◌, ◌≢◌, ℕ, ◌++◌, ◌+◌, ◌-◌, ◌^◌, ◌<◌, ◌≤◌, List, None, length, IfOk, IfErr, IsErrOf};
 ghost use Rattle.std.specs.Io.KnownBytes.{Consumes, IsAtEnd};
-ghost use Rattle.map_io.specs.Cause.{HasCause};
+ghost use Rattle.map_io.specs.Cause.{HasCause, IsCounted};
 ghost use Rattle.map_io.specs.Fetched.{IsFetched, IsReadWhole};
 ghost use Rattle.map_io.specs.FileShelf.{system_of};
 
@@ -64,9 +64,8 @@ impl<S: Opener> Shelf for FileShelf<S> {
         ensures same { ⟦<Self as Shelf>⟧.holds self.new ≡ ⟦<Self as Shelf>⟧.holds self.old }
         ensures cause { HasCause (⟦<Self as Shelf>⟧.faults self.old) (⟦<Self as Shelf>⟧.faults self.new)
             (IsErrOf result FetchFault.Failed) }
-        // a fault is counted only where the call fails
-        ensures quiet { result ≢ Err FetchFault.Failed →
-            ⟦<Self as Shelf>⟧.faults self.new ≡ ⟦<Self as Shelf>⟧.faults self.old }
+        ensures counted { IsCounted (⟦<Self as Shelf>⟧.faults self.old) (⟦<Self as Shelf>⟧.faults self.new)
+            (IsErrOf result FetchFault.Failed) }
         // the call fails only where the file cannot be opened or read
         ensures failed { IsErrOf result FetchFault.Failed → S.fails (system_of self.old) name.now }
     {

@@ -3,7 +3,7 @@ ghost use Rattle.std.specs.Prelude.{◌≡◌, ◌≢◌, ℕ, ◌⊎◌, ◌++�
 ghost use Rattle.std.specs.Io.KnownBytes.{Appends, Keeps};
 ghost use Rattle.machine_defs.specs.Outside.{Appended};
 ghost use Rattle.map_io.specs.Put.{IsPut};
-ghost use Rattle.map_io.specs.Cause.{HasCause};
+ghost use Rattle.map_io.specs.Cause.{HasCause, IsCounted};
 
 use crate::device::Target;
 use crate::{PutFault, Sink};
@@ -144,9 +144,8 @@ impl<W: Target> Sink for WriterSink<W> {
             × IsPut piece.now result text }
         ensures cause { HasCause (⟦<Self as Sink>⟧.faults self.old) (⟦<Self as Sink>⟧.faults self.new)
             (IsErrOf result PutFault.Failed) }
-        // a fault is counted only where the call fails
-        ensures quiet { result ≢ Err PutFault.Failed →
-            ⟦<Self as Sink>⟧.faults self.new ≡ ⟦<Self as Sink>⟧.faults self.old }
+        ensures counted { IsCounted (⟦<Self as Sink>⟧.faults self.old) (⟦<Self as Sink>⟧.faults self.new)
+            (IsErrOf result PutFault.Failed) }
         // the call fails only where the writer does, or after a fault
         ensures failed { IsErrOf result PutFault.Failed →
             (0 < ⟦<Self as Sink>⟧.faults self.old) ⊎ W.failed (writer_of self.new) }
@@ -178,8 +177,8 @@ impl<W: Target> Sink for WriterSink<W> {
         ensures has_all { OnOk result
             (Keeps (⟦<Self as Sink>⟧.written self.old) (W.contents (writer_of self.new))) }
         ensures flushed { OnOk result (W.flushed (writer_of self.new)) }
-        ensures quiet { result ≢ Err PutFault.Failed →
-            ⟦<Self as Sink>⟧.faults self.new ≡ ⟦<Self as Sink>⟧.faults self.old }
+        ensures counted { IsCounted (⟦<Self as Sink>⟧.faults self.old) (⟦<Self as Sink>⟧.faults self.new)
+            (IsErrOf result PutFault.Failed) }
         ensures failed { IsErrOf result PutFault.Failed →
             (0 < ⟦<Self as Sink>⟧.faults self.old) ⊎ W.failed (writer_of self.new) }
         ensures stopped { 0 < ⟦<Self as Sink>⟧.faults self.old → IsErrOf result PutFault.Failed
