@@ -184,15 +184,13 @@ impl<W: Target> Sink for WriterSink<W> {
         ensures stopped { 0 < ⟦<Self as Sink>⟧.faults self.old → IsErrOf result PutFault.Failed
             × (writer_of self.new ≡ writer_of self.old) }
     {
-        if self.faults > 0 {
-            return Err(self.fail());
+        if self.faults == 0 {
+            self.hand_on_kept()?;
+            if self.writer.hand_over() {
+                return Ok(());
+            }
         }
-        self.hand_on_kept()?;
-        if self.writer.hand_over() {
-            Ok(())
-        } else {
-            Err(self.fail())
-        }
+        Err(self.fail())
     }
 }
 
