@@ -3,7 +3,7 @@
 //!
 //! The standard library says nothing of when a call fails, nor of what file a name has. These traits do, and the shelf
 //! and the sink are proved over whatever meets them. Only the few lines over the standard library are left to tests.
-ghost use Rattle.std.specs.Prelude.{◌≡◌, ℕ, ◌-◌, ◌<◌, ◌≤◌, List, Option, length, take, IfSome, IfNone, None};
+ghost use Rattle.std.specs.Prelude.{◌≡◌, ℕ, ◌-◌, ◌<◌, ◌≤◌, List, Option, length, take, IfSome, IfNone, OnSome, None};
 ghost use Rattle.std.specs.Bool.{OnTrue, OnFalse};
 ghost use Rattle.std.specs.Io.KnownBytes.{Appends, Consumes, IsAtEnd, Keeps};
 ghost use Rattle.machine_defs.specs.Outside.{Files as FilesHeld};
@@ -21,6 +21,9 @@ pub trait Source {
     /// Reading them may fail, now or later.
     ghost fails: { Self → Type 0 };
 
+    /// All reads so far went well.
+    ghost went_well: { Self → Type 0 };
+
     /// Reads some of the bytes that are left, and answers how many: none only at the end. None is a failure.
     fn read_some(&mut self, chunk: &mut [u8]) -> Option<usize>
         requires { 0 < length chunk.old }
@@ -28,7 +31,8 @@ pub trait Source {
             × Consumes (left self.old) (left self.new) (take count chunk.new)) }
         ensures end { IfSome result (λ count. count ≡ 0 → IsAtEnd (left self.new)) }
         ensures failed { IfNone result (Keeps (left self.old) (left self.new) × fails self.old) }
-        ensures later { fails self.new → fails self.old };
+        ensures later { fails self.new → fails self.old }
+        ensures well { went_well self.old → OnSome result (went_well self.new) };
 }
 
 /// Something that opens files by their names.
@@ -45,6 +49,7 @@ pub trait Opener {
     fn open_by_name(&self, name: &str) -> Option<Self::File>
         ensures opened { IfSome result (λ file. IsOpened (files self.now) name.now (Self.File.left file)) }
         ensures later { IfSome result (λ file. Self.File.fails file → fails self.now name.now) }
+        ensures well { IfSome result (λ file. Self.File.went_well file) }
         ensures failed { IfNone result (fails self.now name.now) };
 }
 
@@ -77,6 +82,8 @@ impl<F: Read> Source for F {
     ghost left = { F.remaining };
 
     ghost fails = { λ _. Unit {0} };
+
+    ghost went_well = { λ _. Unit {0} };
 
     fn read_some(&mut self, chunk: &mut [u8]) -> Option<usize> {
         for _ in 0..u64::MAX {

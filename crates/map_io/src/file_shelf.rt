@@ -41,6 +41,7 @@ impl<S: Opener> FileShelf<S> {
         ensures bytes { IsFetched (S.files self.now.system) name.now limit result }
         ensures most { (seen : ℕ) → IsErrOf result (FetchFault.TooLong seen) → seen ≡ limit + 1 }
         ensures failed { IsErrOf result FetchFault.Failed → S.fails self.now.system name.now }
+        ensures well { result ≢ Err FetchFault.Failed → (file : S.File) × S.File.went_well file }
     {
         match self.system.open_by_name(name) {
             Some(mut file) => read_whole(alloc, &mut file, limit),
@@ -68,6 +69,8 @@ impl<S: Opener> Shelf for FileShelf<S> {
             (IsErrOf result FetchFault.Failed) }
         // the call fails only where the file cannot be opened or read
         ensures failed { IsErrOf result FetchFault.Failed → S.fails (system_of self.old) name.now }
+        // any other answer comes only where a file was opened, and all reads went well
+        ensures well { result ≢ Err FetchFault.Failed → (file : S.File) × S.File.went_well file }
     {
         match self.read_file(alloc, name, limit) {
             Ok(bytes) => Ok(bytes),
@@ -92,6 +95,7 @@ fn read_whole<F: Source>(
     // whatever the answer, no more than one byte beyond the limit is taken
     ensures taken { (part : List ℕ) × Consumes (F.left file.old) (F.left file.new) part × (length part ≤ limit + 1) }
     ensures failed { IsErrOf result FetchFault.Failed → F.fails file.old }
+    ensures well { F.went_well file.old → result ≢ Err FetchFault.Failed → F.went_well file.new }
 {
     let mut bytes = Vec::new(alloc);
     let mut chunk = [0; CHUNK];
@@ -123,6 +127,7 @@ fn append_some<F: Source>(
     ensures fault { (seen : ℕ) → result ≢ Err (FetchFault.TooLong seen) }
     ensures failed { IsErrOf result FetchFault.Failed → F.fails file.old }
     ensures later { F.fails file.new → F.fails file.old }
+    ensures well { F.went_well file.old → result ≢ Err FetchFault.Failed → F.went_well file.new }
 {
     match file.read_some(chunk) {
         Some(count) => match bytes.extend_from_slice(&chunk[..count]) {

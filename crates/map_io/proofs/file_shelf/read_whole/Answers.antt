@@ -42,4 +42,5 @@ loop-bytes-preserved g c =
       most = search (rules, places);
       read = Consumes-part _ _ _ _ _ part.0 c.loop-bytes.invariant.read part.3.1 part.1;
       later = search rules;
+      well = search rules;
     }
