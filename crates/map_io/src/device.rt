@@ -18,8 +18,8 @@ pub trait Source {
     /// The bytes that are left to read, if they are told.
     ghost left: { Self → Option (List ℕ) };
 
-    /// Reading them may fail, now or later.
-    ghost fails: { Self → Type 0 };
+    /// The last read failed.
+    ghost failed: { Self → Type 0 };
 
     /// All reads so far went well.
     ghost went_well: { Self → Type 0 };
@@ -30,8 +30,7 @@ pub trait Source {
         ensures read { IfSome result (λ count. (count ≤ length chunk.new)
             × Consumes (left self.old) (left self.new) (take count chunk.new)) }
         ensures end { IfSome result (λ count. count ≡ 0 → IsAtEnd (left self.new)) }
-        ensures failed { IfNone result (Keeps (left self.old) (left self.new) × fails self.old) }
-        ensures later { fails self.new → fails self.old }
+        ensures failed { IfNone result (Keeps (left self.old) (left self.new) × failed self.new) }
         ensures well { went_well self.old → OnSome result (went_well self.new) };
 }
 
@@ -42,13 +41,12 @@ pub trait Opener {
     /// The files that can be opened, if they are told.
     ghost files: { Self → Option FilesHeld };
 
-    /// The file of this name may not open, or reading it may fail.
+    /// Opening the file of this name may fail.
     ghost fails: { Self → List ℕ → Type 0 };
 
     /// Opens the file of this name. None is a failure.
     fn open_by_name(&self, name: &str) -> Option<Self::File>
         ensures opened { IfSome result (λ file. IsOpened (files self.now) name.now (Self.File.left file)) }
-        ensures later { IfSome result (λ file. Self.File.fails file → fails self.now name.now) }
         ensures well { IfSome result (λ file. Self.File.went_well file) }
         ensures failed { IfNone result (fails self.now name.now) };
 }
@@ -81,7 +79,7 @@ pub trait Target {
 impl<F: Read> Source for F {
     ghost left = { F.remaining };
 
-    ghost fails = { λ _. Unit {0} };
+    ghost failed = { λ _. Unit {0} };
 
     ghost went_well = { λ _. Unit {0} };
 

@@ -1,5 +1,5 @@
 //! A shelf over files that are opened by their names, and so over those of the system.
-ghost use Rattle.std.specs.Prelude.{◌≡◌, ◌≢◌, ℕ, ◌++◌, ◌+◌, ◌-◌, ◌^◌, ◌<◌, ◌≤◌, List, None, length, IfOk, IfErr, IsErrOf};
+ghost use Rattle.std.specs.Prelude.{◌≡◌, ◌≢◌, ℕ, ◌⊎◌, ◌++◌, ◌+◌, ◌-◌, ◌^◌, ◌<◌, ◌≤◌, List, None, length, IfOk, IfErr, IsErrOf};
 ghost use Rattle.std.specs.Io.KnownBytes.{Consumes, IsAtEnd};
 ghost use Rattle.map_io.specs.Cause.{HasCause, IsCounted};
 ghost use Rattle.map_io.specs.Fetched.{IsFetched, IsReadWhole};
@@ -40,7 +40,8 @@ impl<S: Opener> FileShelf<S> {
         requires { limit < 2 ^ 64 - 1 }
         ensures bytes { IsFetched (S.files self.now.system) name.now limit result }
         ensures most { (seen : ℕ) → IsErrOf result (FetchFault.TooLong seen) → seen ≡ limit + 1 }
-        ensures failed { IsErrOf result FetchFault.Failed → S.fails self.now.system name.now }
+        ensures failed { IsErrOf result FetchFault.Failed →
+            S.fails self.now.system name.now ⊎ ((file : S.File) × S.File.failed file) }
         ensures well { result ≢ Err FetchFault.Failed → (file : S.File) × S.File.went_well file }
     {
         match self.system.open_by_name(name) {
@@ -67,9 +68,10 @@ impl<S: Opener> Shelf for FileShelf<S> {
             (IsErrOf result FetchFault.Failed) }
         ensures counted { IsCounted (⟦<Self as Shelf>⟧.faults self.old) (⟦<Self as Shelf>⟧.faults self.new)
             (IsErrOf result FetchFault.Failed) }
-        // the call fails only where the file cannot be opened or read
-        ensures failed { IsErrOf result FetchFault.Failed → S.fails (system_of self.old) name.now }
-        // any other answer comes only where a file was opened, and all reads went well
+        // the call fails only where the file does not open or a read of it fails
+        ensures failed { IsErrOf result FetchFault.Failed →
+            S.fails (system_of self.old) name.now ⊎ ((file : S.File) × S.File.failed file) }
+        // any other answer comes only where a file opened and all reads of it went well
         ensures well { result ≢ Err FetchFault.Failed → (file : S.File) × S.File.went_well file }
     {
         match self.read_file(alloc, name, limit) {
@@ -84,17 +86,13 @@ impl<S: Opener> Shelf for FileShelf<S> {
 }
 
 /// The bytes that are left to read, if there are at most `limit` of them. It reads at most one byte more than that.
-fn read_whole<F: Source>(
-    alloc: Global,
-    file: &mut F,
-    limit: u64,
-) -> Result<Vec<u8>, FetchFault>
+fn read_whole<F: Source>(alloc: Global, file: &mut F, limit: u64) -> Result<Vec<u8>, FetchFault>
     requires { limit < 2 ^ 64 - 1 }
     ensures bytes { IsReadWhole (F.left file.old) limit result }
     ensures most { (seen : ℕ) → IsErrOf result (FetchFault.TooLong seen) → seen ≡ limit + 1 }
     // whatever the answer, no more than one byte beyond the limit is taken
     ensures taken { (part : List ℕ) × Consumes (F.left file.old) (F.left file.new) part × (length part ≤ limit + 1) }
-    ensures failed { IsErrOf result FetchFault.Failed → F.fails file.old }
+    ensures failed { IsErrOf result FetchFault.Failed → F.failed file.new }
     ensures well { F.went_well file.old → result ≢ Err FetchFault.Failed → F.went_well file.new }
 {
     let mut bytes = Vec::new(alloc);
@@ -125,8 +123,7 @@ fn append_some<F: Source>(
         × IfOk result (λ count. (length part ≡ count) × (bytes.new.items ≡ bytes.old.items ++ part)) }
     ensures end { IfOk result (λ count. count ≡ 0 → IsAtEnd (F.left file.new)) }
     ensures fault { (seen : ℕ) → result ≢ Err (FetchFault.TooLong seen) }
-    ensures failed { IsErrOf result FetchFault.Failed → F.fails file.old }
-    ensures later { F.fails file.new → F.fails file.old }
+    ensures failed { IsErrOf result FetchFault.Failed → F.failed file.new }
     ensures well { F.went_well file.old → result ≢ Err FetchFault.Failed → F.went_well file.new }
 {
     match file.read_some(chunk) {

@@ -41,6 +41,5 @@ loop-bytes-preserved g c =
     let part = c.in_ok-count.ensures.read in record {
       most = search (rules, places);
       read = Consumes-part _ _ _ _ _ part.0 c.loop-bytes.invariant.read part.3.1 part.1;
-      later = search rules;
       well = search rules;
     }

@@ -7,7 +7,6 @@ abbrev pub invariant-loop-bytes : goal.invariant-loop-bytes
 invariant-loop-bytes g l = record {
   most : length l.bytes.items ≤ l.limit;
   read : Consumes (g.F.Source.left l.initial.file) (g.F.Source.left l.file) l.bytes.items;
-  later : g.F.Source.fails l.file → g.F.Source.fails l.initial.file;
   well : g.F.Source.went_well l.initial.file → g.F.Source.went_well l.file;
 }
 
