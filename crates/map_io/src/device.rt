@@ -46,7 +46,8 @@ pub trait Opener {
 
     /// Opens the file of this name. None is a failure.
     fn open_by_name(&self, name: &str) -> Option<Self::File>
-        ensures opened { IfSome result (λ file. IsOpened (files self.now) name.now (Self.File.left file)) }
+        ensures opened { IfSome result
+            (λ file. IsOpened (files self.now) name.now (Self.File.left file)) }
         ensures well { IfSome result (λ file. Self.File.went_well file) }
         ensures failed { IfNone result (fails self.now name.now) };
 }
@@ -67,7 +68,8 @@ pub trait Target {
         requires { 0 < length text.now }
         ensures written { IfSome result (λ count. (0 < count) × (count ≤ length text.now)
             × Appends (contents self.old) (contents self.new) (take count text.now)) }
-        ensures failed { IfNone result (Keeps (contents self.old) (contents self.new) × failed self.new) };
+        ensures failed { IfNone result
+            (Keeps (contents self.old) (contents self.new) × failed self.new) };
 
     /// Hands on what it took. False is a failure.
     fn hand_over(&mut self) -> bool

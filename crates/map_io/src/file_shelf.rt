@@ -91,7 +91,8 @@ fn read_whole<F: Source>(alloc: Global, file: &mut F, limit: u64) -> Result<Vec<
     ensures bytes { IsReadWhole (F.left file.old) limit result }
     ensures most { (seen : ℕ) → IsErrOf result (FetchFault.TooLong seen) → seen ≡ limit + 1 }
     // whatever the answer, no more than one byte beyond the limit is taken
-    ensures taken { (part : List ℕ) × Consumes (F.left file.old) (F.left file.new) part × (length part ≤ limit + 1) }
+    ensures taken { (part : List ℕ) × Consumes (F.left file.old) (F.left file.new) part
+        × (length part ≤ limit + 1) }
     ensures failed { IsErrOf result FetchFault.Failed → F.failed file.new }
     ensures well { F.went_well file.old → result ≢ Err FetchFault.Failed → F.went_well file.new }
 {
@@ -119,18 +120,20 @@ fn append_some<F: Source>(
     bytes: &mut Vec<u8>,
 ) -> Result<usize, FetchFault>
     requires { 0 < length chunk.old }
-    ensures read { (part : List ℕ) × Consumes (F.left file.old) (F.left file.new) part × (length part ≤ length chunk.old)
-        × IfOk result (λ count. (length part ≡ count) × (bytes.new.items ≡ bytes.old.items ++ part)) }
+    ensures read { (part : List ℕ) × Consumes (F.left file.old) (F.left file.new) part
+        × (length part ≤ length chunk.old)
+        × IfOk result (λ count. (length part ≡ count)
+        × (bytes.new.items ≡ bytes.old.items ++ part)) }
     ensures end { IfOk result (λ count. count ≡ 0 → IsAtEnd (F.left file.new)) }
     ensures fault { (seen : ℕ) → result ≢ Err (FetchFault.TooLong seen) }
     ensures failed { IsErrOf result FetchFault.Failed → F.failed file.new }
     ensures well { F.went_well file.old → result ≢ Err FetchFault.Failed → F.went_well file.new }
 {
-    match file.read_some(chunk) {
-        Some(count) => match bytes.extend_from_slice(&chunk[..count]) {
-            Ok(()) => Ok(count),
-            Err(_) => Err(FetchFault::NoMemory),
-        },
-        None => Err(FetchFault::Failed),
+    let Some(count) = file.read_some(chunk) else {
+        return Err(FetchFault::Failed);
+    };
+    match bytes.extend_from_slice(&chunk[..count]) {
+        Ok(()) => Ok(count),
+        Err(_) => Err(FetchFault::NoMemory),
     }
 }
