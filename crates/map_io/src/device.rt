@@ -3,7 +3,7 @@
 //!
 //! The standard library says nothing of when a call fails, nor of what file a name has. These traits do, and the shelf
 //! and the sink are proved over whatever meets them. Only the few lines over the standard library are left to tests.
-ghost use Rattle.std.specs.Prelude.{◌≡◌, ℕ, ◌-◌, ◌<◌, ◌≤◌, List, Option, length, take, IfSome, IfNone, OnSome, None};
+ghost use Rattle.std.specs.Prelude.{◌≡◌, ℕ, ◌<◌, ◌≤◌, List, Option, length, take, IfSome, IfNone, OnSome, None};
 ghost use Rattle.std.specs.Bool.{OnTrue, OnFalse};
 ghost use Rattle.std.specs.Io.KnownBytes.{Appends, Consumes, IsAtEnd, Keeps};
 ghost use Rattle.machine_defs.specs.Outside.{Files as FilesHeld};

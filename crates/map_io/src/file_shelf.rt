@@ -1,5 +1,5 @@
 //! A shelf over files that are opened by their names, and so over those of the system.
-ghost use Rattle.std.specs.Prelude.{◌≡◌, ◌≢◌, ℕ, ◌⊎◌, ◌++◌, ◌+◌, ◌-◌, ◌^◌, ◌<◌, ◌≤◌, List, None, length, IfOk, IfErr, IsErrOf};
+ghost use Rattle.std.specs.Prelude.{◌≡◌, ◌≢◌, ℕ, ◌⊎◌, ◌++◌, ◌+◌, ◌-◌, ◌^◌, ◌<◌, ◌≤◌, List, None, length, IfOk, IsErrOf};
 ghost use Rattle.std.specs.Io.KnownBytes.{Consumes, IsAtEnd};
 ghost use Rattle.map_io.specs.Cause.{HasCause, IsCounted};
 ghost use Rattle.map_io.specs.Fetched.{IsFetched, IsReadWhole};
