@@ -6,24 +6,15 @@ ghost use Rattle.text_lines.specs.Writing.{Appends};
 ghost use Rattle.script_text.specs.Meanings.{reply_meaning};
 ghost use Rattle.script_text.specs.ReplyEnds.{reply-ends};
 
-use map_kind::{Dart, Refusal, Value};
+use map_kind::{Dart, Done, Refusal, Value};
 use std::alloc::{AllocError, Global};
 use text_lines::{TextLine, append_spaced};
-
-/// The darts that a changing line made: they are numbered on from the first.
-#[derive(Clone, Copy, Debug, PartialEq, Eq)]
-pub struct Births {
-    /// The number of the first dart. Where no dart was made the machine tells 0, and nothing is written.
-    pub first: u32,
-    /// How many darts were made, 0 where none was.
-    pub count: u32,
-}
 
 /// The reply to a line, of one line of text.
 #[derive(Debug, PartialEq, Eq, Drop)]
 pub enum Reply {
-    /// A changing line was obeyed.
-    Done(Births),
+    /// A changing line was obeyed. Where it made no dart, no numbers are written.
+    Done(Done),
     /// The answer to a question of yes or no.
     Truth(bool),
     /// The darts of a cell, as they are written; a map tells them in ascending order.
@@ -51,7 +42,7 @@ impl TextLine for Reply {
 
     fn append_to(&self, text: &mut Vec<u8>) -> Result<(), AllocError> {
         match self {
-            Reply::Done(births) => append_done(text, *births),
+            Reply::Done(done) => append_done(text, *done),
             Reply::Truth(answer) => append_truth(text, *answer),
             Reply::Cell(darts) => append_cell(text, darts.as_slice()),
             Reply::Count(counts) => append_count(text, counts.as_slice()),
@@ -76,13 +67,13 @@ pub fn reply_text(alloc: Global, reply: &Reply) -> Result<Vec<u8>, AllocError>
 }
 
 /// The reply to a changing line: `ok`, and where darts were made the first and how many.
-fn append_done(text: &mut Vec<u8>, births: Births) -> Result<(), AllocError>
-    ensures { Appends text.old.items text.new.items (done_text births.first births.count) result }
+fn append_done(text: &mut Vec<u8>, done: Done) -> Result<(), AllocError>
+    ensures { Appends text.old.items text.new.items (done_text done.first done.count) result }
 {
     text.extend_from_slice(b"ok")?;
-    if births.count != 0 {
-        append_spaced(text, births.first)?;
-        append_spaced(text, births.count)?;
+    if done.count != 0 {
+        append_spaced(text, done.first)?;
+        append_spaced(text, done.count)?;
     }
     text.push(b'\n')?;
     Ok(())
