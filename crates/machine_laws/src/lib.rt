@@ -54,6 +54,17 @@ pub fn one_step()
         → LineNeeds line s → Step hook s line one new → Step hook s line other new' → new ≡ new' }
 {}
 
+/// One step of the machine keeps what every state keeps, and that each content can follow the one before it, whatever the
+/// line: also one that no text writes, as a mark whose name has a space.
+///
+/// For whoever calls for a line, and writes no script.
+pub fn steps_keep_the_laws()
+    ensures laws { (hook : Meaning) (s : State) (line : Line) (reply : Reply) (new : State) → IsLawfulState s
+        → Step hook s line reply new → IsLawfulState new }
+    ensures trace { (hook : Meaning) (s : State) (line : Line) (reply : Reply) (new : State) → IsLawfulState s → AreTraced s
+        → Step hook s line reply new → AreTraced new }
+{}
+
 /// Every state of a run keeps what the first one keeps: each content is a lawful map, whose entries name live darts, with
 /// equal values on each cell and none in a dimension without a rule; and each mark has a name of its own, and its copy is
 /// the content at its place. The state without darts keeps it, and so does that of a mesh.
