@@ -129,7 +129,8 @@ pub fn listed_totals_stay()
 
 /// New darts that are linked among each other alone, as `polygon` and `dart` make them, change no value. In each dimension
 /// the values after them are carried from those before, where these are within 64 bits: under each rule of the table if the
-/// hook leaves whole what is not split, and under `sum share` whatever the hook does. And a listing shows the same values.
+/// hook leaves whole what is not split, and under `sum share` whatever the hook does. And a listing shows the same values,
+/// so that each total stays.
 ///
 /// For whoever follows the total of a dimension through a script, line by line: of the lines that change links the machine
 /// says itself that values are carried, and here it is said of these two.
