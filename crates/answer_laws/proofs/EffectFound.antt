@@ -1,6 +1,5 @@
 -- Where a line passes its checks, it has an effect.
-use Rattle.std.proofs.Common.{◌≡◌, ◌≢◌, ℕ, zero, suc, ◌+◌, ◌*◌, ◌<◌, ◌≤◌, List, [], ◌∷◌, ◌++◌, length, drop, Option, Some, None, IsSome, All, refl, subst, inl, inr}
-use Rattle.std.proofs.lemmas.Bool.{cases_lt}
+use Rattle.std.proofs.Common.{◌≡◌, ◌≢◌, ℕ, ◌+◌, ◌*◌, ◌≤◌, List, [], ◌∷◌, ◌++◌, length, drop, Option, Some, None, IsSome, All, refl, subst, inl}
 use Rattle.std.proofs.lemmas.List.{drop-append-le}
 use Rattle.std.proofs.lemmas.List.Elements.{All-contains, All-push, All-drop, All-weaker}
 use Rattle.map_defs.specs.Links.{Links}
@@ -26,6 +25,8 @@ use Rattle.machine_laws.specs.Tracing.{AreTraced}
 use Rattle.machine_laws.proofs.Judging.{AllPass}
 use Rattle.machine_laws.proofs.Keeping.{laws-of, dead-at}
 use Rattle.machine_laws.proofs.Marked.{at-mark}
+use Rattle.machine_laws.proofs.OneStep.{not-above}
+use Rattle.machine_laws.proofs.Traced.{follow-rest}
 use Rattle.answer_laws.specs.Answering.{NotNot, AnswerNeeds}
 use Rattle.answer_laws.proofs.Checked.{Has}
 use Rattle.answer_laws.proofs.Questions.{tells_found, cell_found, counts_found, values_listed}
@@ -36,22 +37,12 @@ use Rattle.answer_laws.proofs.DualFound.{dual_found}
 use Rattle.answer_laws.proofs.RemovedFound.{removed_found, contracted_found}
 use Rattle.answer_laws.proofs.GrownFound.{vertex_found, edge_found, face_found}
 
-not-above : {a b : ℕ} → (a < b → ⊥) → b ≤ a
-not-above {a} {b} h = elim (cases_lt a b) [ inl less ↦ absurd (h less) | inr more ↦ more ]
-
 some-is : {X : Type 0} (o : Option X) → IsSome o → (x : X) × (o ≡ Some x)
 some-is None h = absurd (cc (h))
 some-is (Some x) h = (x, refl)
 
 gives : (answer : Reply) (next : State) → NotNot (Has (Gives answer next))
 gives answer next never = never (answer, next, (refl, refl))
-
--- the last contents of those that follow one another
-rest-follow : (j : ℕ) (cs : List Content) → AllFollow cs → AllFollow (drop j cs)
-rest-follow zero cs follow = follow
-rest-follow (suc j) [] follow = tt
-rest-follow (suc j) (a ∷ []) follow = rest-follow j [] tt
-rest-follow (suc j) (a ∷ b ∷ more) follow = rest-follow j (b ∷ more) follow.1
 
 module _ (hook : Meaning) (s : State) (kept : IsLawfulState s) where
   abbrev c : Content
@@ -81,7 +72,7 @@ module _ (hook : Meaning) (s : State) (kept : IsLawfulState s) where
   module _ (traced : AreTraced s) (name : List ℕ) (k : ℕ) (mark : Mark) (is : IsMark s.marks name k mark) where
     since-follows : AllFollow (since s mark)
     since-follows = subst AllFollow (drop-append-le mark.place s.past (s.present ∷ []) (at-mark (λ m. m.place ≤ length s.past) s.marks name k mark kept.marked.within is))
-        (rest-follow mark.place (s.past ++ s.present ∷ []) traced)
+        (follow-rest mark.place (s.past ++ s.present ∷ []) traced)
 
     since-begun : All (λ (a : Content). 1 ≤ length a.rows) (since s mark)
     since-begun = All-weaker IsLawfulContent (λ (a : Content). 1 ≤ length a.rows) (λ a lawful. lawful.begun) (since s mark)

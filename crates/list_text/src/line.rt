@@ -1,6 +1,6 @@
 //! The lines of a listing.
-ghost use Rattle.std.specs.Prelude.{◌≡◌, ◌++◌, OnOk};
 ghost use Rattle.machine_defs.specs.Text.{header_line, row_text, value_text};
+ghost use Rattle.text_lines.specs.Writing.{Appends};
 ghost use Rattle.list_text.specs.Lines.{line_text, line-ends};
 
 use crate::{ListRow, ListValue};
@@ -55,7 +55,7 @@ fn append_header(
     made: u32,
     live: usize,
 ) -> Result<(), AllocError>
-    ensures { OnOk result (text.new.items ≡ text.old.items ++ header_line letter dim made live) }
+    ensures { Appends text.old.items text.new.items (header_line letter dim made live) result }
 {
     text.extend_from_slice(b"cellmap 1 ")?;
     text.push(letter)?;
@@ -67,7 +67,8 @@ fn append_header(
 }
 
 fn append_row(text: &mut Vec<u8>, dart: Dart, links: &[u32]) -> Result<(), AllocError>
-    ensures { OnOk result (text.new.items ≡ text.old.items ++ row_text (record { dart = dart; links = links.now })) }
+    ensures { Appends text.old.items text.new.items
+        (row_text (record { dart = dart; links = links.now })) result }
 {
     append_number(text, dart.number())?;
     text.push(b':')?;
@@ -79,8 +80,8 @@ fn append_row(text: &mut Vec<u8>, dart: Dart, links: &[u32]) -> Result<(), Alloc
 }
 
 fn append_value(text: &mut Vec<u8>, dim: u32, place: Place) -> Result<(), AllocError>
-    ensures { OnOk result (text.new.items ≡ text.old.items
-        ++ value_text (record { dim = dim; dart = place.dart; value = place.value })) }
+    ensures { Appends text.old.items text.new.items
+        (value_text (record { dim = dim; dart = place.dart; value = place.value })) result }
 {
     let Place { dart, value } = place;
     text.extend_from_slice(b"val")?;

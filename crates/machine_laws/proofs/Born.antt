@@ -36,14 +36,22 @@ module _ (k : Kind) (L N : Links) (first : ℕ) (low : 1 ≤ first) (old : (t x 
   old-within f None x = below f x
   old-within f (Some j) x = below j (L f x)
 
-  old-cell : (i x y : ℕ) → x < first → InCell k N i x y → InCell k L i x y × (y < first)
+  pub old-cell : (i x y : ℕ) → x < first → InCell k N i x y → InCell k L i x y × (y < first)
   old-cell i x y h here = (here, h)
   old-cell i x y h (onward {x = z} {y = y'} o step) =
       let so = old-cell i x z h o in
       let same = old-through step.0.first step.0.second z so.1 in
       (onward so.0 (step.0, step.1, sym same ∙ step.2, step.3), subst (λ (n : ℕ). n < first) (sym same ∙ step.2) (old-within step.0.first step.0.second z))
 
-  new-cell : (i x y : ℕ) → first ≤ x → InCell k N i x y → first ≤ y
+  pub kept-cell : (i x y : ℕ) → x < first → InCell k L i x y → InCell k N i x y × (y < first)
+  kept-cell i x y h here = (here, h)
+  kept-cell i x y h (onward {x = z} {y = y'} o step) =
+      let so = kept-cell i x z h o in (
+        onward so.0 (step.0, step.1, old-through step.0.first step.0.second z so.1 ∙ step.2, step.3),
+        subst (λ (n : ℕ). n < first) step.2 (old-within step.0.first step.0.second z),
+      )
+
+  pub new-cell : (i x y : ℕ) → first ≤ x → InCell k N i x y → first ≤ y
   new-cell i x y h here = h
   new-cell i x y h (onward {x = z} {y = y'} o step) =
       let so = new-cell i x z h o in
@@ -63,13 +71,13 @@ module _ (c : Content) (kept : IsLawfulContent c) (born : List (List ℕ))
   abbrev rows : Rows
   rows = c.rows
 
-  old-row : (x : ℕ) → x < length rows → get_or next.rows x None ≡ get_or rows x None
+  pub old-row : (x : ℕ) → x < length rows → get_or next.rows x None ≡ get_or rows x None
   old-row x h = get_or_append_left rows (map (λ (row : List ℕ). Some row) born) None x h
 
-  old-link : (t x : ℕ) → x < length rows → links_of next.rows t x ≡ links_of rows t x
+  pub old-link : (t x : ℕ) → x < length rows → links_of next.rows t x ≡ links_of rows t x
   old-link t x h = ap (λ (o : Option (List ℕ)). entry_of o t) (old-row x h)
 
-  below : (t x : ℕ) → links_of rows t x < length rows
+  pub below : (t x : ℕ) → links_of rows t x < length rows
   below t x = elim (same_or_not (links_of rows t x) 0) [
     | inl free ↦ omega (arith, free, kept.begun)
     | inr linked ↦ live-within rows (links_of rows t x) (kept.sound.live t x linked)

@@ -7,6 +7,8 @@ pub mod Keeping
 pub mod Grown
 pub mod GrownLaws
 pub mod Born
+pub mod CellsTold
+pub mod BornValues
 pub mod Ended
 pub mod Begun
 pub mod Dualled

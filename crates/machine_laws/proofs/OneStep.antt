@@ -113,7 +113,7 @@ given-one s i d value one other new new' e f =
 some-one : {X : Type 0} (o : Option X) (x y : X) → o ≡ Some x → o ≡ Some y → x ≡ y
 some-one o x y e f = cc
 
-not-above : {a b : ℕ} → (a < b → ⊥) → b ≤ a
+pub not-above : {a b : ℕ} → (a < b → ⊥) → b ≤ a
 not-above {a} {b} h = elim (cases_lt a b) [ inl less ↦ absurd (h less) | inr more ↦ more ]
 
 -- links that sewing and unsewing make

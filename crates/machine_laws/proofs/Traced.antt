@@ -12,7 +12,7 @@ use Rattle.machine_laws.specs.Tracing.{AreTraced}
 use Rattle.machine_laws.proofs.Marked.{mark-within, mark-copy, left-front}
 
 -- the last contents alone
-follow-rest : (j : ℕ) (cs : List Content) → AllFollow cs → AllFollow (drop j cs)
+pub follow-rest : (j : ℕ) (cs : List Content) → AllFollow cs → AllFollow (drop j cs)
 follow-rest zero cs follow = follow
 follow-rest (suc j) [] follow = tt
 follow-rest (suc j) (a ∷ []) follow = follow-rest j [] tt

@@ -1,18 +1,18 @@
 //! Laws of the plain map machine and of the program's text, over the definitions alone.
 #![tactic(auto)]
 
-ghost use Rattle.std.specs.Prelude.{◌≡◌, ℕ, ◌≤◌, List, IsSome};
+ghost use Rattle.std.specs.Prelude.{◌≡◌, ℕ, ◌≤◌, List, Some, IsSome};
 ghost use Rattle.map_defs.specs.Refusal.{Refusal, number};
 ghost use Rattle.map_defs.specs.Kind.{Kind};
-ghost use Rattle.map_defs.specs.Values.{Meaning};
+ghost use Rattle.map_defs.specs.Values.{Value, Rule, Meaning, meaning_of, KeepsWhole, IsRepresentable};
 ghost use Rattle.map_defs.specs.Rows.{IsLive, links_of};
 ghost use Rattle.map_defs.specs.Laws.{Laws};
 ghost use Rattle.map_defs.specs.Carry.{AreCarried, AreEqualOnCells};
 ghost use Rattle.map_defs.specs.Totals.{sum_share, NoSumLeaves};
 ghost use Rattle.machine_defs.specs.Listing.{ListValue, ListsValues, listed_total};
-ghost use Rattle.machine_defs.specs.State.{Content, State, Mark, value_at, empty_state};
+ghost use Rattle.machine_defs.specs.State.{Content, State, Mark, value_at, with_born, empty_state};
 ghost use Rattle.machine_defs.specs.Loading.{IsLoaded};
-ghost use Rattle.machine_defs.specs.Kept.{IsLawfulState};
+ghost use Rattle.machine_defs.specs.Kept.{IsLawfulContent, IsLawfulState};
 ghost use Rattle.machine_defs.specs.Script.{Line, Undo, Log};
 ghost use Rattle.machine_defs.specs.Text.{Reply, Logged, Refused};
 ghost use Rattle.machine_defs.specs.Machine.{Step, Run, FailsFor, checks};
@@ -52,6 +52,17 @@ pub fn one_step()
         → ReplyNeeds line s → Step hook s line one new → Step hook s line other new' → one ≡ other }
     ensures state { (hook : Meaning) (s : State) (line : Line) (one other : Reply) (new new' : State)
         → LineNeeds line s → Step hook s line one new → Step hook s line other new' → new ≡ new' }
+{}
+
+/// One step of the machine keeps what every state keeps, and that each content can follow the one before it, whatever the
+/// line: also one that no text writes, as a mark whose name has a space.
+///
+/// For whoever calls for a line, and writes no script.
+pub fn steps_keep_the_laws()
+    ensures laws { (hook : Meaning) (s : State) (line : Line) (reply : Reply) (new : State) → IsLawfulState s
+        → Step hook s line reply new → IsLawfulState new }
+    ensures trace { (hook : Meaning) (s : State) (line : Line) (reply : Reply) (new : State) → IsLawfulState s → AreTraced s
+        → Step hook s line reply new → AreTraced new }
 {}
 
 /// Every state of a run keeps what the first one keeps: each content is a lawful map, whose entries name live darts, with
@@ -114,4 +125,25 @@ pub fn listed_totals_stay()
         → NoSumLeaves old.kind i (sum_share hook) (links_of old.rows) (IsLive old.rows) (value_at old i)
         (links_of new.rows) (IsLive new.rows)
         → ListsValues old values → ListsValues new after → listed_total i values ≡ listed_total i after }
+{}
+
+/// New darts that are linked among each other alone, as `polygon` and `dart` make them, change no value. In each dimension
+/// the values after them are carried from those before, where these are within 64 bits: under each rule of the table if the
+/// hook leaves whole what is not split, and under `sum share` whatever the hook does. And a listing shows the same values,
+/// so that each total stays.
+///
+/// For whoever follows the total of a dimension through a script, line by line: of the lines that change links the machine
+/// says itself that values are carried, and here it is said of these two.
+pub fn born_darts_keep_values()
+    ensures carried { (hook : Meaning) (rule : Rule) (i : ℕ) (c : Content) (born : List (List ℕ)) → IsLawfulContent c
+        → IsLawfulContent (with_born c born) → KeepsWhole hook
+        → ((d : ℕ) (v : Value) → value_at c i d ≡ Some v → IsRepresentable v)
+        → AreCarried c.kind i (meaning_of hook rule) (links_of c.rows) (IsLive c.rows) (value_at c i)
+        (links_of (with_born c born).rows) (IsLive (with_born c born).rows) (value_at (with_born c born) i) }
+    ensures shared { (hook : Meaning) (i : ℕ) (c : Content) (born : List (List ℕ)) → IsLawfulContent c
+        → IsLawfulContent (with_born c born) → ((d : ℕ) (v : Value) → value_at c i d ≡ Some v → IsRepresentable v)
+        → AreCarried c.kind i (sum_share hook) (links_of c.rows) (IsLive c.rows) (value_at c i)
+        (links_of (with_born c born).rows) (IsLive (with_born c born).rows) (value_at (with_born c born) i) }
+    ensures listed { (c : Content) (born : List (List ℕ)) (values after : List ListValue) → IsLawfulContent c
+        → IsLawfulContent (with_born c born) → ListsValues c values → ListsValues (with_born c born) after → values ≡ after }
 {}

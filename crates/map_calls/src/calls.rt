@@ -195,6 +195,27 @@ fn turns_a_map_and_goes_back(rt: HostRuntime) -> Result<(), Fail> {
     Ok(())
 }
 
+/// Two marks are set, and the first is gone back to.
+#[test]
+fn counts_standing_marks(rt: HostRuntime) -> Result<(), Fail> {
+    let alloc = rt.alloc();
+    let mut map = Map::<'_, Alpha, FirstCopy, 2>::new(alloc, &FirstCopy);
+    let name = "begin";
+    check_lines(
+        &rt,
+        alloc,
+        &mut map,
+        &[
+            (Line::Mark { name }, DONE),
+            (Line::Dart, made(1, 1)),
+            (Line::Mark { name: "end" }, DONE),
+            (Line::Undo { name }, DONE),
+        ],
+    );
+    assert_eq!(&rt; map.mark_count(), 1);
+    Ok(())
+}
+
 #[test]
 fn a_polygon_in_dimension_eight(rt: HostRuntime) -> Result<(), Fail> {
     let alloc = rt.alloc();

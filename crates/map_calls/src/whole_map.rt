@@ -291,10 +291,10 @@ fn make_darts<const DIM: usize>(
     alloc: Global,
     map: &mut Map<'_, Alpha, FirstCopy, DIM>,
 ) -> Result<(), Refused> {
-    map.polygon(alloc, 3)?;
-    map.polygon(alloc, 3)?;
-    map.polygon(alloc, 3)?;
-    map.dart(alloc)?;
+    for _ in 0..3 {
+        obey(alloc, map, &Line::Polygon { sides: 3 })?;
+    }
+    obey(alloc, map, &Line::Dart)?;
     Ok(())
 }
 
@@ -308,7 +308,8 @@ fn set_rules<const DIM: usize>(
 ) -> Result<(), Refused> {
     for dim in 0..map.links().dimension() as u64 + 1 {
         if let Some(rule) = rule_of(first_rule.wrapping_add(dim)) {
-            map.rule(alloc, dim, rule.merge.name(), rule.split.name())?;
+            let (merge, split) = (rule.merge.name(), rule.split.name());
+            obey(alloc, map, &Line::Rule { dim, merge, split })?;
             set_values(alloc, map, dim, random)?;
         }
     }
@@ -322,7 +323,9 @@ fn set_values<const DIM: usize>(
     random: &mut Random,
 ) -> Result<(), Refused> {
     for number in 0..map.links().made() {
-        map.set(alloc, dim, u64::from(number) + 1, random.value())?;
+        let dart = u64::from(number) + 1;
+        let value = random.value();
+        obey(alloc, map, &Line::Set { dim, dart, value })?;
     }
     Ok(())
 }
@@ -338,7 +341,7 @@ fn check_script<const DIM: usize>(
     let mut random = Random { state: first_rule };
     set_rules(alloc, map, first_rule, &mut random)?;
     let mut carrying: u32 = 0;
-    map.mark("begin")?;
+    obey(alloc, map, &Line::Mark { name: "begin" })?;
     let begin = standings(alloc, map)?;
     for _ in 0..200 {
         let darts = u64::from(map.links().made());
@@ -347,7 +350,7 @@ fn check_script<const DIM: usize>(
             carrying = carrying.wrapping_add(1);
         }
     }
-    map.undo(alloc, "begin")?;
+    obey(alloc, map, &Line::Undo { name: "begin" })?;
     let end = standings(alloc, map)?;
     assert_eq!(rt; end.as_slice(), begin.as_slice());
     Ok(carrying)

@@ -5,20 +5,24 @@ use Rattle.map_kind.specs.declared.refusal.Refusal.TheVariants as told_as
 use Rattle.map_kind.specs.declared.refusal.Refused.{Refused}
 use Rattle.map_kind.specs.declared.refusal.Refused.TheVariants as why
 use Rattle.map_defs.specs.Values.{Meaning}
-use Rattle.machine_defs.specs.State.{Content}
-use Rattle.machine_defs.specs.Marking.{since}
+use Rattle.machine_defs.specs.State.{Content, Mark as SetMark}
+use Rattle.machine_defs.specs.Marking.{IsMark, since}
 use Rattle.machine_defs.specs.Difference.{Difference, AreDifferences}
 use Rattle.map_defs.specs.Refusal.{NoMark}
 use Rattle.machine_defs.specs.Script.{Mark, Log}
 use Rattle.machine_defs.specs.Machine.{Step}
 use Rattle.machine_defs.specs.Text as text
+use Rattle.journal_laws.specs.Following.{all_put_forward, all_taken_back}
+use Rattle.machine_laws.proofs.Traced.{leads-back, leads-forward}
 use Rattle.trail_laws.specs.Trails as trails
 use Rattle.trail_laws.specs.Trails.{Trail, steps_since, IsOrdered, marked}
 use Rattle.trail_laws.specs.Told.{told, IsTraced}
-use Rattle.trail_laws.proofs.Naming.{names-told, mark-told, mark-stands}
+use Rattle.trail_laws.proofs.Naming.{names-told, mark-told, mark-stands, trail-mark, all-kept}
+use Rattle.trail_laws.proofs.Reading.{past-follow}
 use Rattle.trail_laws.proofs.Marking.{told-marked}
 use Rattle.trail_laws.proofs.Returning.{differ-since}
 use Rattle.map_core.specs.Calls.{Does}
+use Rattle.map_core.proofs.GoingBack.{one-mark}
 
 module _ (now : Content) (t : Trail) (h : IsTraced now t) (o : IsOrdered t) (hook : Meaning) (name : List ℕ) where
   -- a mark that is refused
@@ -40,3 +44,17 @@ module _ (now : Content) (t : Trail) (h : IsTraced now t) (o : IsOrdered t) (hoo
 
   pub log-refused : (trails.HasMark t name → ⊥) → Step hook (told now t) (Log name) (text.Refused NoMark) (told now t)
   log-refused none = inl (λ has. none ((names-told now t o name).0 has), refl, refl)
+
+  -- and where they lead
+  module _ (k : ℕ) (named : trails.IsMark t name k) (steps : List Difference) (are : steps ≡ steps_since t k) (i : ℕ) (mark : SetMark) (is : IsMark (told now t).marks name i mark) where
+    differ : AreDifferences (since (told now t) mark) steps
+    differ =
+        let same : i ≡ k = one-mark t o name k i named (trail-mark now t o name i mark is) in
+        subst (AreDifferences (since (told now t) mark)) (ap (steps_since t) same ∙ sym are)
+        (differ-since now t name i h o (mark-stands now t o name i mark is) mark is)
+
+    pub log-back : all_taken_back steps now ≡ mark.content
+    log-back = leads-back (told now t) (all-kept now t o h) (past-follow now t h o) name i mark is steps differ
+
+    pub log-forward : all_put_forward steps mark.content ≡ now
+    log-forward = leads-forward (told now t) (all-kept now t o h) (past-follow now t h o) name i mark is steps differ

@@ -11,7 +11,7 @@ use crate::map::Map;
 use attr_rules::Hook;
 use kind_edit::Edits;
 use link_rows::{Edit, MADE_MAX};
-use map_kind::{Dart, Done, Kind, Refusal, Refused};
+use map_kind::{Dart, Done, Kind, PATH_MAX, Refusal, Refused};
 use std::alloc::Global;
 
 impl<'h, K: Edits<DIM>, H: Hook, const DIM: usize> Map<'h, K, H, DIM> {

@@ -53,7 +53,8 @@ impl<'h, K: Kind, H: Hook, const DIM: usize> Map<'h, K, H, DIM> {
     }
 
     /// The links of the map, to be read. Here can be read what the type keeps: links and back links agree, entries name
-    /// live darts alone, the laws of a map hold, and the values are those of cells.
+    /// live darts alone, the laws of a map hold, and the values are those of cells. What it keeps of the whole state, the
+    /// past and the marks too, can be read at `mark_count`.
     pub fn links(&self) -> &Links<K, DIM>
         ensures rows { result.now.rows ≡ self.now.state.present.rows }
         ensures kind { self.now.state.present.kind ≡ K.kind }

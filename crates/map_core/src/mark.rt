@@ -1,7 +1,12 @@
 //! Marks, and the steps since one.
-ghost use Rattle.std.specs.Prelude.{◌≡◌};
+ghost use Rattle.std.specs.Prelude.{◌≡◌, ℕ, length, IfOk};
+ghost use Rattle.machine_defs.specs.State.{Mark as SetMark};
+ghost use Rattle.machine_defs.specs.Marking.{IsMark};
+ghost use Rattle.machine_defs.specs.Kept.{IsLawfulState};
 ghost use Rattle.machine_defs.specs.Script.{Mark, Log};
 ghost use Rattle.machine_defs.specs.Text.{Logged};
+ghost use Rattle.journal_laws.specs.Following.{all_put_forward, all_taken_back};
+ghost use Rattle.machine_laws.specs.Tracing.{AreTraced};
 ghost use Rattle.map_core.specs.Calls.{Does, AnswersAtOnce};
 
 use crate::map::Map;
@@ -11,6 +16,20 @@ use map_kind::{Done, Kind, Refusal, Refused};
 use undo_journal::Step;
 
 impl<'h, K: Kind, H: Hook, const DIM: usize> Map<'h, K, H, DIM> {
+    /// How many marks stand. It takes no memory. Here can be read what the type keeps of the whole state: the present
+    /// content, those of the past and each mark's copy are lawful maps with one value or none on each cell; no two marks
+    /// have one name, a later mark has no lesser place, and each mark's copy is the content at its place; and each content
+    /// can follow the one before it in one step.
+    ///
+    /// For whoever rests on a law that asks for a lawful state, as those of undo, whatever calls led to it.
+    pub fn mark_count(&self) -> usize
+        ensures count { result ≡ length self.now.state.marks }
+        ensures kept { IsLawfulState self.now.state }
+        ensures traced { AreTraced self.now.state }
+    {
+        self.journal.mark_count()
+    }
+
     /// Sets a mark of this name on the present state, for `undo` to go back to and `log` to tell what was done since. It
     /// costs the length of the name, and what the last undo took back.
     ///
@@ -24,12 +43,17 @@ impl<'h, K: Kind, H: Hook, const DIM: usize> Map<'h, K, H, DIM> {
         Ok(Done::NONE)
     }
 
-    /// What each step changed since the mark of this name was set, oldest first. It takes no memory, and costs a look-up
-    /// of the name.
+    /// What each step changed since the mark of this name was set, oldest first. Taken back from the present content, the
+    /// last first, the steps lead to the mark's copy, where an undo leads; and put forward from the copy they lead to the
+    /// present content. It takes no memory, and costs a look-up of the name.
     ///
     /// Refused as `NoMark` exactly where no mark has the name.
     pub fn log(&self, name: &str) -> Result<&[Step], Refusal>
-        ensures { AnswersAtOnce (H.meaning self.now.hook) self.now.state (Log name.now) (λ steps. Logged steps.now) result }
+        ensures answers { AnswersAtOnce (H.meaning self.now.hook) self.now.state (Log name.now) (λ steps. Logged steps.now) result }
+        ensures back { IfOk result (λ steps. (k : ℕ) → (mark : SetMark) → IsMark self.now.state.marks name.now k mark
+            → all_taken_back steps.now self.now.state.present ≡ mark.content) }
+        ensures forward { IfOk result (λ steps. (k : ℕ) → (mark : SetMark) → IsMark self.now.state.marks name.now k mark
+            → all_put_forward steps.now mark.content ≡ self.now.state.present) }
     {
         see_order(&self.journal);
         match self.journal.entries_since(name) {

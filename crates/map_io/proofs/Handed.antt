@@ -12,12 +12,6 @@ Appended-after None mid last text kept more = tt
 Appended-after (Some before) None last text kept more = absurd kept
 Appended-after (Some before) (Some same) last text kept more = more ∙ ap (λ front. Some (front ++ text)) kept
 
--- nothing was appended
-pub Appended-nothing : (first last : Option (List ℕ)) → Keeps first last → Appended first last []
-Appended-nothing None last kept = tt
-Appended-nothing (Some before) None kept = absurd kept
-Appended-nothing (Some before) (Some same) kept = ap Some (kept ∙ sym (append-nil before))
-
 -- more is kept back
 pub Appended-kept : (held : Option (List ℕ)) (old new piece : List ℕ) → new ≡ old ++ piece → Appended (append_known held old) (append_known held new) piece
 Appended-kept None old new piece more = tt

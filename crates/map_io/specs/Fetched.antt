@@ -21,3 +21,7 @@ IsReadWhole left limit (Ok bytes) = (length bytes.items ≤ limit) × WhereTold 
 IsReadWhole left limit (Err (TooLong seen)) = (limit < seen) × WhereTold left (λ all. limit < length all)
 IsReadWhole left limit (Err Failed) = Unit {0}
 IsReadWhole left limit (Err NoMemory) = Unit {0}
+
+-- A file was opened: what is left of it to read is what the files hold under the name, where they are told.
+abbrev pub IsOpened : Option Files → List ℕ → Option (List ℕ) → Type 0
+IsOpened files name left = WhereTold files (λ all. (bytes : List ℕ) × (held all name ≡ Some bytes) × (left ≡ Some bytes))

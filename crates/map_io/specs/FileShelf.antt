@@ -1,7 +1,6 @@
--- What a shelf over the files of the system shows of itself. This project's own.
-use Rattle.std.specs.Prelude.{ℕ}
+-- What a shelf over files shows of itself. This project's own.
 use Rattle.map_io.specs.declared.file_shelf.FileShelf.{FileShelf}
 
--- the count of its faults
-abbrev pub faults_of : {R : Type 0} → FileShelf R → ℕ
-faults_of shelf = shelf.faults
+-- what opens its files
+abbrev pub system_of : {S : Type 0} → FileShelf S → S
+system_of shelf = shelf.system

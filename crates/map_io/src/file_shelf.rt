@@ -1,15 +1,13 @@
-//! A shelf over the files of the system.
-ghost use Rattle.std.specs.Prelude.{◌≡◌, ◌≢◌, ℕ, ◌++◌, ◌+◌, ◌-◌, ◌^◌, ◌<◌, ◌≤◌, List, None, length, take, IfOk, IfErr, IsErrOf};
-ghost use Rattle.std.specs.Io.{ReadsAtMost};
+//! A shelf over files that are opened by their names, and so over those of the system.
+ghost use Rattle.std.specs.Prelude.{◌≡◌, ◌≢◌, ℕ, ◌⊎◌, ◌++◌, ◌+◌, ◌-◌, ◌^◌, ◌<◌, ◌≤◌, List, None, length, IfOk, IsErrOf};
 ghost use Rattle.std.specs.Io.KnownBytes.{Consumes, IsAtEnd};
-ghost use Rattle.map_io.specs.Cause.{HasCause};
+ghost use Rattle.map_io.specs.Cause.{HasCause, IsCounted};
 ghost use Rattle.map_io.specs.Fetched.{IsFetched, IsReadWhole};
-ghost use Rattle.map_io.specs.FileShelf.{faults_of};
+ghost use Rattle.map_io.specs.FileShelf.{system_of};
 
+use crate::device::{Opener, Source};
 use crate::{FetchFault, Shelf};
 use std::alloc::Global;
-use std::fs;
-use std::io::{ErrorKind, Read};
 use std::rt::Files;
 
 /// How many bytes of a file are read at a time, at most.
@@ -18,8 +16,8 @@ const CHUNK: usize = 65536;
 /// A shelf over the files of the system, by their paths.
 ///
 /// It tells nothing of what it holds, and a caller may ask for any name. Of a file that is too long it reads one byte
-/// more than the limit. A file that cannot be opened or read is a fault. The faults are counted until the count stands at
-/// the last number of 64 bits.
+/// more than the limit. A file that cannot be opened or read is a fault, and nothing else is. The faults are counted
+/// until the count stands at the last number of 64 bits.
 #[derive(Drop)]
 pub struct FileShelf<R> {
     system: R,
@@ -31,39 +29,50 @@ impl<R: Files> FileShelf<R> {
     pub fn new(system: R) -> FileShelf<R>
         ensures untold { ⟦<FileShelf<R> as Shelf>⟧.holds result ≡ None }
         ensures asked { (name : List ℕ) → ⟦<FileShelf<R> as Shelf>⟧.may_ask result name }
-        ensures sound { faults_of result ≡ 0 }
+        ensures sound { ⟦<FileShelf<R> as Shelf>⟧.faults result ≡ 0 }
     {
         FileShelf { system, faults: 0 }
     }
+}
 
+impl<S: Opener> FileShelf<S> {
     fn read_file(&self, alloc: Global, name: &str, limit: u64) -> Result<Vec<u8>, FetchFault>
         requires { limit < 2 ^ 64 - 1 }
-        ensures bytes { IsReadWhole None limit result }
+        ensures bytes { IsFetched (S.files self.now.system) name.now limit result }
         ensures most { (seen : ℕ) → IsErrOf result (FetchFault.TooLong seen) → seen ≡ limit + 1 }
+        ensures failed { IsErrOf result FetchFault.Failed →
+            S.fails self.now.system name.now ⊎ ((file : S.File) × S.File.failed file) }
+        ensures well { result ≢ Err FetchFault.Failed → (file : S.File) × S.File.went_well file }
     {
-        match fs::open(&self.system, name) {
-            Ok(mut file) => read_whole(alloc, &mut file, limit),
-            Err(_) => Err(FetchFault::Failed),
+        match self.system.open_by_name(name) {
+            Some(mut file) => read_whole(alloc, &mut file, limit),
+            None => Err(FetchFault::Failed),
         }
     }
 }
 
-impl<R: Files> Shelf for FileShelf<R> {
-    ghost holds = { λ _. None };
+impl<S: Opener> Shelf for FileShelf<S> {
+    ghost holds = { λ shelf. S.files shelf.system };
 
-    ghost faults = { faults_of };
+    ghost faults = { λ shelf. shelf.faults };
 
     ghost may_ask = { λ _ _. Unit {0} };
 
     fn fetch(&mut self, alloc: Global, name: &str, limit: u64) -> Result<Vec<u8>, FetchFault>
         requires { limit < 2 ^ 64 - 1 }
-        ensures bytes { IsFetched None name.now limit result }
+        ensures bytes { IsFetched (⟦<Self as Shelf>⟧.holds self.old) name.now limit result }
         // of a file that is too long, one byte more than the limit was seen
         ensures most { (seen : ℕ) → IsErrOf result (FetchFault.TooLong seen) → seen ≡ limit + 1 }
-        ensures cause { HasCause (faults_of self.old) (faults_of self.new)
+        ensures same { ⟦<Self as Shelf>⟧.holds self.new ≡ ⟦<Self as Shelf>⟧.holds self.old }
+        ensures cause { HasCause (⟦<Self as Shelf>⟧.faults self.old) (⟦<Self as Shelf>⟧.faults self.new)
             (IsErrOf result FetchFault.Failed) }
-        // a fault is counted only where the call fails
-        ensures quiet { result ≢ Err FetchFault.Failed → faults_of self.new ≡ faults_of self.old }
+        ensures counted { IsCounted (⟦<Self as Shelf>⟧.faults self.old) (⟦<Self as Shelf>⟧.faults self.new)
+            (IsErrOf result FetchFault.Failed) }
+        // the call fails only where the file does not open or a read of it fails
+        ensures failed { IsErrOf result FetchFault.Failed →
+            S.fails (system_of self.old) name.now ⊎ ((file : S.File) × S.File.failed file) }
+        // any other answer comes only where a file opened and all reads of it went well
+        ensures well { result ≢ Err FetchFault.Failed → (file : S.File) × S.File.went_well file }
     {
         match self.read_file(alloc, name, limit) {
             Ok(bytes) => Ok(bytes),
@@ -77,14 +86,19 @@ impl<R: Files> Shelf for FileShelf<R> {
 }
 
 /// The bytes that are left to read, if there are at most `limit` of them. It reads at most one byte more than that.
-fn read_whole<F: Read>(alloc: Global, file: &mut F, limit: u64) -> Result<Vec<u8>, FetchFault>
+fn read_whole<F: Source>(alloc: Global, file: &mut F, limit: u64) -> Result<Vec<u8>, FetchFault>
     requires { limit < 2 ^ 64 - 1 }
-    ensures bytes { IsReadWhole (F.remaining file.old) limit result }
+    ensures bytes { IsReadWhole (F.left file.old) limit result }
     ensures most { (seen : ℕ) → IsErrOf result (FetchFault.TooLong seen) → seen ≡ limit + 1 }
+    // whatever the answer, no more than one byte beyond the limit is taken
+    ensures taken { (part : List ℕ) × Consumes (F.left file.old) (F.left file.new) part
+        × (length part ≤ limit + 1) }
+    ensures failed { IsErrOf result FetchFault.Failed → F.failed file.new }
+    ensures well { F.went_well file.old → result ≢ Err FetchFault.Failed → F.went_well file.new }
 {
     let mut bytes = Vec::new(alloc);
     let mut chunk = [0; CHUNK];
-    for _ in 0..u64::MAX {
+    loop {
         let left = limit - bytes.len() as u64;
         let room = (left + 1).min(CHUNK as u64) as usize;
         let count = append_some(file, &mut chunk[..room], &mut bytes)?;
@@ -97,48 +111,29 @@ fn read_whole<F: Read>(alloc: Global, file: &mut F, limit: u64) -> Result<Vec<u8
             });
         }
     }
-    Err(FetchFault::Failed)
 }
 
 /// Reads once and appends what came, and answers how many bytes came: none only at the end.
-fn append_some<F: Read>(
+fn append_some<F: Source>(
     file: &mut F,
     chunk: &mut [u8],
     bytes: &mut Vec<u8>,
 ) -> Result<usize, FetchFault>
     requires { 0 < length chunk.old }
-    ensures read { IfOk result (λ count. (part : List ℕ) × (length part ≡ count)
-        × (bytes.new.items ≡ bytes.old.items ++ part)
-        × Consumes (F.remaining file.old) (F.remaining file.new) part) }
-    ensures most { IfOk result (λ count. count ≤ length chunk.old) }
-    ensures end { IfOk result (λ count. count ≡ 0 → IsAtEnd (F.remaining file.new)) }
+    ensures read { (part : List ℕ) × Consumes (F.left file.old) (F.left file.new) part
+        × (length part ≤ length chunk.old)
+        × IfOk result (λ count. (length part ≡ count)
+        × (bytes.new.items ≡ bytes.old.items ++ part)) }
+    ensures end { IfOk result (λ count. count ≡ 0 → IsAtEnd (F.left file.new)) }
     ensures fault { (seen : ℕ) → result ≢ Err (FetchFault.TooLong seen) }
+    ensures failed { IsErrOf result FetchFault.Failed → F.failed file.new }
+    ensures well { F.went_well file.old → result ≢ Err FetchFault.Failed → F.went_well file.new }
 {
-    let count = read_some(file, chunk)?;
+    let Some(count) = file.read_some(chunk) else {
+        return Err(FetchFault::Failed);
+    };
     match bytes.extend_from_slice(&chunk[..count]) {
         Ok(()) => Ok(count),
         Err(_) => Err(FetchFault::NoMemory),
     }
-}
-
-/// One read, tried again where a signal interrupts it.
-fn read_some<F: Read>(file: &mut F, chunk: &mut [u8]) -> Result<usize, FetchFault>
-    ensures bound { ReadsAtMost result chunk.new }
-    ensures read { IfOk result (λ count.
-        Consumes (F.remaining file.old) (F.remaining file.new) (take count chunk.new)) }
-    ensures end { IfOk result
-        (λ count. count ≡ 0 → 0 < length chunk.old → IsAtEnd (F.remaining file.new)) }
-    ensures fault { IfErr result (λ fault. fault ≡ FetchFault.Failed) }
-{
-    for _ in 0..u64::MAX {
-        match file.read(chunk) {
-            Ok(count) => return Ok(count),
-            Err(error) => {
-                if error.kind() != ErrorKind::Interrupted {
-                    return Err(FetchFault::Failed);
-                }
-            }
-        }
-    }
-    Err(FetchFault::Failed)
 }

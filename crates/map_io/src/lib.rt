@@ -5,6 +5,7 @@
 //! nothing, what is said of its status stays.
 #![tactic(auto)]
 
+mod device;
 pub mod file_shelf;
 pub mod shelf;
 pub mod sink;

@@ -1,5 +1,5 @@
 //! Where text is put.
-ghost use Rattle.std.specs.Prelude.{◌≡◌, ◌≢◌, ℕ, List, [], Option, IsErrOf};
+ghost use Rattle.std.specs.Prelude.{◌≡◌, ◌≢◌, ℕ, List, [], Option, OnOk, IsErrOf};
 ghost use Rattle.machine_defs.specs.Outside.{Appended};
 ghost use Rattle.map_io.specs.Put.{IsPut};
 ghost use Rattle.map_io.specs.Cause.{HasCause};
@@ -24,6 +24,9 @@ pub trait Sink {
     /// The text that the sink has taken so far, if it tells it.
     ghost written: { Self → Option (List ℕ) };
 
+    /// The text that the sink has taken and not handed on yet. It is always told.
+    ghost kept_back: { Self → List ℕ };
+
     /// How many faults there were so far. The count never falls, and may stop at the last number of 64 bits.
     ghost faults: { Self → ℕ };
 
@@ -42,6 +45,8 @@ pub trait Sink {
     /// Errors: [`PutFault::Failed`] only together with a fault that is counted. Never [`PutFault::NoMemory`].
     fn flush(&mut self) -> Result<(), PutFault>
         ensures nothing { Appended (written self.old) (written self.new) [] }
+        // where it succeeds, nothing is kept back
+        ensures handed_on { OnOk result (kept_back self.new ≡ []) }
         ensures needs_no_memory { result ≢ Err PutFault.NoMemory }
         ensures cause { HasCause (faults self.old) (faults self.new) (IsErrOf result PutFault.Failed) };
 }

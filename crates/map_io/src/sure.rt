@@ -100,6 +100,8 @@ impl SureSink {
 impl Sink for SureSink {
     ghost written = { λ sink. Some sink.text.items };
 
+    ghost kept_back = { λ _. [] };
+
     ghost faults = { λ _. 0 };
 
     fn put(&mut self, piece: &[u8]) -> Result<(), PutFault> {

@@ -2,12 +2,13 @@
 ghost use Rattle.std.specs.Prelude.{◌≡◌, IfOk};
 ghost use Rattle.map_io.specs.Held.{file_of};
 
+use crate::device::Source;
 use crate::{
     FetchFault, FileShelf, Held, PutFault, Shelf, Sink, StdSink, SureShelf, SureSink, WriterSink,
 };
 use std::alloc::{AllocError, Global};
 use std::fs;
-use std::io::{self, Write};
+use std::io::{self, ErrorKind, Read, Write};
 use std::test::Fail;
 
 fn held(alloc: Global, name: &str, bytes: &[u8]) -> Result<Held, AllocError>
@@ -117,5 +118,89 @@ fn a_sink_stops_at_its_first_fault(rt: HostRuntime) -> Result<(), Fail> {
     assert_eq!(rt; sink.put(b"ok 13 6\n"), Err(PutFault::Failed));
     assert_eq!(rt; sink.flush(), Err(PutFault::Failed));
     assert_eq!(rt; sink.writer().text.as_slice(), b"ok 1 6\no".as_slice());
+    Ok(())
+}
+
+/// Bytes that are read and written. One call is interrupted, and one fails; the calls after these go well again.
+#[derive(Drop)]
+struct Fickle {
+    text: Vec<u8>,
+    calls: u64,
+    interrupted: u64,
+    failing: u64,
+}
+
+impl Fickle {
+    /// A stream whose calls of these numbers are interrupted, and fail. The first call is number 1.
+    fn new(alloc: Global, interrupted: u64, failing: u64) -> Fickle {
+        Fickle {
+            text: Vec::new(alloc),
+            calls: 0,
+            interrupted,
+            failing,
+        }
+    }
+
+    fn call(&mut self) -> io::Result<()> {
+        self.calls = self.calls.saturating_add(1);
+        if self.calls == self.interrupted {
+            return Err(io::Error::from(ErrorKind::Interrupted));
+        }
+        if self.calls == self.failing {
+            return Err(io::Error::from(ErrorKind::BrokenPipe));
+        }
+        Ok(())
+    }
+}
+
+impl Read for Fickle {
+    fn read(&mut self, chunk: &mut [u8]) -> io::Result<usize> {
+        self.call()?;
+        Ok(chunk.len().min(2))
+    }
+}
+
+impl Write for Fickle {
+    fn write(&mut self, piece: &[u8]) -> io::Result<usize> {
+        self.call()?;
+        self.text.extend_from_slice(piece)?;
+        Ok(piece.len())
+    }
+
+    fn flush(&mut self) -> io::Result<()> {
+        self.call()
+    }
+}
+
+#[test]
+fn a_read_that_is_interrupted_is_tried_again(rt: HostRuntime) -> Result<(), Fail> {
+    let mut source = Fickle::new(rt.alloc(), 1, 3);
+    let mut chunk = [0; 4];
+    assert_eq!(rt; source.read_some(&mut chunk), Some(2));
+    assert_eq!(rt; source.read_some(&mut chunk), None);
+    assert_eq!(rt; source.calls, 3);
+    Ok(())
+}
+
+#[test]
+fn a_write_that_is_interrupted_is_tried_again(rt: HostRuntime) -> Result<(), Fail> {
+    let alloc = rt.alloc();
+    let mut sink = WriterSink::over(alloc, Fickle::new(alloc, 1, 4));
+    assert_eq!(rt; sink.put(b"ok 1 6\n"), Ok(()));
+    assert_eq!(rt; sink.flush(), Ok(()));
+    assert_eq!(rt; sink.put(b"ok 7 6\n"), Ok(()));
+    assert_eq!(rt; sink.flush(), Err(PutFault::Failed));
+    assert_eq!(rt; sink.writer().text.as_slice(), b"ok 1 6\n".as_slice());
+    assert_eq!(rt; sink.writer().calls, 4);
+    Ok(())
+}
+
+#[test]
+fn a_flush_that_is_interrupted_is_tried_again(rt: HostRuntime) -> Result<(), Fail> {
+    let alloc = rt.alloc();
+    let mut sink = WriterSink::over(alloc, Fickle::new(alloc, 1, 3));
+    assert_eq!(rt; sink.flush(), Ok(()));
+    assert_eq!(rt; sink.flush(), Err(PutFault::Failed));
+    assert_eq!(rt; sink.writer().calls, 3);
     Ok(())
 }

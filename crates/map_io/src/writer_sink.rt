@@ -1,14 +1,14 @@
 //! A sink over a writer, and so over the standard output.
-ghost use Rattle.std.specs.Prelude.{◌≡◌, ◌≢◌, ℕ, ◌++◌, ◌+◌, ◌-◌, ◌^◌, ◌<◌, ◌≤◌, List, [], length, take, drop, None, IfSome, IfNone, OnOk, IfErr, IsErrOf};
+ghost use Rattle.std.specs.Prelude.{◌≡◌, ◌≢◌, ℕ, ◌⊎◌, ◌++◌, ◌+◌, ◌<◌, ◌≤◌, List, [], length, take, drop, None, OnOk, OnErr, IfErr, IsErrOf};
 ghost use Rattle.std.specs.Io.KnownBytes.{Appends, Keeps};
 ghost use Rattle.machine_defs.specs.Outside.{Appended};
 ghost use Rattle.map_io.specs.Put.{IsPut};
-ghost use Rattle.map_io.specs.Cause.{HasCause};
-ghost use Rattle.map_io.specs.WriterSink.{writer_of, written_of, faults_of, Fails};
+ghost use Rattle.map_io.specs.Cause.{HasCause, IsCounted};
 
+use crate::device::Target;
 use crate::{PutFault, Sink};
 use std::alloc::Global;
-use std::io::{self, ErrorKind, Print, Printer, Write};
+use std::io::{self, Print, Printer, Write};
 
 /// How many bytes a [`WriterSink`] keeps back, at most.
 const CAPACITY: usize = 65536;
@@ -16,8 +16,9 @@ const CAPACITY: usize = 65536;
 /// A sink over a writer.
 ///
 /// It gathers short pieces, and hands them on where there are many or where it is flushed. A writer that fails, or that
-/// takes nothing of some bytes, is a fault. The faults are counted until the count stands at the last number of 64
-/// bits. After its first fault a sink hands nothing on and fails at each call, so the writer has a front of the text.
+/// takes nothing of some bytes, is a fault, and nothing else is. The faults are counted until the count stands at the
+/// last number of 64 bits. After its first fault a sink hands nothing on and fails at each call, so the writer has a
+/// front of the text.
 ///
 /// It tells the text that it took if the writer tells what it holds. What was not flushed is lost where a sink is
 /// dropped.
@@ -26,6 +27,7 @@ pub struct WriterSink<W> {
     writer: W,
     kept: Vec<u8>,
     faults: u64,
+    ghost bounded: { length kept.items ≤ 65536 },
 }
 
 /// A sink over the standard output. It tells nothing.
@@ -35,18 +37,20 @@ impl<'a, P: Print> WriterSink<Printer<'a, P>> {
     /// A sink over the standard output of this runtime, without faults so far. It takes no memory yet.
     pub fn new(alloc: Global, runtime: &'a P) -> StdSink<'a, P>
         ensures untold { ⟦<WriterSink<Printer<'a, P>> as Sink>⟧.written result ≡ None }
-        ensures sound { faults_of result ≡ 0 }
+        ensures sound { ⟦<WriterSink<Printer<'a, P>> as Sink>⟧.faults result ≡ 0 }
     {
         WriterSink::over(alloc, io::writer(runtime))
     }
 }
 
 impl<W: Write> WriterSink<W> {
+    ghost use Rattle.map_io.specs.WriterSink.{writer_of, kept_of};
+
     /// A sink over this writer, without faults so far. It takes no memory yet.
     pub fn over(alloc: Global, writer: W) -> WriterSink<W>
         ensures writer { writer_of result ≡ writer }
-        ensures written { Keeps (W.contents writer) (written_of W.contents result) }
-        ensures sound { faults_of result ≡ 0 }
+        ensures written { Keeps (W.contents writer) (⟦<WriterSink<W> as Sink>⟧.written result) }
+        ensures sound { ⟦<WriterSink<W> as Sink>⟧.faults result ≡ 0 }
     {
         WriterSink {
             writer,
@@ -55,12 +59,17 @@ impl<W: Write> WriterSink<W> {
         }
     }
 
-    /// The writer, which has what was handed on.
+    /// The writer, which has what was handed on. What is kept back is short.
     pub fn writer(&self) -> &W
-        ensures { result.now ≡ writer_of self.now }
+        ensures writer { result.now ≡ writer_of self.now }
+        ensures bounded { length (kept_of self.now) ≤ 65536 }
     {
         &self.writer
     }
+}
+
+impl<W: Target> WriterSink<W> {
+    ghost use Rattle.map_io.specs.WriterSink.{written_of, Fails};
 
     /// Counts a fault.
     fn fail(&mut self) -> PutFault
@@ -74,6 +83,7 @@ impl<W: Write> WriterSink<W> {
 
     /// Takes a piece, to hand it on later.
     fn keep(&mut self, piece: &[u8]) -> Result<(), PutFault>
+        requires { length self.old.kept.items + length piece.now ≤ 65536 }
         ensures ok { OnOk result (self.new.kept.items ≡ self.old.kept.items ++ piece.now) }
         ensures err { IfErr result (λ fault. (fault ≡ PutFault.NoMemory)
             × (self.new.kept.items ≡ self.old.kept.items)) }
@@ -91,6 +101,7 @@ impl<W: Write> WriterSink<W> {
         ensures text { Keeps (written_of W.contents self.old) (written_of W.contents self.new) }
         ensures ok { OnOk result ((self.new.kept.items ≡ []) × (self.new.faults ≡ self.old.faults)) }
         ensures err { IfErr result (Fails self.old self.new) }
+        ensures failed { OnErr result (W.failed self.new.writer) }
     {
         let taken = hand_on(&mut self.writer, self.kept.as_slice());
         let whole = taken == self.kept.len();
@@ -107,6 +118,7 @@ impl<W: Write> WriterSink<W> {
             × OnOk result (taken ≡ length piece.now) }
         ensures ok { OnOk result (self.new.faults ≡ self.old.faults) }
         ensures err { IfErr result (Fails self.old self.new) }
+        ensures failed { OnErr result (W.failed self.new.writer) }
     {
         let taken = hand_on(&mut self.writer, piece);
         if taken == piece.len() {
@@ -117,27 +129,35 @@ impl<W: Write> WriterSink<W> {
     }
 }
 
-impl<W: Write> Sink for WriterSink<W> {
+impl<W: Target> Sink for WriterSink<W> {
+    ghost use Rattle.map_io.specs.WriterSink.{writer_of, written_of, kept_of};
+
     ghost written = { written_of W.contents };
 
-    ghost faults = { faults_of };
+    ghost kept_back = { kept_of };
+
+    ghost faults = { λ sink. sink.faults };
 
     fn put(&mut self, piece: &[u8]) -> Result<(), PutFault>
         ensures appended { (text : List ℕ)
-            × Appended (written_of W.contents self.old) (written_of W.contents self.new) text
+            × Appended (⟦<Self as Sink>⟧.written self.old) (⟦<Self as Sink>⟧.written self.new) text
             × IsPut piece.now result text }
-        ensures cause { HasCause (faults_of self.old) (faults_of self.new)
+        ensures cause { HasCause (⟦<Self as Sink>⟧.faults self.old) (⟦<Self as Sink>⟧.faults self.new)
             (IsErrOf result PutFault.Failed) }
-        // a fault is counted only where the call fails
-        ensures quiet { result ≢ Err PutFault.Failed → faults_of self.new ≡ faults_of self.old }
+        ensures counted { IsCounted (⟦<Self as Sink>⟧.faults self.old) (⟦<Self as Sink>⟧.faults self.new)
+            (IsErrOf result PutFault.Failed) }
+        // the call fails only where the writer does, or after a fault
+        ensures failed { IsErrOf result PutFault.Failed →
+            (0 < ⟦<Self as Sink>⟧.faults self.old) ⊎ W.failed (writer_of self.new) }
         // after a fault it fails, and hands nothing on
-        ensures stopped { 0 < faults_of self.old → IsErrOf result PutFault.Failed
+        ensures stopped { 0 < ⟦<Self as Sink>⟧.faults self.old → IsErrOf result PutFault.Failed
             × (writer_of self.new ≡ writer_of self.old) }
+        ensures bounded { length (⟦<Self as Sink>⟧.kept_back self.new) ≤ 65536 }
     {
         if self.faults > 0 {
             return Err(self.fail());
         }
-        if piece.len() <= CAPACITY.saturating_sub(self.kept.len()) {
+        if piece.len() <= CAPACITY - self.kept.len() {
             return self.keep(piece);
         }
         self.hand_on_kept()?;
@@ -148,62 +168,46 @@ impl<W: Write> Sink for WriterSink<W> {
     }
 
     fn flush(&mut self) -> Result<(), PutFault>
-        ensures nothing { Appended (written_of W.contents self.old) (written_of W.contents self.new) [] }
+        ensures nothing { Appended (⟦<Self as Sink>⟧.written self.old) (⟦<Self as Sink>⟧.written self.new) [] }
+        ensures handed_on { OnOk result (⟦<Self as Sink>⟧.kept_back self.new ≡ []) }
         ensures needs_no_memory { result ≢ Err PutFault.NoMemory }
-        ensures cause { HasCause (faults_of self.old) (faults_of self.new)
+        ensures cause { HasCause (⟦<Self as Sink>⟧.faults self.old) (⟦<Self as Sink>⟧.faults self.new)
             (IsErrOf result PutFault.Failed) }
-        // the writer has all the text
-        ensures handed_on { OnOk result
-            (Keeps (written_of W.contents self.old) (W.contents (writer_of self.new))) }
-        ensures quiet { result ≢ Err PutFault.Failed → faults_of self.new ≡ faults_of self.old }
-        ensures stopped { 0 < faults_of self.old → IsErrOf result PutFault.Failed
+        // the writer has all the text, and was flushed itself
+        ensures has_all { OnOk result
+            (Keeps (⟦<Self as Sink>⟧.written self.old) (W.contents (writer_of self.new))) }
+        ensures flushed { OnOk result (W.flushed (writer_of self.new)) }
+        ensures counted { IsCounted (⟦<Self as Sink>⟧.faults self.old) (⟦<Self as Sink>⟧.faults self.new)
+            (IsErrOf result PutFault.Failed) }
+        ensures failed { IsErrOf result PutFault.Failed →
+            (0 < ⟦<Self as Sink>⟧.faults self.old) ⊎ W.failed (writer_of self.new) }
+        ensures stopped { 0 < ⟦<Self as Sink>⟧.faults self.old → IsErrOf result PutFault.Failed
             × (writer_of self.new ≡ writer_of self.old) }
     {
-        if self.faults > 0 {
-            return Err(self.fail());
+        if self.faults == 0 {
+            self.hand_on_kept()?;
+            if self.writer.hand_over() {
+                return Ok(());
+            }
         }
-        self.hand_on_kept()?;
-        match self.writer.flush() {
-            Ok(()) => Ok(()),
-            Err(_) => Err(self.fail()),
-        }
+        Err(self.fail())
     }
 }
 
-/// Hands text on to a writer, and answers how many bytes it took: all of them, if there is no fault.
-fn hand_on<W: Write>(writer: &mut W, text: &[u8]) -> usize
+/// Hands text on to a writer, and answers how many bytes it took: all of them, if the writer does not fail.
+fn hand_on<W: Target>(writer: &mut W, text: &[u8]) -> usize
     ensures within { result ≤ length text.now }
     ensures taken { Appends (W.contents writer.old) (W.contents writer.new) (take result text.now) }
+    ensures failed { result < length text.now → W.failed writer.new }
 {
     let mut taken = 0;
     while taken < text.len() {
-        match write_some(writer, &text[taken..]) {
+        match writer.write_some(&text[taken..]) {
             Some(count) => taken += count,
             None => return taken,
         }
     }
     taken
-}
-
-/// One write, tried again where a signal interrupts it, and how many bytes it took. None is a fault: the writer failed
-/// or took nothing.
-fn write_some<W: Write>(writer: &mut W, text: &[u8]) -> Option<usize>
-    ensures some { IfSome result (λ count. (0 < count) × (count ≤ length text.now)
-        × Appends (W.contents writer.old) (W.contents writer.new) (take count text.now)) }
-    ensures none { IfNone result (Keeps (W.contents writer.old) (W.contents writer.new)) }
-{
-    for _ in 0..u64::MAX {
-        match writer.write(text) {
-            Ok(0) => return None,
-            Ok(count) => return Some(count),
-            Err(error) => {
-                if error.kind() != ErrorKind::Interrupted {
-                    return None;
-                }
-            }
-        }
-    }
-    None
 }
 
 /// Removes the first `count` bytes.

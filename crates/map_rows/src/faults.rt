@@ -1,5 +1,5 @@
 //! Words that are no command, and what fails outside.
-ghost use Rattle.std.specs.Prelude.{◌≡◌, ℕ, ◌+◌, ◌-◌, ◌^◌, None, min};
+ghost use Rattle.std.specs.Prelude.{◌≡◌, ℕ, ◌+◌, ◌-◌, ◌^◌, [], None, min};
 
 use attr_rules::FirstCopy;
 use map_io::{FetchFault, PutFault, Shelf, Sink};
@@ -44,6 +44,8 @@ struct Narrow {
 
 impl Sink for Narrow {
     ghost written = { λ _. None };
+
+    ghost kept_back = { λ _. [] };
 
     ghost faults = { λ sink. sink.faults };
 

@@ -138,12 +138,12 @@ pub Ends-unfetched : (hook : Meaning) (k : Kind) (n : ℕ) (mesh : Option (List 
     (fault : FetchFault) (result : ℕ) → TellsCommand words (RunScript k n mesh script) → AreFetched files (RunScript k n mesh script) (Err fault) → (fault ≡ fetch.Failed → shelf_rose)
     → (fault ≡ fetch.Failed → WritesLast before after sink_rose cannot_read 5 result) → ((seen : ℕ) → fault ≡ fetch.TooLong seen → WritesLast before after sink_rose too_long 4 result)
     → (fault ≡ fetch.NoMemory → (result ≡ 7) × (after ≡ before)) → EndsCall hook before after words files shelf_rose sink_rose result
-Ends-unfetched hook k n mesh script before after words files shelf_rose sink_rose fetch.Failed result tells fetched rose failed long starved =
+Ends-unfetched hook k n mesh script before after words files shelf_rose sink_rose fetch.Failed result tells fetched rose failed long memory =
     Ends-unread hook before after words files shelf_rose sink_rose result (rose refl) (failed refl)
-Ends-unfetched hook k n mesh script before after words files shelf_rose sink_rose (fetch.TooLong seen) result tells fetched rose failed long starved =
+Ends-unfetched hook k n mesh script before after words files shelf_rose sink_rose (fetch.TooLong seen) result tells fetched rose failed long memory =
     Ends-last hook before after words files shelf_rose sink_rose too_long 4 result (told (RunScript k n mesh script) tells (fetched hook)) (lit≤ tt) (long seen refl)
-Ends-unfetched hook k n mesh script before after words files shelf_rose sink_rose fetch.NoMemory result tells fetched rose failed long starved =
-    let end = starved refl in rw (end.0, end.1) (Ends-nothing hook k n mesh script before words files shelf_rose sink_rose tells)
+Ends-unfetched hook k n mesh script before after words files shelf_rose sink_rose fetch.NoMemory result tells fetched rose failed long memory =
+    let end = memory refl in rw (end.0, end.1) (Ends-nothing hook k n mesh script before words files shelf_rose sink_rose tells)
 
 pub Ends-texts : (hook : Meaning) (k : Kind) (n : ℕ) (mesh : Option (List ℕ)) (script : List ℕ) (words : List (List ℕ)) (files : Files) (before after : Option (List ℕ)) (shelf_rose sink_rose : Type 0) (status : ℕ)
     (bytes : Option (List ℕ)) (text : List ℕ) → TellsCommand words (RunScript k n mesh script) → IsMeshOf files mesh bytes × IsFile files script text

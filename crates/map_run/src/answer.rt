@@ -11,10 +11,9 @@ ghost use Rattle.text_lines.specs.Writing.{WritesText};
 ghost use Rattle.map_run.specs.Lines.{answer_meaning};
 
 use list_text::{Listing, put_listing};
-use map_core::Done;
 use map_io::{PutFault, Sink};
-use map_kind::{Dart, Refusal, Refused, Value};
-use script_text::{Births, Reply, put_log};
+use map_kind::{Dart, Done, Refusal, Refused, Value};
+use script_text::{Reply, put_log};
 use std::alloc::{AllocError, Global};
 use text_lines::put_line;
 use undo_journal::Step as Changed;
@@ -56,7 +55,7 @@ pub fn done<'a>(done: Result<Done, Refused>) -> Result<Answer<'a>, AllocError>
     ensures { (hook : Meaning) (s : State) (new : State) (line : MapLine) → Does hook s line done new → IfOk result (λ answer. Step hook s line (answer_meaning answer) new) }
 {
     match done {
-        Ok(Done { first, count }) => Ok(Answer::Line(Reply::Done(Births { first, count }))),
+        Ok(done) => Ok(Answer::Line(Reply::Done(done))),
         Err(Refused::Line(refusal)) => Ok(Answer::Line(Reply::No(refusal))),
         Err(Refused::NoMemory) => Err(AllocError),
     }

@@ -1,6 +1,6 @@
 -- The texts of the steps of a log, one after another.
 use Rattle.std.proofs.Common.{◌≡◌, ℕ, ◌+◌, ◌<◌, List, [], ◌∷◌, ◌++◌, length, take, drop, get_or, map, codes, refl, sym, ap, ap₂, ◌∙◌, arith, append_assoc}
-use Rattle.std.specs.List.{concat}
+use Rattle.std.specs.List.{concat, flat_map}
 use Rattle.std.proofs.lemmas.List.{append-nil, take_more, length-take-le, take-append-drop}
 use Rattle.machine_defs.specs.Difference.{Difference}
 use Rattle.machine_defs.specs.TextLines.{ended, spaced}
@@ -26,6 +26,11 @@ step-joined n s =
     (concat-map link_change_text s.edit.changes))
     (concat-map value_change_text s.values))
     (concat-map rule_change_text s.rules)
+
+-- what is told where some dart ended
+pub dead_text-some : (darts : List ℕ) → 0 < length darts → dead_text darts ≡ ended (codes "dead" ++ flat_map spaced darts)
+dead_text-some [] some = absurd (omega arith)
+dead_text-some (dart ∷ darts) some = refl
 
 -- steps behind others are numbered on
 steps_text-append : (n m : ℕ) (xs ys : List Difference) → m ≡ n + length xs → steps_text n (xs ++ ys) ≡ steps_text n xs ++ steps_text m ys

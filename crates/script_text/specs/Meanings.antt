@@ -65,7 +65,7 @@ IsSyntax words (outcome.Line refusal) = (refusal ≡ why.Syntax) × TellNothing 
 IsSyntax words outcome.NoMemory = Unit {0}
 
 abbrev pub reply_meaning : Reply → text.Reply
-reply_meaning (given.Done births) = text.Done births.first births.count
+reply_meaning (given.Done done) = text.Done done.first done.count
 reply_meaning (given.Truth answer) = text.Truth answer
 reply_meaning (given.Cell darts) = text.Darts darts.items
 reply_meaning (given.Count counts) = text.Counts counts.items

@@ -24,7 +24,7 @@ value-ends None = inr (codes "value none", refl)
 value-ends (Some v) = inr (codes "value" ++ spaced_signed v.a ++ spaced_signed v.b ++ spaced_signed v.c, refl)
 
 pub reply-ends : (reply : Reply) → EndsLine (reply_text (reply_meaning reply))
-reply-ends (given.Done births) = either-ends (births.count == 0) (codes "ok") (codes "ok" ++ spaced births.first ++ spaced births.count)
+reply-ends (given.Done done) = either-ends (done.count == 0) (codes "ok") (codes "ok" ++ spaced done.first ++ spaced done.count)
 reply-ends (given.Truth answer) = truth-ends answer
 reply-ends (given.Cell darts) = inr (codes "cell" ++ flat_map spaced darts.items, refl)
 reply-ends (given.Count counts) = inr (codes "count" ++ flat_map spaced counts.items, refl)

@@ -10,8 +10,8 @@ mod reply;
 mod tests;
 mod word;
 
-pub use line::{Change, Line, PATH_MAX, Question};
+pub use line::{Change, Line, Question};
 pub use log::{log_text, put_log};
 pub use log_line::LogLine;
 pub use read::read_line;
-pub use reply::{Births, Reply, reply_text};
+pub use reply::{Reply, reply_text};

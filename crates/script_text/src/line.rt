@@ -1,9 +1,6 @@
 //! What a line of a script tells, as plain data.
 use map_kind::Value;
 
-/// How many darts the path of a face has at most.
-pub const PATH_MAX: usize = 4096;
-
 /// A line of a script: it changes the map, or it asks something of it.
 #[derive(Debug, PartialEq, Eq, Drop)]
 pub enum Line {

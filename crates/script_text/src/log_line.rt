@@ -1,8 +1,9 @@
 //! The lines of a log.
-ghost use Rattle.std.specs.Prelude.{◌≡◌, ◌++◌, ◌∷◌, OnOk, Some, codes};
+ghost use Rattle.std.specs.Prelude.{◌++◌, ◌∷◌, Some, codes};
 ghost use Rattle.std.specs.Fmt.{signed_decimal};
 ghost use Rattle.machine_defs.specs.TextLines.{ended, spaced};
 ghost use Rattle.machine_defs.specs.LogText.{logged_value, logged_rule, born_text, dead_text, link_change_text, value_change_text, rule_change_text};
+ghost use Rattle.text_lines.specs.Writing.{Appends};
 ghost use Rattle.script_text.specs.LogLines.{line_text, line-ends};
 
 use attr_rules::TableRule;
@@ -54,7 +55,7 @@ impl<'a> TextLine for LogLine<'a> {
 
 /// A word, a space and a number.
 fn append_word_and_number(text: &mut Vec<u8>, word: &[u8], number: usize) -> Result<(), AllocError>
-    ensures { OnOk result (text.new.items ≡ text.old.items ++ ended (word.now ++ spaced number)) }
+    ensures { Appends text.old.items text.new.items (ended (word.now ++ spaced number)) result }
 {
     text.extend_from_slice(word)?;
     append_spaced(text, number)?;
@@ -63,7 +64,7 @@ fn append_word_and_number(text: &mut Vec<u8>, word: &[u8], number: usize) -> Res
 }
 
 fn append_born(text: &mut Vec<u8>, first: u32, births: u32) -> Result<(), AllocError>
-    ensures { OnOk result (text.new.items ≡ text.old.items ++ born_text first births) }
+    ensures { Appends text.old.items text.new.items (born_text first births) result }
 {
     if births == 0 {
         return Ok(());
@@ -76,7 +77,7 @@ fn append_born(text: &mut Vec<u8>, first: u32, births: u32) -> Result<(), AllocE
 }
 
 fn append_dead(text: &mut Vec<u8>, darts: &[Dart]) -> Result<(), AllocError>
-    ensures { OnOk result (text.new.items ≡ text.old.items ++ dead_text darts.now) }
+    ensures { Appends text.old.items text.new.items (dead_text darts.now) result }
 {
     if darts.is_empty() {
         return Ok(());
@@ -90,7 +91,7 @@ fn append_dead(text: &mut Vec<u8>, darts: &[Dart]) -> Result<(), AllocError>
 }
 
 fn append_link_change(text: &mut Vec<u8>, change: Change) -> Result<(), AllocError>
-    ensures { OnOk result (text.new.items ≡ text.old.items ++ link_change_text change) }
+    ensures { Appends text.old.items text.new.items (link_change_text change) result }
 {
     let Change {
         dart,
@@ -108,7 +109,7 @@ fn append_link_change(text: &mut Vec<u8>, change: Change) -> Result<(), AllocErr
 }
 
 fn append_value_change(text: &mut Vec<u8>, change: ValueChange) -> Result<(), AllocError>
-    ensures { OnOk result (text.new.items ≡ text.old.items ++ value_change_text change) }
+    ensures { Appends text.old.items text.new.items (value_change_text change) result }
 {
     let ValueChange {
         dim,
@@ -126,7 +127,7 @@ fn append_value_change(text: &mut Vec<u8>, change: ValueChange) -> Result<(), Al
 }
 
 fn append_rule_change(text: &mut Vec<u8>, change: RuleChange) -> Result<(), AllocError>
-    ensures { OnOk result (text.new.items ≡ text.old.items ++ rule_change_text change) }
+    ensures { Appends text.old.items text.new.items (rule_change_text change) result }
 {
     let RuleChange { dim, old, new } = change;
     text.extend_from_slice(b"rule")?;
@@ -139,7 +140,7 @@ fn append_rule_change(text: &mut Vec<u8>, change: RuleChange) -> Result<(), Allo
 
 /// A space, and a value's three numbers between commas, or a hyphen for none.
 fn append_logged_value(text: &mut Vec<u8>, value: Option<Value>) -> Result<(), AllocError>
-    ensures { OnOk result (text.new.items ≡ text.old.items ++ 32 ∷ logged_value value) }
+    ensures { Appends text.old.items text.new.items (32 ∷ logged_value value) result }
 {
     match value {
         Some(Value { a, b, c }) => append_triple(text, a, b, c),
@@ -149,7 +150,8 @@ fn append_logged_value(text: &mut Vec<u8>, value: Option<Value>) -> Result<(), A
 
 /// A space, and three numbers between commas.
 fn append_triple(text: &mut Vec<u8>, a: i64, b: i64, c: i64) -> Result<(), AllocError>
-    ensures { OnOk result (text.new.items ≡ text.old.items ++ 32 ∷ logged_value (Some (record { a = a; b = b; c = c }))) }
+    ensures { Appends text.old.items text.new.items
+        (32 ∷ logged_value (Some (record { a = a; b = b; c = c }))) result }
 {
     append_spaced(text, a)?;
     append_further(text, b)?;
@@ -159,7 +161,7 @@ fn append_triple(text: &mut Vec<u8>, a: i64, b: i64, c: i64) -> Result<(), Alloc
 
 /// A comma, and a number.
 fn append_further(text: &mut Vec<u8>, number: i64) -> Result<(), AllocError>
-    ensures { OnOk result (text.new.items ≡ text.old.items ++ 44 ∷ signed_decimal number) }
+    ensures { Appends text.old.items text.new.items (44 ∷ signed_decimal number) result }
 {
     text.push(b',')?;
     append_number(text, number)?;
@@ -168,7 +170,7 @@ fn append_further(text: &mut Vec<u8>, number: i64) -> Result<(), AllocError>
 
 /// A space, and a rule's two names with a slash between, or a hyphen for none.
 fn append_logged_rule(text: &mut Vec<u8>, rule: Option<TableRule>) -> Result<(), AllocError>
-    ensures { OnOk result (text.new.items ≡ text.old.items ++ 32 ∷ logged_rule rule) }
+    ensures { Appends text.old.items text.new.items (32 ∷ logged_rule rule) result }
 {
     match rule {
         Some(rule) => append_rule_names(text, rule),
@@ -178,7 +180,7 @@ fn append_logged_rule(text: &mut Vec<u8>, rule: Option<TableRule>) -> Result<(),
 
 /// A space, and a rule's two names with a slash between.
 fn append_rule_names(text: &mut Vec<u8>, rule: TableRule) -> Result<(), AllocError>
-    ensures { OnOk result (text.new.items ≡ text.old.items ++ 32 ∷ logged_rule (Some rule)) }
+    ensures { Appends text.old.items text.new.items (32 ∷ logged_rule (Some rule)) result }
 {
     text.push(b' ')?;
     text.extend_from_slice(rule.merge.name().as_bytes())?;
@@ -189,7 +191,7 @@ fn append_rule_names(text: &mut Vec<u8>, rule: TableRule) -> Result<(), AllocErr
 
 /// A space, and the hyphen that stands for no value and for no rule.
 fn append_none(text: &mut Vec<u8>) -> Result<(), AllocError>
-    ensures { OnOk result (text.new.items ≡ text.old.items ++ codes " -") }
+    ensures { Appends text.old.items text.new.items (codes " -") result }
 {
     text.extend_from_slice(b" -")
 }

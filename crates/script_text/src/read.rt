@@ -9,8 +9,8 @@ ghost use Rattle.script_text.specs.Meanings.{line_meaning, Tell, IsSyntax};
 ghost use Rattle.script_text.specs.Reading.{Reads, now_of, items_of};
 
 use crate::word::{read_integer, read_name, read_numeral, read_text};
-use crate::{Change, Line, PATH_MAX, Question};
-use map_kind::{Refusal, Refused, Value};
+use crate::{Change, Line, Question};
+use map_kind::{PATH_MAX, Refusal, Refused, Value};
 use std::alloc::Global;
 use text_words::{is_text, split_words, without_comment};
 

@@ -1,28 +1,20 @@
 //! The reply to a line, and its text.
-ghost use Rattle.std.specs.Prelude.{◌≡◌, ◌++◌, IfOk, OnOk, Some, codes};
+ghost use Rattle.std.specs.Prelude.{◌≡◌, IfOk, Some, codes};
 ghost use Rattle.machine_defs.specs.Text.{is_refused, reply_text, done_text, truth_text, numbers_text, cell_value_text, refusal_text};
 ghost use Rattle.map_kind.specs.Refusals.{meaning};
+ghost use Rattle.text_lines.specs.Writing.{Appends};
 ghost use Rattle.script_text.specs.Meanings.{reply_meaning};
 ghost use Rattle.script_text.specs.ReplyEnds.{reply-ends};
 
-use map_kind::{Dart, Refusal, Value};
+use map_kind::{Dart, Done, Refusal, Value};
 use std::alloc::{AllocError, Global};
 use text_lines::{TextLine, append_spaced};
-
-/// The darts that a changing line made: they are numbered on from the first.
-#[derive(Clone, Copy, Debug, PartialEq, Eq)]
-pub struct Births {
-    /// The number of the first dart. Where no dart was made the machine tells 0, and nothing is written.
-    pub first: u32,
-    /// How many darts were made, 0 where none was.
-    pub count: u32,
-}
 
 /// The reply to a line, of one line of text.
 #[derive(Debug, PartialEq, Eq, Drop)]
 pub enum Reply {
-    /// A changing line was obeyed.
-    Done(Births),
+    /// A changing line was obeyed. Where it made no dart, no numbers are written.
+    Done(Done),
     /// The answer to a question of yes or no.
     Truth(bool),
     /// The darts of a cell, as they are written; a map tells them in ascending order.
@@ -50,7 +42,7 @@ impl TextLine for Reply {
 
     fn append_to(&self, text: &mut Vec<u8>) -> Result<(), AllocError> {
         match self {
-            Reply::Done(births) => append_done(text, *births),
+            Reply::Done(done) => append_done(text, *done),
             Reply::Truth(answer) => append_truth(text, *answer),
             Reply::Cell(darts) => append_cell(text, darts.as_slice()),
             Reply::Count(counts) => append_count(text, counts.as_slice()),
@@ -75,20 +67,20 @@ pub fn reply_text(alloc: Global, reply: &Reply) -> Result<Vec<u8>, AllocError>
 }
 
 /// The reply to a changing line: `ok`, and where darts were made the first and how many.
-fn append_done(text: &mut Vec<u8>, births: Births) -> Result<(), AllocError>
-    ensures { OnOk result (text.new.items ≡ text.old.items ++ done_text births.first births.count) }
+fn append_done(text: &mut Vec<u8>, done: Done) -> Result<(), AllocError>
+    ensures { Appends text.old.items text.new.items (done_text done.first done.count) result }
 {
     text.extend_from_slice(b"ok")?;
-    if births.count != 0 {
-        append_spaced(text, births.first)?;
-        append_spaced(text, births.count)?;
+    if done.count != 0 {
+        append_spaced(text, done.first)?;
+        append_spaced(text, done.count)?;
     }
     text.push(b'\n')?;
     Ok(())
 }
 
 fn append_truth(text: &mut Vec<u8>, answer: bool) -> Result<(), AllocError>
-    ensures { OnOk result (text.new.items ≡ text.old.items ++ truth_text answer) }
+    ensures { Appends text.old.items text.new.items (truth_text answer) result }
 {
     if answer {
         text.extend_from_slice(b"true\n")
@@ -98,7 +90,7 @@ fn append_truth(text: &mut Vec<u8>, answer: bool) -> Result<(), AllocError>
 }
 
 fn append_cell(text: &mut Vec<u8>, darts: &[Dart]) -> Result<(), AllocError>
-    ensures { OnOk result (text.new.items ≡ text.old.items ++ numbers_text (codes "cell") darts.now) }
+    ensures { Appends text.old.items text.new.items (numbers_text (codes "cell") darts.now) result }
 {
     text.extend_from_slice(b"cell")?;
     for dart in darts {
@@ -109,7 +101,7 @@ fn append_cell(text: &mut Vec<u8>, darts: &[Dart]) -> Result<(), AllocError>
 }
 
 fn append_count(text: &mut Vec<u8>, counts: &[u64]) -> Result<(), AllocError>
-    ensures { OnOk result (text.new.items ≡ text.old.items ++ numbers_text (codes "count") counts.now) }
+    ensures { Appends text.old.items text.new.items (numbers_text (codes "count") counts.now) result }
 {
     text.extend_from_slice(b"count")?;
     for count in counts {
@@ -121,7 +113,7 @@ fn append_count(text: &mut Vec<u8>, counts: &[u64]) -> Result<(), AllocError>
 
 /// The reply to a question for a value: `value`, and its three numbers, or `none`.
 fn append_cell_value(text: &mut Vec<u8>, value: Option<Value>) -> Result<(), AllocError>
-    ensures { OnOk result (text.new.items ≡ text.old.items ++ cell_value_text value) }
+    ensures { Appends text.old.items text.new.items (cell_value_text value) result }
 {
     match value {
         Some(Value { a, b, c }) => append_numbers(text, a, b, c),
@@ -131,7 +123,8 @@ fn append_cell_value(text: &mut Vec<u8>, value: Option<Value>) -> Result<(), All
 
 /// The reply where there is a value: `value`, and its three numbers.
 fn append_numbers(text: &mut Vec<u8>, a: i64, b: i64, c: i64) -> Result<(), AllocError>
-    ensures { OnOk result (text.new.items ≡ text.old.items ++ cell_value_text (Some (record { a = a; b = b; c = c }))) }
+    ensures { Appends text.old.items text.new.items
+        (cell_value_text (Some (record { a = a; b = b; c = c }))) result }
 {
     text.extend_from_slice(b"value")?;
     append_spaced(text, a)?;
@@ -143,7 +136,7 @@ fn append_numbers(text: &mut Vec<u8>, a: i64, b: i64, c: i64) -> Result<(), Allo
 
 /// The reply to a refused line: `no`, and the refusal's number and its name.
 fn append_refusal(text: &mut Vec<u8>, refusal: Refusal) -> Result<(), AllocError>
-    ensures { OnOk result (text.new.items ≡ text.old.items ++ refusal_text (meaning refusal)) }
+    ensures { Appends text.old.items text.new.items (refusal_text (meaning refusal)) result }
 {
     text.extend_from_slice(b"no")?;
     append_spaced(text, refusal.number())?;

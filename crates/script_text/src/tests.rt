@@ -1,9 +1,9 @@
 //! What no clause says: that lines are read where memory is there, and that the grammar, the replies and the logs are as
 //! meant.
-use crate::{Births, Change, Line, Question, Reply, log_text, read_line, reply_text};
+use crate::{Change, Line, Question, Reply, log_text, read_line, reply_text};
 use attr_rules::{Merge, Split, TableRule};
 use link_rows::{Change as LinkChange, Edit};
-use map_kind::{Dart, Refusal, Refused, Value};
+use map_kind::{Dart, Done, Refusal, Refused, Value};
 use std::alloc::{AllocError, Global};
 use std::test::Fail;
 use undo_journal::{RuleChange, Step, ValueChange};
@@ -179,8 +179,8 @@ fn replies(rt: HostRuntime) -> Result<(), Fail> {
     let first = Dart::new(1).ok_or("no dart")?;
     let last = Dart::new(4_194_304).ok_or("no dart")?;
     let table = vec![in alloc;
-        (Reply::Done(Births { first: 7, count: 2 }), "ok 7 2\n"),
-        (Reply::Done(Births { first: 0, count: 0 }), "ok\n"),
+        (Reply::Done(Done { first: 7, count: 2 }), "ok 7 2\n"),
+        (Reply::Done(Done::NONE), "ok\n"),
         (Reply::Truth(true), "true\n"),
         (Reply::Truth(false), "false\n"),
         (

@@ -1,2 +1,3 @@
 pub mod WritingFacts
 pub mod LineTexts
+pub mod AppendFacts

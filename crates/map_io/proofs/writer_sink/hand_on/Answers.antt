@@ -10,7 +10,7 @@ loop-taken-preserved g c =
     let count = c.in-Some.count in
     let text = c.args.text.now in
     let before = c.loop-taken.invariant in
-    let some = c.in-Some.ensures.some in
+    let some = c.in-Some.ensures.written in
     let most = length-take (length text - done) (drop done text) in
     let joined = ap (λ l. take done text ++ l) (take-take count (length text - done) (drop done text) (omega arith)) ∙ sym (take-add done count text) in
     (omega arith, subst (Appends _ _) joined (Appends-trans _ _ _ _ _ before.1 some.2))

@@ -1,7 +1,5 @@
-use Rattle.std.proofs.Common.{refl, inr, ap, subst, lit<}
-use Rattle.std.proofs.lemmas.Result.{err_from_is_err_and}
-use Rattle.machine_defs.specs.State.{State}
-use Rattle.map_core.proofs.Stepped.{told-asked, told-advanced, traced-advanced, traced-same, told-same}
+use Rattle.std.proofs.Common.{refl, inr, lit<}
+use Rattle.map_core.proofs.Stepped.{told-asked, told-advanced, traced-advanced, traced-same}
 use Rattle.map_core.proofs.map.Map.noted_dual.Goals as goal
 
 pub invariant_of-self-in_err-step : goal.invariant_of-self-in_err-step

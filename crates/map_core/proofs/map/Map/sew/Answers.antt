@@ -1,4 +1,4 @@
-use Rattle.std.proofs.Common.{◌≡◌, ℕ, refl, ap, ◌∙◌, Err}
+use Rattle.std.proofs.Common.{ℕ, ap, ◌∙◌, Err}
 use Rattle.std.proofs.lemmas.Result.{err_from_is_err_and}
 use Rattle.map_defs.specs.Rows.{Rows}
 use Rattle.map_core.proofs.SewingSteps.{sew-refused, sew-obeyed}

@@ -1,4 +1,4 @@
-use Rattle.std.proofs.Common.{◌≡◌, ℕ, refl}
+use Rattle.std.proofs.Common.{ℕ}
 use Rattle.map_defs.specs.Rows.{Rows}
 use Rattle.map_core.proofs.SewingSteps.{unsew-obeyed}
 use Rattle.map_core.proofs.map.Map.unsew.Goals as goal

@@ -1,9 +1,9 @@
 use Rattle.map_io.proofs.Handed.{put-kept, put-handed, Appended-after}
 use Rattle.map_io.proofs.writer_sink.WriterSinkSink.put.Goals as goal
 
-pub returns-then-piece-saturating_sub-clause-appended :
-    goal.returns-then-piece-saturating_sub-clause-appended
-returns-then-piece-saturating_sub-clause-appended g c =
+pub returns-then-piece-len-clause-appended :
+    goal.returns-then-piece-len-clause-appended
+returns-then-piece-len-clause-appended g c =
     rw c.keep.ensures.writer (put-kept _ _ _ _ _ c.keep.ensures.ok c.keep.ensures.err)
 
 pub returns-clause-appended : goal.returns-clause-appended

@@ -1,0 +1,23 @@
+use Rattle.std.proofs.Common.{◌<◌, length, arith, [], ◌∷◌, ◌++◌, codes}
+use Rattle.std.specs.List.{flat_map}
+use Rattle.std.proofs.lemmas.List.{take_all, nil_from_length}
+use Rattle.std.proofs.lemmas.Bool.Decides.{nat_tests}
+use Rattle.machine_defs.specs.Text.{spaced}
+use Rattle.text_lines.proofs.AppendFacts.{AppendsFront-nothing, AppendsFront-then, AppendsFront-cut, AppendsFront-each, Appends-at_err}
+use Rattle.script_text.proofs.LogTexts.{dead_text-some}
+use Rattle.script_text.proofs.log_line.append_dead.Goals as goal
+
+pub returns-in_err-append_spaced : goal.returns-in_err-append_spaced
+returns-in_err-append_spaced c =
+    let part = rw (c.number.ensures.same, c.dart-item.is) at c.in_err-append_spaced.ensures in
+    let some : 0 < length c.args.darts.now = omega arith in
+    rw (dead_text-some c.args.darts.now some) (Appends-at_err _ _ c.from_residual-in_err-append_spaced.ensures.1
+    (AppendsFront-cut (10 ∷ [])
+    (AppendsFront-each spaced (codes "dead") c.args.darts.now c.loop-dart.dart-index c.dart-item.result c.loop-dart-test.true c.loop-dart.invariant part)))
+
+pub returns-in_err-push : goal.returns-in_err-push
+returns-in_err-push c =
+    let whole = rw (take_all c.loop-dart.dart-index c.args.darts.now c.loop-dart-test.false) at c.loop-dart.invariant in
+    let some : 0 < length c.args.darts.now = grind (arith, nat_tests, nil_from_length) in
+    rw (dead_text-some c.args.darts.now some) (Appends-at_err _ _ c.from_residual-in_err-push.ensures.1
+    (AppendsFront-then (codes "dead" ++ flat_map spaced c.args.darts.now) whole (AppendsFront-nothing (10 ∷ []) c.in_err-push.ensures.items)))
