@@ -1,0 +1,6 @@
+mod Appending
+mod WayPlaces
+mod SplitEntries
+mod EntryEdit
+mod SplitEdit
+mod VertexPlan
