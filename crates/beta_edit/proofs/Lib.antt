@@ -4,3 +4,8 @@ mod SplitEntries
 mod EntryEdit
 mod SplitEdit
 mod VertexPlan
+mod CutEntries
+mod EdgePlan
+mod CutEdit
+mod CornerList
+mod EdgeTurns

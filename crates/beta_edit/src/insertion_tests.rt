@@ -4,9 +4,9 @@ ghost use Rattle.map_defs.specs.Rows.{links_of, IsLive, IsSound};
 ghost use Rattle.map_defs.specs.Laws.{Laws};
 ghost use Rattle.map_defs.specs.Edits.{Fits};
 
-use crate::vertex_plan;
+use crate::{edge_plan, vertex_plan};
 use link_rows::{Edit, Links, polygon_edit};
-use map_kind::{Beta, Dart};
+use map_kind::{Beta, Dart, Refusal, Refused};
 use sewing::{sew_plan, unsew_plan};
 use std::alloc::{AllocError, Global};
 use std::process::Abort;
@@ -116,6 +116,67 @@ fn a_vertex_parts_the_last_side_of_an_open_way(rt: HostRuntime) -> Result<(), Fa
     assert_eq!(&rt;
         rows(&rt, alloc, &links, 1, 6)?.as_slice(),
         [4, 5, 0, 0, 3, 0, 2, 4, 0, 3, 1, 0, 1, 0, 0].as_slice()
+    );
+    Ok(())
+}
+
+fn refusal(planned: Result<Edit, Refused>) -> Option<Refused> {
+    match planned {
+        Ok(_) => None,
+        Err(refused) => Some(refused),
+    }
+}
+
+#[test]
+fn an_edge_parts_a_face_on_both_sides(rt: HostRuntime) -> Result<(), Fail> {
+    let alloc = rt.alloc();
+    let mut links = two_sides(&rt, alloc)?;
+    let one = dart(&rt, &links, 1);
+    assert_eq!(&rt;
+        refusal(edge_plan(alloc, &links, one, dart(&rt, &links, 5))),
+        Some(Refused::Line(Refusal::OtherCell))
+    );
+    match edge_plan(alloc, &links, one, dart(&rt, &links, 3)) {
+        Ok(edit) => apply(&rt, &mut links, &edit),
+        Err(_) => panic!(&rt; "no edge"),
+    }
+    assert_eq!(&rt;
+        rows(&rt, alloc, &links, 1, 5)?.as_slice(),
+        [10, 2, 0, 5, 1, 10, 0, 8, 9, 4, 0, 7, 3, 9, 0, 6].as_slice()
+    );
+    assert_eq!(&rt;
+        rows(&rt, alloc, &links, 9, 13)?.as_slice(),
+        [4, 3, 10, 12, 2, 1, 9, 11, 5, 8, 12, 10, 7, 6, 11, 9].as_slice()
+    );
+    Ok(())
+}
+
+#[test]
+fn an_edge_needs_two_ways_into_two_corners(rt: HostRuntime) -> Result<(), Fail> {
+    let alloc = rt.alloc();
+    let mut links = Links::<Beta, 2>::new(alloc);
+    square(&rt, alloc, &mut links)?;
+    let one = dart(&rt, &links, 1);
+    assert_eq!(&rt;
+        refusal(edge_plan(alloc, &links, one, one)),
+        Some(Refused::Line(Refusal::SameCorner))
+    );
+    match unsew_plan(alloc, &links, 1, dart(&rt, &links, 4)) {
+        Ok(edit) => links.apply(&edit),
+        Err(_) => panic!(&rt; "not unsewn"),
+    }
+    let one = dart(&rt, &links, 1);
+    assert_eq!(&rt;
+        refusal(edge_plan(alloc, &links, one, dart(&rt, &links, 3))),
+        Some(Refused::Line(Refusal::Unpaired))
+    );
+    match edge_plan(alloc, &links, dart(&rt, &links, 2), dart(&rt, &links, 4)) {
+        Ok(edit) => apply(&rt, &mut links, &edit),
+        Err(_) => panic!(&rt; "no edge"),
+    }
+    assert_eq!(&rt;
+        rows(&rt, alloc, &links, 1, 7)?.as_slice(),
+        [0, 5, 0, 6, 3, 0, 2, 6, 0, 5, 0, 0, 1, 4, 6, 3, 2, 5].as_slice()
     );
     Ok(())
 }

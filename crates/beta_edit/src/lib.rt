@@ -5,10 +5,13 @@
 //! `cell_edit::specs::Planning`.
 #![tactic(auto)]
 
+mod cut;
+mod edge;
 #[cfg(test)]
 mod insertion_tests;
 mod vertex;
 mod writing;
 
 pub use cell_edit::face_plan;
+pub use edge::edge_plan;
 pub use vertex::vertex_plan;
