@@ -1,6 +1,6 @@
 -- Changes that are appended, by the entries that they write: one group behind another, and a group for each of a list.
-use Rattle.std.proofs.Common.{ℕ, ◌≡◌, ◌+◌, ◌<◌, ◌≤◌, ◌⊎◌, ◌↔◌, List, [], ◌∷◌, ◌++◌, length, take, get_or, Contains, sym, ap, ◌∙◌, subst, inl, inr, append_assoc, arith}
-use Rattle.std.proofs.lemmas.List.{append-nil, take_all, take_more, length-take}
+use Rattle.std.proofs.Common.{ℕ, ◌≡◌, ◌+◌, ◌<◌, ◌⊎◌, ◌↔◌, List, [], ◌∷◌, ◌++◌, length, take, get_or, Contains, sym, ap, ◌∙◌, subst, inl, inr, append_assoc}
+use Rattle.std.proofs.lemmas.List.{append-nil, take_more}
 use Rattle.std.proofs.lemmas.List.Elements.{Contains-append_left, Contains-push, Contains-push_cases}
 use Rattle.map_defs.specs.Links.{Links}
 use Rattle.map_defs.specs.Edits.{Change}
@@ -27,9 +27,6 @@ module _ {X : Type 0} (L : Links) (E : X → ℕ → ℕ → ℕ → Type 0) whe
   abbrev pub AreEntries : List X → ℕ → ℕ → ℕ → Type 0
   AreEntries xs d t y = (x : X) × Contains xs x × E x d t y
 
-  pub each-none : (xs : List X) → WritesEntries L (AreEntries (take 0 xs)) []
-  each-none xs = writes-none L (AreEntries (take 0 xs)) (λ d t y e. omega (arith, length-take 0 xs, e.1.1))
-
   pub each-more : (xs : List X) (p : ℕ) (x : X) (a b : List Change) → p < length xs → x ≡ get_or xs p x
       → ((u : X) → Contains (take p xs) u → (d t y z : ℕ) → E u d t y → E x d t z → ⊥)
       → WritesEntries L (AreEntries (take p xs)) a → Appends L (E x) a b → WritesEntries L (AreEntries (take (p + 1) xs)) b
@@ -49,6 +46,3 @@ module _ {X : Type 0} (L : Links) (E : X → ℕ → ℕ → ℕ → Type 0) whe
       from : (d t y : ℕ) (e : AreEntries (take (p + 1) xs) d t y) → Contains (take p xs) e.0 ⊎ (x ≡ e.0) → AreEntries (take p xs) d t y ⊎ E x d t y
       from d t y e (inl has) = inl (e.0, has, e.2)
       from d t y e (inr is) = inr (subst (λ u. E u d t y) (sym is) e.2)
-
-  pub each-all : (xs : List X) (p : ℕ) (cs : List Change) → length xs ≤ p → WritesEntries L (AreEntries (take p xs)) cs → WritesEntries L (AreEntries xs) cs
-  each-all xs p cs past writes = subst (λ us. WritesEntries L (AreEntries us) cs) (take_all p xs past) writes

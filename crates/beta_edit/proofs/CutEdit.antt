@@ -1,7 +1,6 @@
 -- The edit that writes the entries of an edge: it fits, cuts the face, and keeps the laws.
-use Rattle.std.proofs.Common.{ℕ, ◌≡◌, ◌≢◌, ◌+◌, ◌<◌, ◌≤◌, ◌↔◌, List, length, take, get_or, Contains, is_some, refl, sym, ap, ◌∙◌, subst, inl, inr, arith}
+use Rattle.std.proofs.Common.{ℕ, ◌≡◌, ◌≢◌, ◌+◌, ◌<◌, ◌≤◌, ◌↔◌, List, length, take, get_or, Contains, refl, sym, ap, ◌∙◌, subst, inl, inr, arith}
 use Rattle.std.proofs.lemmas.List.{get_or-take, get_or_default, length-take}
-use Rattle.std.proofs.lemmas.List.Elements.{All-contains, Contains-get_or}
 use Rattle.map_defs.specs.Kind.{beta}
 use Rattle.map_defs.specs.Links.{Links, IsTurned}
 use Rattle.map_defs.specs.Laws.{Laws}
@@ -12,23 +11,20 @@ use Rattle.map_defs.specs.Insertion.{IsCut}
 use Rattle.link_laws.proofs.Basics.{by_cases, same_or_not}
 use Rattle.link_laws.proofs.LawFacts.{link_one}
 use Rattle.link_laws.proofs.RowFacts.{rows_made, rows_dimension}
-use Rattle.edit_laws.proofs.RowWrites.{births-old, births-new, live-within}
 use Rattle.insert_laws.proofs.Fresh.{IsNew, fresh_link}
 use Rattle.insert_laws.proofs.BetaEdge.{IsTurning, IsCorner, ComesBefore}
 use Rattle.insert_laws.proofs.BetaEdgeLaws.{cut_keeps}
-use Rattle.insert_laws.proofs.Numbers.{numbered_above, numbered_upto, numbered_fresh}
+use Rattle.insert_laws.proofs.Numbers.{numbered_fresh}
 use Rattle.sewing.specs.Triples.{Triple, Lists, ComesBefore as IsBefore, IsAscending}
 use Rattle.sewing.proofs.PairWalks.{Contains-take}
 use Rattle.cell_edit.specs.Stars.{Stars, star_of}
 use Rattle.cell_edit.specs.Inserting.{PlansInsertion}
 use Rattle.cell_edit.specs.Writing.{WritesEntries}
 use Rattle.cell_edit.proofs.AlongLinks.{linked-within}
-use Rattle.cell_edit.proofs.Beyond.{live-made}
-use Rattle.cell_edit.proofs.Premises.{live-dart}
-use Rattle.cell_edit.proofs.StarNumbers.{stars-number}
 use Rattle.beta_edit.specs.Cutting.{IsTurnEntry, AreCutEntries, AreTurns}
 use Rattle.beta_edit.proofs.WayPlaces.{places-apart}
 use Rattle.beta_edit.proofs.CutEntries.{corner-place}
+use Rattle.beta_edit.proofs.GrowthFacts.{key-made, keys-numbered, keys-fresh, link-old, old-lives, new-lives}
 use Rattle.beta_edit.proofs.EntryEdit.{growing, written, left, entries-fit}
 
 -- a triple before a place of an ascending list comes before the triple there
@@ -50,24 +46,8 @@ module _ (n : ℕ) (rows : Rows) (sound : IsSound beta n rows) (dim : 2 ≤ n) (
   abbrev star : ℕ → ℕ
   star = star_of stars
 
-  key_live : (x : ℕ) → K x → IsLive rows x
-  key_live x h = All-contains (λ (d : ℕ). IsLive rows d) stars.keys x turns.live h
-
-  key_dart : (x : ℕ) → K x → x ≢ 0
-  key_dart x h = live-dart beta n rows sound x (key_live x h)
-
-  key_made : (x : ℕ) → K x → x ≤ stars.made
-  key_made x h = let low : x ≤ made rows = live-made rows x (key_live x h) in omega (arith, turns.made)
-
-  keys_numbered : IsNumbered K stars.keys stars.made star
-  keys_numbered = stars-number stars turns.rising (λ p d h. key_dart (get_or stars.keys p d) (Contains-get_or stars.keys p d h))
-
-  keys_fresh : IsFresh L K star
-  keys_fresh = numbered_fresh K stars.keys stars.made star keys_numbered L key_made (λ t x linked. let h : x ≤ made rows = rows_made rows t x linked in omega (arith, turns.made))
-
-  -- no link leads to a new dart
   link_old : (t x u : ℕ) → K u → L t x ≢ star u
-  link_old t x u h e = fresh_link beta L w K star keys_fresh t x (u, h, e)
+  link_old = link-old n rows sound stars turns.grow w
 
   -- the entries of two corners have no place in common
   pub turns-apart : (m p : ℕ) (q u : Triple) → p < length pairs → q ≡ get_or pairs p q → Contains (take p pairs) u → (d t y z : ℕ)
@@ -82,7 +62,7 @@ module _ (n : ℕ) (rows : Rows) (sound : IsSound beta n rows) (dim : 2 ≤ n) (
       places-apart (L 0 u.x) (star u.x) (L 1 u.y) (L 0 q.x) (star q.x) (L 1 q.y) d t
       (record {
         begins = λ same. apart (link_one beta L w 0 u.x q.x a.begins same);
-        news = λ same. apart (keys_fresh.one u.x q.x a.corner b.corner same);
+        news = λ same. apart ((keys-fresh n rows sound stars turns.grow).one u.x q.x a.corner b.corner same);
         ends = λ some same. apart (turns.one u.x q.x q.y (subst (λ v. Lists pairs u.x v 0) (link_one beta L w 1 u.y q.y some same) first) second);
         old_begin = link_old 0 u.x q.x b.corner;
         old_end = λ some. link_old 1 u.y q.x b.corner;
@@ -102,17 +82,17 @@ module _ (n : ℕ) (rows : Rows) (sound : IsSound beta n rows) (dim : 2 ≤ n) (
 
     numbered : IsNumbered (IsCorner Turn) stars.keys stars.made star
     numbered = record {
-      nothing = keys_numbered.nothing;
-      ascending = turns.rising;
+      nothing = (keys-numbered n rows sound stars turns.grow).nothing;
+      ascending = turns.grow.rising;
       members = members;
-      numbers = keys_numbered.numbers;
+      numbers = (keys-numbered n rows sound stars turns.grow).numbers;
     }
 
     corner_made : (x : ℕ) → IsCorner Turn x → x ≤ stars.made
-    corner_made x c = key_made x ((members x).1 c)
+    corner_made x c = key-made n rows sound stars turns.grow x ((members x).1 c)
 
     fresh : IsFresh L (IsCorner Turn) star
-    fresh = numbered_fresh (IsCorner Turn) stars.keys stars.made star numbered L corner_made (λ t x linked. let h : x ≤ made rows = rows_made rows t x linked in omega (arith, turns.made))
+    fresh = numbered_fresh (IsCorner Turn) stars.keys stars.made star numbered L corner_made (λ t x linked. let h : x ≤ made rows = rows_made rows t x linked in omega (arith, turns.grow.made))
 
     not_link : (t x : ℕ) → IsNew (IsCorner Turn) star (L t x) → ⊥
     not_link t x = fresh_link beta L w (IsCorner Turn) star fresh t x
@@ -134,25 +114,12 @@ module _ (n : ℕ) (rows : Rows) (sound : IsSound beta n rows) (dim : 2 ≤ n) (
     pair_of x y = record { x = x; y = L 0 y; t = 0 }
 
     lives : (d t y : ℕ) → Entry d t y → IsLive (with_births n (length stars.keys) rows) d
-    lives d t y e = places e
-      where
-        old : (x : ℕ) → IsLive rows x → IsLive (with_births n (length stars.keys) rows) x
-        old x live = ap is_some (births-old n (length stars.keys) rows x (live-within rows x live)) ∙ live
-
-        born : (x : ℕ) → K x → IsLive (with_births n (length stars.keys) rows) (star x)
-        born x h =
-            let a : stars.made < star x = numbered_above K stars.keys stars.made star keys_numbered x h in
-            let b : star x ≤ stars.made + length stars.keys = numbered_upto K stars.keys stars.made star keys_numbered x h in
-            let some : x < length rows = live-within rows x (key_live x h) in
-            ap is_some (births-new n (length stars.keys) rows (star x) (omega (arith, turns.made)) (omega (arith, turns.made)))
-
-        places : Entry d t y → IsLive (with_births n (length stars.keys) rows) d
-        places (q, has, (zero, inl (inl (inl (inl e))))) = rw e.0 (old (L 0 q.x) (sound.live 0 q.x (turns.turn q.x q.y (at_zero q has zero)).begins))
-        places (q, has, (zero, inl (inl (inl (inr e))))) = rw e.0 (born q.x (turns.turn q.x q.y (at_zero q has zero)).corner)
-        places (q, has, (zero, inl (inl (inr (inl e))))) = rw e.0 (born q.x (turns.turn q.x q.y (at_zero q has zero)).corner)
-        places (q, has, (zero, inl (inl (inr (inr e))))) = rw e.0 (old (L 1 q.y) (sound.live 1 q.y (turns.turn q.x q.y (at_zero q has zero)).ends))
-        places (q, has, (zero, inl (inr e))) = rw e.0 (born q.x (turns.turn q.x q.y (at_zero q has zero)).corner)
-        places (q, has, (zero, inr e)) = rw e.3 (born q.x (turns.turn q.x q.y (at_zero q has zero)).corner)
+    lives d t y (q, has, (zero, inl (inl (inl (inl e))))) = rw e.0 (old-lives n rows sound stars turns.grow (L 0 q.x) (sound.live 0 q.x (turns.turn q.x q.y (at_zero q has zero)).begins))
+    lives d t y (q, has, (zero, inl (inl (inl (inr e))))) = rw e.0 (new-lives n rows sound stars turns.grow q.x (turns.turn q.x q.y (at_zero q has zero)).corner)
+    lives d t y (q, has, (zero, inl (inl (inr (inl e))))) = rw e.0 (new-lives n rows sound stars turns.grow q.x (turns.turn q.x q.y (at_zero q has zero)).corner)
+    lives d t y (q, has, (zero, inl (inl (inr (inr e))))) = rw e.0 (old-lives n rows sound stars turns.grow (L 1 q.y) (sound.live 1 q.y (turns.turn q.x q.y (at_zero q has zero)).ends))
+    lives d t y (q, has, (zero, inl (inr e))) = rw e.0 (new-lives n rows sound stars turns.grow q.x (turns.turn q.x q.y (at_zero q has zero)).corner)
+    lives d t y (q, has, (zero, inr e)) = rw e.3 (new-lives n rows sound stars turns.grow q.x (turns.turn q.x q.y (at_zero q has zero)).corner)
 
     inside : (d t y : ℕ) → Entry d t y → t ≤ n
     inside d t y (q, has, (zero, inl (inl (inl (inl e))))) = omega (arith, e.1)
@@ -267,7 +234,7 @@ module _ (n : ℕ) (rows : Rows) (sound : IsSound beta n rows) (dim : 2 ≤ n) (
         fits = entries-fit beta n rows sound (length stars.keys) Entry lives inside cs writes laws;
         keys = stars.keys;
         star = star;
-        numbered = subst (λ m. IsNumbered (IsCorner Turn) stars.keys m star) turns.made numbered;
+        numbered = subst (λ m. IsNumbered (IsCorner Turn) stars.keys m star) turns.grow.made numbered;
         births = refl;
         becomes = cut;
         laws = laws;

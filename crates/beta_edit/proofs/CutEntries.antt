@@ -6,14 +6,11 @@ use Rattle.map_defs.specs.Edits.{Change}
 use Rattle.cell_edit.specs.Writing.{Appends}
 use Rattle.beta_edit.specs.Ways.{IsOneEntry, IsWayEntry}
 use Rattle.beta_edit.specs.Cutting.{IsAlongEntry, IsOverEntry, IsCornerEntry}
-use Rattle.beta_edit.proofs.Appending.{appends-none, appends-then, appends-same}
+use Rattle.beta_edit.proofs.Appending.{appends-then, appends-same}
 use Rattle.beta_edit.proofs.WayPlaces.{IsWayPlace, before, on, after}
 
 module _ (L : Links) (star : ℕ → ℕ) (x z : ℕ) where
   -- ---- the other sides of the face, one after another
-  pub along-none : (cs : List Change) → Appends L (IsAlongEntry L star 3 x z) cs cs
-  along-none cs = appends-none L (IsAlongEntry L star 3 x z) cs (λ d t y e. omega (arith, e.0, e.1))
-
   -- there is no such side
   pub along-skip : (m : ℕ) (a b : List Change) → L m z ≡ 0 → Appends L (IsAlongEntry L star m x z) a b → Appends L (IsAlongEntry L star (m + 1) x z) a b
   along-skip m a b free has =

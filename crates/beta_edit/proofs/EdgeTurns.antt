@@ -101,9 +101,7 @@ module _ (rows : Rows) (w : Laws beta (links_of rows)) (d e : ℕ) (can : AreBet
 
   pub edge-turns : (count : ℕ) → count ≡ made rows → IsStrictlyIncreasing keys → IsAscending pairs → AreTurns rows (record { keys = keys; made = count }) pairs
   edge-turns count is rising ascending = record {
-    made = is;
-    live = corners-live;
-    rising = rising;
+    grow = record { made = is; live = corners-live; rising = rising };
     ascending = ascending;
     turn = pair-turn (links_of rows) w d e can apart pairs same keys members;
     one = pair-one (links_of rows) w d e can apart pairs same;

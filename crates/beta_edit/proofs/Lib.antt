@@ -2,6 +2,7 @@ mod Appending
 mod WayPlaces
 mod SplitEntries
 mod EntryEdit
+mod GrowthFacts
 mod SplitEdit
 mod VertexPlan
 mod CutEntries

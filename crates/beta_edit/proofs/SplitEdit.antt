@@ -1,35 +1,31 @@
 -- The edit that writes the entries of a vertex: it fits, splits the edge, and keeps the laws.
-use Rattle.std.proofs.Common.{ℕ, ◌≡◌, ◌≢◌, ◌+◌, ◌<◌, ◌≤◌, List, length, take, get_or, Contains, is_some, refl, sym, ap, ◌∙◌, subst, inl, inr, arith}
-use Rattle.std.proofs.lemmas.List.Elements.{All-contains, Contains-get_or}
-use Rattle.std.specs.List.Sorted.{IsStrictlyIncreasing}
+use Rattle.std.proofs.Common.{ℕ, ◌≡◌, ◌≢◌, ◌+◌, ◌<◌, ◌≤◌, List, length, take, get_or, Contains, refl, sym, ap, ◌∙◌, subst, inl, inr, arith}
+use Rattle.std.proofs.lemmas.List.Elements.{Contains-get_or}
 use Rattle.map_defs.specs.Kind.{beta}
 use Rattle.map_defs.specs.Links.{Links, IsTurned}
 use Rattle.map_defs.specs.Laws.{Laws}
-use Rattle.map_defs.specs.Rows.{Rows, links_of, made, IsLive, IsSound}
+use Rattle.map_defs.specs.Rows.{Rows, links_of, IsLive, IsSound}
 use Rattle.map_defs.specs.Births.{IsNumbered, IsFresh}
 use Rattle.map_defs.specs.Edits.{Change, with_births, after_edit}
 use Rattle.map_defs.specs.Insertion.{IsSplit}
 use Rattle.link_laws.proofs.Basics.{by_cases, same_or_not}
 use Rattle.link_laws.proofs.LawFacts.{link_one}
-use Rattle.link_laws.proofs.RowFacts.{rows_made, rows_dimension}
-use Rattle.edit_laws.proofs.RowWrites.{births-old, births-new, live-within}
-use Rattle.insert_laws.proofs.Fresh.{IsNew, fresh_link}
+use Rattle.link_laws.proofs.RowFacts.{rows_dimension}
+use Rattle.insert_laws.proofs.Fresh.{IsNew}
 use Rattle.insert_laws.proofs.BetaVertex.{IsEdgeSet, split_keeps}
-use Rattle.insert_laws.proofs.Numbers.{numbered_above, numbered_upto, numbered_fresh}
 use Rattle.sewing.proofs.PairWalks.{Contains-take}
 use Rattle.cell_edit.specs.Stars.{Stars, star_of}
 use Rattle.cell_edit.specs.Inserting.{PlansInsertion}
 use Rattle.cell_edit.specs.Writing.{WritesEntries}
 use Rattle.cell_edit.proofs.AlongLinks.{linked-within}
-use Rattle.cell_edit.proofs.Beyond.{live-made, keys-apart}
-use Rattle.cell_edit.proofs.Premises.{live-dart}
-use Rattle.cell_edit.proofs.StarNumbers.{stars-number}
+use Rattle.cell_edit.proofs.Beyond.{keys-apart}
 use Rattle.beta_edit.specs.Splitting.{IsSplitEntry, AreSplitEntries, IsWholeEdge}
 use Rattle.beta_edit.proofs.WayPlaces.{places-apart}
 use Rattle.beta_edit.proofs.SplitEntries.{split-place}
+use Rattle.beta_edit.proofs.GrowthFacts.{key-live, key-dart, key-made, keys-numbered, keys-fresh, link-old, old-lives, new-lives}
 use Rattle.beta_edit.proofs.EntryEdit.{growing, written, left, entries-fit}
 
-module _ (n : ℕ) (rows : Rows) (sound : IsSound beta n rows) (dim : 2 ≤ n) (w : Laws beta (links_of rows)) (stars : Stars) (whole : IsWholeEdge rows stars) (up : IsStrictlyIncreasing stars.keys) where
+module _ (n : ℕ) (rows : Rows) (sound : IsSound beta n rows) (dim : 2 ≤ n) (w : Laws beta (links_of rows)) (stars : Stars) (whole : IsWholeEdge rows stars) where
   abbrev L : Links
   L = links_of rows
 
@@ -42,36 +38,24 @@ module _ (n : ℕ) (rows : Rows) (sound : IsSound beta n rows) (dim : 2 ≤ n) (
   abbrev Entry : ℕ → ℕ → ℕ → Type 0
   Entry = AreSplitEntries L star (n + 1) stars.keys
 
-  key_live : (x : ℕ) → K x → IsLive rows x
-  key_live x h = All-contains (λ (d : ℕ). IsLive rows d) stars.keys x whole.live h
-
-  key_dart : (x : ℕ) → K x → x ≢ 0
-  key_dart x h = live-dart beta n rows sound x (key_live x h)
-
-  key_made : (x : ℕ) → K x → x ≤ stars.made
-  key_made x h = let low : x ≤ made rows = live-made rows x (key_live x h) in omega (arith, whole.made)
-
-  numbered : IsNumbered K stars.keys stars.made star
-  numbered = stars-number stars up (λ p d h. key_dart (get_or stars.keys p d) (Contains-get_or stars.keys p d h))
-
   fresh : IsFresh L K star
-  fresh = numbered_fresh K stars.keys stars.made star numbered L key_made (λ t x linked. let h : x ≤ made rows = rows_made rows t x linked in omega (arith, whole.made))
+  fresh = keys-fresh n rows sound stars whole.grow
 
   set : IsEdgeSet L K
-  set = record { dart = key_dart; on = whole.sides }
+  set = record { dart = key-dart n rows sound stars whole.grow; on = whole.sides }
 
   -- a new dart is neither of the edge nor linked to
   key_old : (x u : ℕ) → K x → K u → x ≢ star u
   key_old x u h g e = fresh.outside u g (subst K e h)
 
   link_old : (t x u : ℕ) → K u → L t x ≢ star u
-  link_old t x u h e = fresh_link beta L w K star fresh t x (u, h, e)
+  link_old = link-old n rows sound stars whole.grow w
 
   -- the entries of two darts have no place in common
   pub splits-apart : (m p x u : ℕ) → p < length stars.keys → x ≡ get_or stars.keys p x → Contains (take p stars.keys) u → (d t y z : ℕ)
       → IsSplitEntry L star m u d t y → IsSplitEntry L star m x d t z → ⊥
   splits-apart m p x u low at has d t y z e f =
-      let apart = keys-apart stars p x u up (λ q v h. key_made (get_or stars.keys q v) (Contains-get_or stars.keys q v h)) low at has in
+      let apart = keys-apart stars p x u whole.grow.rising (λ q v h. key-made n rows sound stars whole.grow (get_or stars.keys q v) (Contains-get_or stars.keys q v h)) low at has in
       let first : K u = Contains-take p stars.keys u has in
       let second : K x = (p, low, sym at) in
       places-apart u (star u) (L 1 u) x (star x) (L 1 x) d t
@@ -87,25 +71,12 @@ module _ (n : ℕ) (rows : Rows) (sound : IsSound beta n rows) (dim : 2 ≤ n) (
       (split-place L star u m d t y e) (split-place L star x m d t z f)
 
   lives : (d t y : ℕ) → Entry d t y → IsLive (with_births n (length stars.keys) rows) d
-  lives d t y e = places e
-    where
-      old : (x : ℕ) → IsLive rows x → IsLive (with_births n (length stars.keys) rows) x
-      old x live = ap is_some (births-old n (length stars.keys) rows x (live-within rows x live)) ∙ live
-
-      born : (x : ℕ) → K x → IsLive (with_births n (length stars.keys) rows) (star x)
-      born x h =
-          let a : stars.made < star x = numbered_above K stars.keys stars.made star numbered x h in
-          let b : star x ≤ stars.made + length stars.keys = numbered_upto K stars.keys stars.made star numbered x h in
-          let some : x < length rows = live-within rows x (key_live x h) in
-          ap is_some (births-new n (length stars.keys) rows (star x) (omega (arith, whole.made)) (omega (arith, whole.made)))
-
-      places : Entry d t y → IsLive (with_births n (length stars.keys) rows) d
-      places (x, h, inl (inl (inl e))) = rw e.0 (old x (key_live x h))
-      places (x, h, inl (inl (inr e))) = rw e.0 (born x h)
-      places (x, h, inl (inr (some, inl e))) = rw e.0 (born x h)
-      places (x, h, inl (inr (some, inr e))) = rw e.0 (old (L 1 x) (sound.live 1 x some))
-      places (x, h, inr (high, low, some, inl e)) = rw e.0 (old x (key_live x h))
-      places (x, h, inr (high, low, some, inr e)) = rw e.0 (born x h)
+  lives d t y (x, h, inl (inl (inl e))) = rw e.0 (old-lives n rows sound stars whole.grow x (key-live n rows sound stars whole.grow x h))
+  lives d t y (x, h, inl (inl (inr e))) = rw e.0 (new-lives n rows sound stars whole.grow x h)
+  lives d t y (x, h, inl (inr (some, inl e))) = rw e.0 (new-lives n rows sound stars whole.grow x h)
+  lives d t y (x, h, inl (inr (some, inr e))) = rw e.0 (old-lives n rows sound stars whole.grow (L 1 x) (sound.live 1 x some))
+  lives d t y (x, h, inr (high, low, some, inl e)) = rw e.0 (old-lives n rows sound stars whole.grow x (key-live n rows sound stars whole.grow x h))
+  lives d t y (x, h, inr (high, low, some, inr e)) = rw e.0 (new-lives n rows sound stars whole.grow x h)
 
   inside : (d t y : ℕ) → Entry d t y → t ≤ n
   inside d t y (x, h, inl (inl (inl e))) = omega (arith, e.1)
@@ -206,7 +177,7 @@ module _ (n : ℕ) (rows : Rows) (sound : IsSound beta n rows) (dim : 2 ≤ n) (
     back x y dart some e = by_cases (IsNew K star y) (N 1 x) y
         (λ (u, h, q). ap (N 1) (sym e ∙ ap (N 0) q ∙ zero_new u h) ∙ first u h ∙ sym q)
         (λ none. by_cases (K (L 0 y)) (N 1 x) y
-        (λ h. let on : L 1 (L 0 y) ≡ y = w.back 0 y (key_dart (L 0 y) h) in
+        (λ h. let on : L 1 (L 0 y) ≡ y = w.back 0 y (set.dart (L 0 y) h) in
         let from : star (L 0 y) ≡ x = sym (zero_behind (L 0 y) h (λ o. some (sym on ∙ o))) ∙ ap (N 0) on ∙ e in
         ap (N 1) (sym from) ∙ second (L 0 y) h ∙ on)
         (λ out. let from : L 0 y ≡ x = sym (zero_else y none out) ∙ e in
@@ -231,7 +202,7 @@ module _ (n : ℕ) (rows : Rows) (sound : IsSound beta n rows) (dim : 2 ≤ n) (
       fits = entries-fit beta n rows sound (length stars.keys) Entry lives inside cs writes laws;
       keys = stars.keys;
       star = star;
-      numbered = subst (λ m. IsNumbered K stars.keys m star) whole.made numbered;
+      numbered = subst (λ m. IsNumbered K stars.keys m star) whole.grow.made (keys-numbered n rows sound stars whole.grow);
       births = refl;
       becomes = split;
       laws = laws;

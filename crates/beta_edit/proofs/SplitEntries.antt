@@ -6,7 +6,7 @@ use Rattle.map_defs.specs.Edits.{Change}
 use Rattle.cell_edit.specs.Writing.{Appends}
 use Rattle.beta_edit.specs.Ways.{IsOneEntry, IsWayEntry}
 use Rattle.beta_edit.specs.Splitting.{IsBehindEntry, IsSideEntry, IsSplitEntry}
-use Rattle.beta_edit.proofs.Appending.{appends-none, appends-then, appends-same}
+use Rattle.beta_edit.proofs.Appending.{appends-then, appends-same}
 use Rattle.beta_edit.proofs.WayPlaces.{IsWayPlace, before, on, after}
 
 module _ (L : Links) (star : ℕ → ℕ) (x : ℕ) where
@@ -39,9 +39,6 @@ module _ (L : Links) (star : ℕ → ℕ) (x : ℕ) where
       apart d t y z (inr e) (inr f) = old (sym f.0 ∙ e.0)
 
   -- ---- the sides, one after another
-  pub sides-none : (cs : List Change) → Appends L (IsSideEntry L star 2 x) cs cs
-  sides-none cs = appends-none L (IsSideEntry L star 2 x) cs (λ d t y e. omega (arith, e.0, e.1))
-
   -- there is no such side
   pub sides-skip : (m : ℕ) (a b : List Change) → L m x ≡ 0 → Appends L (IsSideEntry L star m x) a b → Appends L (IsSideEntry L star (m + 1) x) a b
   sides-skip m a b free has =

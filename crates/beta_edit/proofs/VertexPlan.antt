@@ -1,6 +1,7 @@
 -- A vertex on an edge, told by the list of the edge's darts.
 use Rattle.std.proofs.Common.{ℕ, ◌≡◌, ◌↔◌, List, Contains}
 use Rattle.std.specs.Prelude.{All}
+use Rattle.std.specs.List.Sorted.{IsStrictlyIncreasing}
 use Rattle.map_defs.specs.Kind.{beta}
 use Rattle.map_defs.specs.Links.{Links}
 use Rattle.map_defs.specs.Rows.{Rows, links_of, made, IsLive, IsSound}
@@ -29,10 +30,9 @@ module _ (n : ℕ) (rows : Rows) (sound : IsSound beta n rows) (d : ℕ) (live :
       all-live rows (InCell beta (links_of rows) 1 d) keys members
       (λ x h. orbit-live (Leads (links_of rows) (IsCellWord beta 1)) rows (leads-live beta n rows sound (IsCellWord beta 1)) d x live h)
 
-  pub vertex-whole : (count : ℕ) → count ≡ made rows → IsWholeEdge rows (record { keys = keys; made = count })
-  vertex-whole count is = record {
-    made = is;
-    live = vertex-live;
+  pub vertex-whole : (count : ℕ) → count ≡ made rows → IsStrictlyIncreasing keys → IsWholeEdge rows (record { keys = keys; made = count })
+  vertex-whole count is rising = record {
+    grow = record { made = is; live = vertex-live; rising = rising };
     sides = λ x j h l some. (members _).1 ((edge_set (links_of rows) d (live-dart beta n rows sound d live)).on x j ((members x).0 h) l some);
   }
 

@@ -1,10 +1,10 @@
 -- The entries that an edge in a face of a combinatorial map writes.
-use Rattle.std.specs.Prelude.{ℕ, ◌≡◌, ◌≢◌, ◌<◌, ◌≤◌, ◌⊎◌, List, All, Contains}
-use Rattle.std.specs.List.Sorted.{IsStrictlyIncreasing}
+use Rattle.std.specs.Prelude.{ℕ, ◌≡◌, ◌≢◌, ◌<◌, ◌≤◌, ◌⊎◌, List, Contains}
 use Rattle.map_defs.specs.Links.{Links}
-use Rattle.map_defs.specs.Rows.{Rows, links_of, made, IsLive}
+use Rattle.map_defs.specs.Rows.{Rows, links_of}
 use Rattle.sewing.specs.Triples.{Triple, Lists, IsAscending}
 use Rattle.cell_edit.specs.Stars.{Stars}
+use Rattle.beta_edit.specs.Growing.{CanGrow}
 use Rattle.beta_edit.specs.Ways.{IsOneEntry, IsWayEntry}
 
 -- x is one of the corners: the first dart of a pair at link 0
@@ -42,9 +42,7 @@ pub record IsTurn (L : Links) (keys : List ℕ) (x z : ℕ) : Type 0 where
 
 -- What the changes of an edge ask of the corners and their pairs.
 pub record AreTurns (rows : Rows) (stars : Stars) (pairs : List Triple) : Type 0 where
-  pub made : stars.made ≡ made rows
-  pub live : All (IsLive rows) stars.keys
-  pub rising : IsStrictlyIncreasing stars.keys
+  pub grow : CanGrow rows stars
   pub ascending : IsAscending pairs
   pub turn : (x z : ℕ) → Lists pairs x z 0 → IsTurn (links_of rows) stars.keys x z
   -- no two corners turn to one

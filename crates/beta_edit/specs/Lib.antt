@@ -1,3 +1,4 @@
 pub mod Ways
+pub mod Growing
 pub mod Splitting
 pub mod Cutting

@@ -1,8 +1,9 @@
 -- The entries that a vertex on an edge of a combinatorial map writes.
-use Rattle.std.specs.Prelude.{ℕ, ◌≡◌, ◌≢◌, ◌<◌, ◌≤◌, ◌⊎◌, List, All, Contains}
+use Rattle.std.specs.Prelude.{ℕ, ◌≡◌, ◌≢◌, ◌<◌, ◌≤◌, ◌⊎◌, List, Contains}
 use Rattle.map_defs.specs.Links.{Links}
-use Rattle.map_defs.specs.Rows.{Rows, links_of, made, IsLive}
+use Rattle.map_defs.specs.Rows.{Rows, links_of}
 use Rattle.cell_edit.specs.Stars.{Stars}
+use Rattle.beta_edit.specs.Growing.{CanGrow}
 use Rattle.beta_edit.specs.Ways.{IsWayEntry}
 
 -- the way leads from x over its new dart
@@ -23,7 +24,6 @@ AreSplitEntries L star m keys d t y = (x : ℕ) × Contains keys x × IsSplitEnt
 
 -- What the changes of a vertex ask of the darts of the edge.
 pub record IsWholeEdge (rows : Rows) (stars : Stars) : Type 0 where
-  pub made : stars.made ≡ made rows
-  pub live : All (IsLive rows) stars.keys
+  pub grow : CanGrow rows stars
   -- the edge has its darts on all sides
   pub sides : (x j : ℕ) → Contains stars.keys x → 2 ≤ j → links_of rows j x ≢ 0 → Contains stars.keys (links_of rows j x)

@@ -23,7 +23,7 @@ pub push_corner-requires : goal.push_corner-requires
 push_corner-requires g c =
     let pairs : List Triple = c.args.pairs.now in
     let has : Lists pairs c.pair.inside.x c.pair.inside.y c.pair.inside.t = subst (λ (p : Triple). Contains pairs p) (sym c.pair.view_is) (c.loop-pair.pair-index, c.loop-pair-test.true, sym c.pair-item.is) in
-    (lit< tt, (c.requires.turns.turn c.pair.inside.x c.pair.inside.y (rw c.if-pair-ne0.false at has), c.requires.turns.made))
+    (lit< tt, (c.requires.turns.turn c.pair.inside.x c.pair.inside.y (rw c.if-pair-ne0.false at has), c.requires.turns.grow.made))
 
 pub loop-pair-preserved : goal.loop-pair-preserved
 loop-pair-preserved g c =

@@ -17,10 +17,10 @@ loop-link-preserved g c =
     let rows = c.args.links.now.rows in
     let dart : ℕ = c.args.dart in
     let some : links_of rows c.loop-link.link dart ≢ 0 = λ none. false≢true (sym (c.in-Some.ensures.free.1 none)) in
-    let low : dart ≤ made rows = live-made rows dart (All-contains (λ (d : ℕ). IsLive rows d) c.args.stars.now.keys dart c.requires.edge.live c.requires.key) in
+    let low : dart ≤ made rows = live-made rows dart (All-contains (λ (d : ℕ). IsLive rows d) c.args.stars.now.keys dart c.requires.edge.grow.live c.requires.key) in
     let above : c.args.stars.now.made < star_of c.args.stars.now dart = rw c.star-in-loop-link.ensures.star at c.star-in-loop-link.ensures.above in
     sides-push (links_of rows) (star_of c.args.stars.now) dart c.loop-link.link c.args.changes.now.items c.loop-link.changes.items c.push_link.new.changes.items c.push_link-in-loop-link.new.changes.items
-    (omega (arith, c.loop-link.auto.link)) some (λ e. omega (arith, c.requires.edge.made)) c.loop-link.invariant
+    (omega (arith, c.loop-link.auto.link)) some (λ e. omega (arith, c.requires.edge.grow.made)) c.loop-link.invariant
     (rw (c.star.ensures.star, c.in-Some.ensures.linked) at c.in_ok-push_link.ensures)
     (rw (c.star-in-loop-link.ensures.star, c.in-Some.ensures.linked) at c.in_ok-push_link-2.ensures)
 

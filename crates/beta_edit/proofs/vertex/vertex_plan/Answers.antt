@@ -16,7 +16,7 @@ new-stars-requires-clause-made g c =
 pub split_changes-requires : goal.split_changes-requires
 split_changes-requires g c =
     rw c.new-stars.ensures
-    (lit< tt, (vertex-whole g.row.DIM c.args.links.now.rows c.made.ensures.sound c.args.dart c.requires.dart c.in_ok-darts.darts.items c.in_ok-darts.ensures.members c.made.result c.made.ensures.made, c.requires.laws))
+    (lit< tt, (vertex-whole g.row.DIM c.args.links.now.rows c.made.ensures.sound c.args.dart c.requires.dart c.in_ok-darts.darts.items c.in_ok-darts.ensures.members c.made.result c.made.ensures.made c.in_ok-darts.ensures.ascending, c.requires.laws))
 
 pub returns : goal.returns
 returns g c =
@@ -26,5 +26,5 @@ returns g c =
     rw (c.births.ensures, c.new.ensures.items, c.new-stars.ensures)
     (vertex-plans g.row.DIM rows (InCell beta (links_of rows) 1 c.args.dart) (Contains keys) _ c.in_ok-darts.ensures.members
     (edit-splits g.row.DIM rows c.made.ensures.sound c.made.ensures.low c.requires.laws stars
-    (vertex-whole g.row.DIM rows c.made.ensures.sound c.args.dart c.requires.dart keys c.in_ok-darts.ensures.members c.made.result c.made.ensures.made)
-    c.in_ok-darts.ensures.ascending c.in_ok-changes.changes.items (rw c.new-stars.ensures at c.in_ok-changes.ensures)))
+    (vertex-whole g.row.DIM rows c.made.ensures.sound c.args.dart c.requires.dart keys c.in_ok-darts.ensures.members c.made.result c.made.ensures.made c.in_ok-darts.ensures.ascending)
+    c.in_ok-changes.changes.items (rw c.new-stars.ensures at c.in_ok-changes.ensures)))
