@@ -1,0 +1,102 @@
+ghost use Rattle.std.specs.Prelude.{◌≡◌, ℕ, ◌+◌, ◌≤◌, ◌↔◌, Contains, IfOk, OnOk};
+ghost use Rattle.std.specs.List.Sorted.{IsStrictlyIncreasing};
+ghost use Rattle.map_defs.specs.Kind.{beta};
+ghost use Rattle.map_defs.specs.Rows.{links_of, made};
+ghost use Rattle.map_defs.specs.Laws.{Laws};
+ghost use Rattle.sewing.specs.Triples.{IsAscending};
+ghost use Rattle.cell_edit.specs.Stars.{star_of};
+ghost use Rattle.cell_edit.specs.Writing.{WritesEntries, Appends};
+ghost use Rattle.beta_edit.specs.Cutting.{IsCornerOf, IsAlongEntry, IsOverEntry, IsCornerEntry, AreCutEntries, IsTurn, AreTurns};
+
+use crate::writing::{push_link, push_way};
+use cell_edit::Stars;
+use link_rows::{Change, Links};
+use map_kind::{Beta, Dart};
+use sewing::Triple;
+use std::alloc::{AllocError, Global};
+
+/// The corners of an edge's pairs, ascending: the first darts of those at link 0.
+pub(crate) fn corners(alloc: Global, pairs: &[Triple]) -> Result<Vec<Dart>, AllocError>
+    requires { IsAscending pairs.now }
+    ensures members { IfOk result (λ corners. (x : ℕ) → Contains corners.items x ↔ IsCornerOf pairs.now x) }
+    ensures ascending { IfOk result (λ corners. IsStrictlyIncreasing corners.items) }
+{
+    let mut corners = Vec::new(alloc);
+    for pair in pairs {
+        if pair.t != 0 {
+            continue;
+        }
+        corners.push(pair.x)?;
+    }
+    Ok(corners)
+}
+
+/// The changes by which the ways into the corners lead over their new dart.
+pub(crate) fn cut_changes<const DIM: usize>(
+    alloc: Global,
+    links: &Links<Beta, DIM>,
+    stars: &Stars,
+    pairs: &[Triple],
+) -> Result<Vec<Change>, AllocError>
+    requires turns { AreTurns links.now.rows stars.now pairs.now }
+    requires laws { Laws beta (links_of links.now.rows) }
+    ensures { IfOk result (λ changes. WritesEntries (links_of links.now.rows)
+        (AreCutEntries (links_of links.now.rows) (star_of stars.now) (DIM + 1) pairs.now) changes.items) }
+{
+    // A map has links 0 to 2 at least.
+    let _ = links.dimension();
+    let mut changes = Vec::new(alloc);
+    for pair in pairs {
+        if pair.t != 0 {
+            continue;
+        }
+        push_corner(links, stars, pair.x, pair.y, &mut changes)?;
+    }
+    Ok(changes)
+}
+
+/// Appends the changes of the new dart of one corner, which leads to where link 1 leads from another dart.
+fn push_corner<const DIM: usize>(
+    links: &Links<Beta, DIM>,
+    stars: &Stars,
+    corner: Dart,
+    other: Dart,
+    changes: &mut Vec<Change>,
+) -> Result<(), AllocError>
+    requires turn { IsTurn (links_of links.now.rows) stars.now.keys corner other }
+    requires made { stars.now.made ≡ made links.now.rows }
+    ensures { OnOk result (Appends (links_of links.now.rows)
+        (IsCornerEntry (links_of links.now.rows) (star_of stars.now) (DIM + 1) corner other) changes.old.items changes.new.items) }
+{
+    // A map has links 0 to 2 at least.
+    let _ = links.dimension();
+    let new = stars.star(corner);
+    let before = links.link(corner, 0).unwrap();
+    let behind = links.link(other, 1).unwrap();
+    push_way(links, before, new, changes)?;
+    push_way(links, new, behind, changes)?;
+    push_link(links, new, 2, stars.star(behind), changes)?;
+    push_along(links, stars, corner, other, changes)
+}
+
+/// Appends the changes by which the new dart of a corner lies on the other sides of the face.
+fn push_along<const DIM: usize>(
+    links: &Links<Beta, DIM>,
+    stars: &Stars,
+    corner: Dart,
+    other: Dart,
+    changes: &mut Vec<Change>,
+) -> Result<(), AllocError>
+    requires { IsTurn (links_of links.now.rows) stars.now.keys corner other }
+    ensures { OnOk result (Appends (links_of links.now.rows)
+        (IsAlongEntry (links_of links.now.rows) (star_of stars.now) (DIM + 1) corner other) changes.old.items changes.new.items) }
+{
+    let new = stars.star(corner);
+    for link in 3..links.dimension() + 1 {
+        let Some(copy) = links.link(other, link) else {
+            continue;
+        };
+        push_link(links, new, link, stars.star(copy), changes)?;
+    }
+    Ok(())
+}

@@ -1,0 +1,43 @@
+ghost use Rattle.std.specs.Prelude.{◌≤◌, OnOk};
+ghost use Rattle.map_defs.specs.Rows.{links_of};
+ghost use Rattle.cell_edit.specs.Writing.{Appends};
+ghost use Rattle.beta_edit.specs.Ways.{IsOneEntry, IsWayEntry};
+
+use link_rows::{Change, Links};
+use map_kind::{Beta, Dart};
+use std::alloc::AllocError;
+
+/// Appends the change by which a link of a dart becomes another dart.
+pub(crate) fn push_link<const DIM: usize>(
+    links: &Links<Beta, DIM>,
+    dart: Dart,
+    link: usize,
+    to: Dart,
+    changes: &mut Vec<Change>,
+) -> Result<(), AllocError>
+    requires { link ≤ DIM }
+    ensures { OnOk result (Appends (links_of links.now.rows) (IsOneEntry dart link to) changes.old.items changes.new.items) }
+{
+    changes.push(Change {
+        dart,
+        link,
+        old: links.number_at(dart, link),
+        new: to.number(),
+    })?;
+    Ok(())
+}
+
+/// Appends the changes by which link 1 leads on from one dart to another, and link 0 back.
+pub(crate) fn push_way<const DIM: usize>(
+    links: &Links<Beta, DIM>,
+    from: Dart,
+    to: Dart,
+    changes: &mut Vec<Change>,
+) -> Result<(), AllocError>
+    ensures { OnOk result (Appends (links_of links.now.rows) (IsWayEntry from to) changes.old.items changes.new.items) }
+{
+    // A map has links 0 to 2 at least.
+    let _ = links.dimension();
+    push_link(links, from, 1, to, changes)?;
+    push_link(links, to, 0, from, changes)
+}
