@@ -11,16 +11,15 @@ use Rattle.beta_edit.specs.Ways.{IsOneEntry, IsWayEntry}
 abbrev pub IsCornerOf : List Triple → ℕ → Type 0
 IsCornerOf pairs x = (z : ℕ) × Lists pairs x z 0
 
--- the new dart of the corner x lies on the other sides of the face, at the links from 3 to those below m, as link 1 of z
--- before the other corner does
-abbrev pub IsAlongEntry : Links → (ℕ → ℕ) → ℕ → ℕ → ℕ → ℕ → ℕ → ℕ → Type 0
-IsAlongEntry L star m x z d t y = (3 ≤ t) × (t < m) × (L t z ≢ 0) × (d ≡ star x) × (y ≡ star (L t z))
-
--- the way that led into the corner x leads over its new dart into the other corner, to which link 1 of z leads
+-- the way that led into the corner x leads over its new dart into the other corner, to which link 1 leads from z
 abbrev pub IsOverEntry : Links → (ℕ → ℕ) → ℕ → ℕ → ℕ → ℕ → ℕ → Type 0
 IsOverEntry L star x z d t y = IsWayEntry (L 0 x) (star x) d t y ⊎ IsWayEntry (star x) (L 1 z) d t y
 
--- and beside the new dart, across the new edge, lies that of the other corner
+-- at the links from 3 to those below m the new dart is joined with that of the copy to which the link leads from z
+abbrev pub IsAlongEntry : Links → (ℕ → ℕ) → ℕ → ℕ → ℕ → ℕ → ℕ → ℕ → Type 0
+IsAlongEntry L star m x z d t y = (3 ≤ t) × (t < m) × (L t z ≢ 0) × (d ≡ star x) × (y ≡ star (L t z))
+
+-- both, and across the new edge the new dart is joined with that of the other corner
 abbrev pub IsCornerEntry : Links → (ℕ → ℕ) → ℕ → ℕ → ℕ → ℕ → ℕ → ℕ → Type 0
 IsCornerEntry L star m x z d t y = (IsOverEntry L star x z d t y ⊎ IsOneEntry (star x) 2 (star (L 1 z)) d t y) ⊎ IsAlongEntry L star m x z d t y
 
@@ -32,7 +31,7 @@ IsTurnEntry L star m q d t y = (q.t ≡ 0) × IsCornerEntry L star m q.x q.y d t
 abbrev pub AreCutEntries : Links → (ℕ → ℕ) → ℕ → List Triple → ℕ → ℕ → ℕ → Type 0
 AreCutEntries L star m pairs d t y = (q : Triple) × Contains pairs q × IsTurnEntry L star m q d t y
 
--- What the changes of one corner x ask, where the dart z leads on to the other corner.
+-- What the changes of one corner x ask, where link 1 leads from z into the other corner.
 pub record IsTurn (L : Links) (keys : List ℕ) (x z : ℕ) : Type 0 where
   pub corner : Contains keys x
   pub begins : L 0 x ≢ 0

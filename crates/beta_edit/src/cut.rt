@@ -31,7 +31,7 @@ pub(crate) fn corners(alloc: Global, pairs: &[Triple]) -> Result<Vec<Dart>, Allo
     Ok(corners)
 }
 
-/// The changes by which the ways into the corners lead over their new dart.
+/// The changes by which the way into each corner leads over its new dart into the corner to which it turns.
 pub(crate) fn cut_changes<const DIM: usize>(
     alloc: Global,
     links: &Links<Beta, DIM>,
@@ -55,7 +55,8 @@ pub(crate) fn cut_changes<const DIM: usize>(
     Ok(changes)
 }
 
-/// Appends the changes of the new dart of one corner, which leads to where link 1 leads from another dart.
+/// Appends the changes by which the way into a corner leads over its new dart to where link 1 leads from another dart, and
+/// by which link 2 and those above it join the new dart.
 fn push_corner<const DIM: usize>(
     links: &Links<Beta, DIM>,
     stars: &Stars,
@@ -79,7 +80,8 @@ fn push_corner<const DIM: usize>(
     push_along(links, stars, corner, other, changes)
 }
 
-/// Appends the changes by which the new dart of a corner lies on the other sides of the face.
+/// Appends the changes by which the links from 3 upwards join the new dart of a corner with those on the other sides of the
+/// face.
 fn push_along<const DIM: usize>(
     links: &Links<Beta, DIM>,
     stars: &Stars,

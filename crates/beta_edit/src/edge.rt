@@ -18,7 +18,7 @@ use std::alloc::{AllocError, Global};
 /// The edit that inserts an edge into a face, from the corner of `one` to that of `other`. Each of the two corners, on all
 /// sides of the face, gets a new dart, numbered on from those that were made in the order of the corners' darts. The way
 /// that led into a corner leads over its new dart into the other corner; link 2 joins the new darts across the edge, and
-/// the links from 3 upwards on the other sides of the face.
+/// the links from 3 upwards join them with those on the other sides of the face.
 ///
 /// `OtherCell` comes exactly where the two darts do not lie on one side of one face; then `SameCorner` exactly where they
 /// lie in one corner; then `Unpaired` exactly where no way leads into one of the corners, or the ways into the corners

@@ -4,7 +4,7 @@ ghost use Rattle.map_defs.specs.Rows.{links_of, IsLive, IsSound};
 ghost use Rattle.map_defs.specs.Laws.{Laws};
 ghost use Rattle.map_defs.specs.Edits.{Fits};
 
-use crate::{edge_plan, vertex_plan};
+use crate::{edge_plan, face_plan, vertex_plan};
 use link_rows::{Edit, Links, polygon_edit};
 use map_kind::{Beta, Dart, Refusal, Refused};
 use sewing::{sew_plan, unsew_plan};
@@ -12,19 +12,43 @@ use std::alloc::{AllocError, Global};
 use std::process::Abort;
 use std::test::Fail;
 
-/// A polygon of four sides, numbered on from those that were made.
-fn square<const DIM: usize>(
+/// A polygon of so many sides, numbered on from those that were made.
+fn polygon<const DIM: usize>(
     rt: &impl Abort,
     alloc: Global,
     links: &mut Links<Beta, DIM>,
+    sides: u32,
 ) -> Result<(), AllocError>
-    requires { Laws beta (links_of links.old.rows) }
+    requires low { 3 ≤ sides }
+    requires high { sides ≤ 9 }
+    requires laws { Laws beta (links_of links.old.rows) }
     ensures { Laws beta (links_of links.new.rows) }
 {
-    assert!(rt; links.reserve(4).is_ok());
-    let edit = polygon_edit(alloc, links, 4)?;
+    assert!(rt; links.reserve(sides).is_ok());
+    let edit = polygon_edit(alloc, links, sides)?;
     links.apply(&edit);
     Ok(())
+}
+
+/// Sews two darts that can be sewn.
+fn sew(
+    rt: &impl Abort,
+    alloc: Global,
+    links: &mut Links<Beta, 3>,
+    link: usize,
+    one: u32,
+    other: u32,
+)
+    requires link { link ≤ 3 }
+    requires laws { Laws beta (links_of links.old.rows) }
+    ensures { Laws beta (links_of links.new.rows) }
+{
+    let one = dart(rt, links, one);
+    let other = dart(rt, links, other);
+    match sew_plan(alloc, links, link, one, other) {
+        Ok(edit) => links.apply(&edit),
+        Err(_) => panic!(rt; "not sewn"),
+    }
 }
 
 /// Two squares on the two sides of one face.
@@ -32,14 +56,9 @@ fn two_sides(rt: &impl Abort, alloc: Global) -> Result<Links<Beta, 3>, AllocErro
     ensures { IfOk result (λ links. Laws beta (links_of links.rows)) }
 {
     let mut links = Links::<Beta, 3>::new(alloc);
-    square(rt, alloc, &mut links)?;
-    square(rt, alloc, &mut links)?;
-    let one = dart(rt, &links, 1);
-    let other = dart(rt, &links, 5);
-    match sew_plan(alloc, &links, 3, one, other) {
-        Ok(edit) => links.apply(&edit),
-        Err(_) => panic!(rt; "not sewn"),
-    }
+    polygon(rt, alloc, &mut links, 4)?;
+    polygon(rt, alloc, &mut links, 4)?;
+    sew(rt, alloc, &mut links, 3, 1, 5);
     Ok(links)
 }
 
@@ -105,7 +124,7 @@ fn a_vertex_parts_an_edge_on_both_sides(rt: HostRuntime) -> Result<(), Fail> {
 fn a_vertex_parts_the_last_side_of_an_open_way(rt: HostRuntime) -> Result<(), Fail> {
     let alloc = rt.alloc();
     let mut links = Links::<Beta, 2>::new(alloc);
-    square(&rt, alloc, &mut links)?;
+    polygon(&rt, alloc, &mut links, 4)?;
     let first = dart(&rt, &links, 1);
     match unsew_plan(alloc, &links, 1, first) {
         Ok(edit) => links.apply(&edit),
@@ -155,7 +174,7 @@ fn an_edge_parts_a_face_on_both_sides(rt: HostRuntime) -> Result<(), Fail> {
 fn an_edge_needs_two_ways_into_two_corners(rt: HostRuntime) -> Result<(), Fail> {
     let alloc = rt.alloc();
     let mut links = Links::<Beta, 2>::new(alloc);
-    square(&rt, alloc, &mut links)?;
+    polygon(&rt, alloc, &mut links, 4)?;
     let one = dart(&rt, &links, 1);
     assert_eq!(&rt;
         refusal(edge_plan(alloc, &links, one, one)),
@@ -177,6 +196,38 @@ fn an_edge_needs_two_ways_into_two_corners(rt: HostRuntime) -> Result<(), Fail> 
     assert_eq!(&rt;
         rows(&rt, alloc, &links, 1, 7)?.as_slice(),
         [0, 5, 0, 6, 3, 0, 2, 6, 0, 5, 0, 0, 1, 4, 6, 3, 2, 5].as_slice()
+    );
+    Ok(())
+}
+
+#[test]
+fn a_face_parts_a_volume(rt: HostRuntime) -> Result<(), Fail> {
+    let alloc = rt.alloc();
+    let mut links = Links::<Beta, 3>::new(alloc);
+    polygon(&rt, alloc, &mut links, 3)?;
+    polygon(&rt, alloc, &mut links, 3)?;
+    sew(&rt, alloc, &mut links, 2, 1, 4);
+    sew(&rt, alloc, &mut links, 2, 2, 6);
+    sew(&rt, alloc, &mut links, 2, 3, 5);
+    let path = [
+        dart(&rt, &links, 1),
+        dart(&rt, &links, 2),
+        dart(&rt, &links, 3),
+    ];
+    match face_plan(alloc, &links, &path) {
+        Ok(edit) => apply(&rt, &mut links, &edit),
+        Err(_) => panic!(&rt; "no face"),
+    }
+    assert_eq!(&rt;
+        rows(&rt, alloc, &links, 1, 4)?.as_slice(),
+        [3, 2, 7, 0, 1, 3, 8, 0, 2, 1, 9, 0].as_slice()
+    );
+    assert_eq!(&rt;
+        rows(&rt, alloc, &links, 7, 13)?.as_slice(),
+        [
+            8, 9, 1, 10, 9, 7, 2, 12, 7, 8, 3, 11, 11, 12, 4, 7, 12, 10, 5, 9, 10, 11, 6, 8
+        ]
+        .as_slice()
     );
     Ok(())
 }
