@@ -1,67 +1,15 @@
-ghost use Rattle.std.specs.Prelude.{◌≡◌, ◌≤◌, IfOk};
+ghost use Rattle.std.specs.Prelude.{◌≤◌, IfOk};
 ghost use Rattle.map_defs.specs.Kind.{beta};
-ghost use Rattle.map_defs.specs.Rows.{links_of, IsLive, IsSound};
+ghost use Rattle.map_defs.specs.Rows.{links_of};
 ghost use Rattle.map_defs.specs.Laws.{Laws};
 
+use crate::test_maps::{dart, polygon, refusal, rows, sew};
 use crate::{contract_plan, contractible, removable, remove_plan};
-use link_rows::{Edit, Links, polygon_edit};
-use map_kind::{Beta, Dart, Refusal, Refused};
-use sewing::sew_plan;
+use link_rows::Links;
+use map_kind::{Beta, Refusal, Refused};
 use std::alloc::{AllocError, Global};
 use std::process::Abort;
 use std::test::Fail;
-
-/// A polygon of so many sides, numbered on from those that were made.
-fn polygon<const DIM: usize>(
-    rt: &impl Abort,
-    alloc: Global,
-    links: &mut Links<Beta, DIM>,
-    sides: u32,
-) -> Result<(), AllocError>
-    requires low { 3 ≤ sides }
-    requires high { sides ≤ 9 }
-    requires laws { Laws beta (links_of links.old.rows) }
-    ensures { Laws beta (links_of links.new.rows) }
-{
-    assert!(rt; links.reserve(sides).is_ok());
-    let edit = polygon_edit(alloc, links, sides)?;
-    links.apply(&edit);
-    Ok(())
-}
-
-/// A live dart.
-fn dart<const DIM: usize>(rt: &impl Abort, links: &Links<Beta, DIM>, number: u32) -> Dart
-    ensures live { IsLive links.now.rows result }
-    ensures number { result ≡ number }
-    ensures low { 2 ≤ DIM }
-    ensures sound { IsSound beta DIM links.now.rows }
-{
-    let dart = Dart::new(number).expect(rt, "0 is no dart");
-    let _ = links.dimension();
-    assert!(rt; links.is_live(dart));
-    dart
-}
-
-/// Sews two darts that can be sewn.
-fn sew<const DIM: usize>(
-    rt: &impl Abort,
-    alloc: Global,
-    links: &mut Links<Beta, DIM>,
-    link: usize,
-    one: u32,
-    other: u32,
-)
-    requires link { link ≤ DIM }
-    requires laws { Laws beta (links_of links.old.rows) }
-    ensures { Laws beta (links_of links.new.rows) }
-{
-    let one = dart(rt, links, one);
-    let other = dart(rt, links, other);
-    match sew_plan(alloc, links, link, one, other) {
-        Ok(edit) => links.apply(&edit),
-        Err(_) => panic!(rt; "not sewn"),
-    }
-}
 
 /// Removes the cell of a dart.
 fn remove<const DIM: usize>(
@@ -98,30 +46,6 @@ fn contract<const DIM: usize>(
     match contract_plan(alloc, links, dim, dart) {
         Ok(edit) => links.apply(&edit),
         Err(_) => panic!(rt; "not contracted"),
-    }
-}
-
-/// The links 0 to `DIM` of live darts.
-fn rows<const DIM: usize>(
-    rt: &impl Abort,
-    alloc: Global,
-    links: &Links<Beta, DIM>,
-    numbers: &[u32],
-) -> Result<Vec<u32>, AllocError> {
-    let mut rows = Vec::new(alloc);
-    for number in numbers {
-        let dart = dart(rt, links, *number);
-        for link in 0..links.dimension() + 1 {
-            rows.push(links.number_at(dart, link))?;
-        }
-    }
-    Ok(rows)
-}
-
-fn refusal(planned: Result<Edit, Refused>) -> Option<Refused> {
-    match planned {
-        Ok(_) => None,
-        Err(refused) => Some(refused),
     }
 }
 

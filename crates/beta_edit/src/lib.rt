@@ -17,6 +17,8 @@ mod flat;
 #[cfg(test)]
 mod insertion_tests;
 mod removal;
+#[cfg(test)]
+mod test_maps;
 mod vertex;
 mod writing;
 

@@ -1,0 +1,88 @@
+//! Combinatorial maps for the tests, and what they compare.
+ghost use Rattle.std.specs.Prelude.{◌≡◌, ◌≤◌};
+ghost use Rattle.map_defs.specs.Kind.{beta};
+ghost use Rattle.map_defs.specs.Rows.{links_of, IsLive, IsSound};
+ghost use Rattle.map_defs.specs.Laws.{Laws};
+
+use link_rows::{Edit, Links, polygon_edit};
+use map_kind::{Beta, Dart, Refused};
+use sewing::sew_plan;
+use std::alloc::{AllocError, Global};
+use std::process::Abort;
+
+/// A polygon of so many sides, numbered on from those that were made.
+pub fn polygon<const DIM: usize>(
+    rt: &impl Abort,
+    alloc: Global,
+    links: &mut Links<Beta, DIM>,
+    sides: u32,
+) -> Result<(), AllocError>
+    requires low { 3 ≤ sides }
+    requires high { sides ≤ 9 }
+    requires laws { Laws beta (links_of links.old.rows) }
+    ensures { Laws beta (links_of links.new.rows) }
+{
+    assert!(rt; links.reserve(sides).is_ok());
+    let edit = polygon_edit(alloc, links, sides)?;
+    links.apply(&edit);
+    Ok(())
+}
+
+/// A live dart.
+pub fn dart<const DIM: usize>(rt: &impl Abort, links: &Links<Beta, DIM>, number: u32) -> Dart
+    ensures live { IsLive links.now.rows result }
+    ensures number { result ≡ number }
+    ensures low { 2 ≤ DIM }
+    ensures sound { IsSound beta DIM links.now.rows }
+{
+    let dart = Dart::new(number).expect(rt, "0 is no dart");
+    let _ = links.dimension();
+    assert!(rt; links.is_live(dart));
+    dart
+}
+
+/// Sews two darts that can be sewn.
+pub fn sew<const DIM: usize>(
+    rt: &impl Abort,
+    alloc: Global,
+    links: &mut Links<Beta, DIM>,
+    link: usize,
+    one: u32,
+    other: u32,
+)
+    requires link { link ≤ DIM }
+    requires laws { Laws beta (links_of links.old.rows) }
+    ensures { Laws beta (links_of links.new.rows) }
+{
+    let one = dart(rt, links, one);
+    let other = dart(rt, links, other);
+    match sew_plan(alloc, links, link, one, other) {
+        Ok(edit) => links.apply(&edit),
+        Err(_) => panic!(rt; "not sewn"),
+    }
+}
+
+/// The links 0 to `DIM` of live darts.
+pub fn rows<const DIM: usize>(
+    rt: &impl Abort,
+    alloc: Global,
+    links: &Links<Beta, DIM>,
+    numbers: &[u32],
+) -> Result<Vec<u32>, AllocError> {
+    let mut rows = Vec::new(alloc);
+    for number in numbers {
+        let dart = dart(rt, links, *number);
+        for link in 0..links.dimension() + 1 {
+            rows.push(links.number_at(dart, link))?;
+        }
+    }
+    Ok(rows)
+}
+
+/// Why there is no plan, if there is none.
+pub fn refusal(planned: Result<Edit, Refused>) -> Option<Refused> {
+    match planned {
+        Ok(_) => None,
+        Err(refused) => Some(refused),
+    }
+}
