@@ -52,9 +52,10 @@ impl Pool {
         }
     }
 
-    /// How many ids are live.
+    /// How many ids are live. Each stands for a value of 64 bits.
     pub fn live_count(&self) -> u32
-        ensures { result ≡ live_count self.now }
+        ensures count { result ≡ live_count self.now }
+        ensures held { HasRepresentable self.now }
     {
         self.live
     }

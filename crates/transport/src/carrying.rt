@@ -49,19 +49,26 @@ pub fn carry<K: Kind, H: Hook, const DIM: usize>(
     ensures values { IfOk result (λ groups. (n : ℕ) → n < length groups.items
         → HasCarriedValue K.kind (links_of links.now.rows) (IsLive links.now.rows) (id_of labels.now) pool.now
         (H.meaning hook.now) rules.now (group_at groups.items n)) }
-    // a pool's values are within 64 bits: `Pool::reserve`, `held`
-    ensures others { OnOk result (HasRepresentable pool.now → (i d : ℕ) (rule : Rule) → rule_at rules.now i ≡ Some rule → IsLive links.now.rows d
+    ensures others { OnOk result ((i d : ℕ) (rule : Rule) → rule_at rules.now i ≡ Some rule → IsLive links.now.rows d
         → ((x : ℕ) → InCell K.kind (links_of links.now.rows) i d x → Contains touched.now x → ⊥)
         → IsCarried (meaning_of (H.meaning hook.now) rule) (known_value pool.now (id_of labels.now i))
         (IsLive links.now.rows) (IsAlike (id_of labels.now i)) (InCell K.kind (links_of links.now.rows) i) d
         (labelled_value pool.now (id_of labels.now i d))) }
 {
+    see_values(pool);
     let mut groups = Vec::new(alloc);
     for dim in 0..links.dimension() + 1 {
         let mut cells = carried_cells(alloc, links, labels, pool, rules, hook, touched, dim)?;
         groups.append(&mut cells)?;
     }
     Ok(groups)
+}
+
+/// The values under ids are within 64 bits: so it is in every pool.
+fn see_values(pool: &Pool)
+    ensures { HasRepresentable pool.now }
+{
+    let _ = pool.live_count();
 }
 
 /// The cells of one dimension that hold a touched dart, with their values; none where the dimension has no rule.

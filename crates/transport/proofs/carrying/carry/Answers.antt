@@ -28,6 +28,6 @@ pub returns-clause-values : goal.returns-clause-values
 returns-clause-values g c = all_carried _ _ _ _ _ _ _ _ c.loop-dim.dim c.loop-dim.groups.items c.loop-dim.invariant
 
 pub returns-clause-others : goal.returns-clause-others
-returns-clause-others g c small i d rule ruled live untouched =
-    other_cells g.K.Kind.kind g.row.DIM c.args.links.now.rows c.dimension-dim-end.ensures.sound i (id_of c.args.labels.now i) c.args.pool.now c.args.touched.now (meaning_of (g.H.Rule.meaning c.args.hook.now) rule) (keeps_whole (g.H.Rule.meaning c.args.hook.now) rule (g.met.H.Rule.whole c.args.hook.now)) small (c.requires.held i)
+returns-clause-others g c i d rule ruled live untouched =
+    other_cells g.K.Kind.kind g.row.DIM c.args.links.now.rows c.dimension-dim-end.ensures.sound i (id_of c.args.labels.now i) c.args.pool.now c.args.touched.now (meaning_of (g.H.Rule.meaning c.args.hook.now) rule) (keeps_whole (g.H.Rule.meaning c.args.hook.now) rule (g.met.H.Rule.whole c.args.hook.now)) c.see_values.ensures (c.requires.held i)
     (c.requires.covered i (subst IsSome (sym ruled) refl)) d live untouched
