@@ -46,7 +46,7 @@ pub fn contract_plan<const DIM: usize>(
     ensures { PlansContraction alpha DIM links.now.rows dim dart result }
 {
     // Links name live darts.
-    let _ = links.dimension();
+    links.see_sound();
     let darts = cell(alloc, links, dim, dart)?;
     if !can_contract(links, dim, &darts) {
         return Err(Refused::Line(Refusal::NotContractible));

@@ -34,7 +34,7 @@ pub fn edge_plan<const DIM: usize>(
     ensures { PlansEdge alpha DIM links.now.rows one other result }
 {
     // A map has links 0 to 2 at least.
-    let _ = links.dimension();
+    links.see_sound();
     if !are_on_one_side(alloc, links, one, other)? {
         return Err(Refused::Line(Refusal::OtherCell));
     }

@@ -22,7 +22,7 @@ pub fn removable<const DIM: usize>(
     ensures { IfOk result (TellsRemovable alpha links.now.rows dim dart) }
 {
     // A map has links 0 to 8 at most.
-    let _ = links.dimension();
+    links.see_sound();
     let darts = cell(alloc, links, dim, dart)?;
     Ok(are_commuting(links, dim + 1, dim + 2, &darts))
 }
@@ -46,7 +46,7 @@ pub fn remove_plan<const DIM: usize>(
     ensures { PlansRemoval alpha DIM links.now.rows dim dart result }
 {
     // A map has links 0 to 8 at most, and they name live darts.
-    let _ = links.dimension();
+    links.see_sound();
     let darts = cell(alloc, links, dim, dart)?;
     if !are_commuting(links, dim + 1, dim + 2, &darts) {
         return Err(Refused::Line(Refusal::NotRemovable));

@@ -25,6 +25,6 @@ pub fn vertex_plan<const DIM: usize>(
     ensures { IfOk result (PlansVertex alpha DIM links.now.rows dart) }
 {
     // A map has links 0 to 2 at least.
-    let _ = links.dimension();
+    links.see_sound();
     insertion_edit(alloc, links, 0, cell(alloc, links, 1, dart)?, &[])
 }

@@ -44,7 +44,7 @@ pub(crate) fn cut_changes<const DIM: usize>(
         (AreCutEntries (links_of links.now.rows) (star_of stars.now) (DIM + 1) pairs.now) changes.items) }
 {
     // A map has links 0 to 2 at least.
-    let _ = links.dimension();
+    links.see_sound();
     let mut changes = Vec::new(alloc);
     for pair in pairs {
         if pair.t != 0 {
@@ -70,7 +70,7 @@ fn push_corner<const DIM: usize>(
         (IsCornerEntry (links_of links.now.rows) (star_of stars.now) (DIM + 1) corner other) changes.old.items changes.new.items) }
 {
     // A map has links 0 to 2 at least.
-    let _ = links.dimension();
+    links.see_sound();
     let new = stars.star(corner);
     let before = links.link(corner, 0).unwrap();
     let behind = links.link(other, 1).unwrap();

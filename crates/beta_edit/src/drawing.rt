@@ -28,7 +28,7 @@ pub(crate) fn drawn_edit<const DIM: usize>(
         (λ N. IsDrawn (Contains darts.items) (drawn_step (links_of links.now.rows) beside) (links_of links.now.rows) N) edit) }
 {
     // Links name live darts.
-    let _ = links.made();
+    links.see_sound();
     let changes = drawn_changes(alloc, links, beside, &darts)?;
     Ok(Edit {
         births: 0,

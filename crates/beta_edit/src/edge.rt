@@ -38,7 +38,7 @@ pub fn edge_plan<const DIM: usize>(
     ensures { PlansEdge beta DIM links.now.rows one other result }
 {
     // A map has links 0 to 2 at least.
-    let _ = links.dimension();
+    links.see_sound();
     if !are_on_one_side(alloc, links, one, other)? {
         return Err(Refused::Line(Refusal::OtherCell));
     }
@@ -101,7 +101,7 @@ fn edge_pairs<const DIM: usize>(
     ensures unpaired { IsErrOf result PairFault.Unpaired → AreBetaEdgePaired (links_of links.now.rows) one other → ⊥ }
 {
     // A map has links 0 to 2 at least.
-    let _ = links.dimension();
+    links.see_sound();
     let Some(before_one) = links.link(one, 0) else {
         return Err(PairFault::Unpaired);
     };

@@ -22,7 +22,7 @@ fn is_flat<const DIM: usize>(links: &Links<Beta, DIM>, dart: Dart) -> bool
     ensures { IsTrue result ↔ IsFlatAt (links_of links.now.rows) dart }
 {
     // A map has links 0 to 2 at least.
-    let _ = links.dimension();
+    links.see_sound();
     let Some(before) = links.link(dart, 0) else {
         return false;
     };
@@ -51,7 +51,7 @@ fn is_two_sided<const DIM: usize>(links: &Links<Beta, DIM>, dart: Dart) -> bool
     ensures { IsTrue result ↔ (links_of links.now.rows 1 (links_of links.now.rows 1 dart) ≡ dart) }
 {
     // A map has links 0 to 2 at least.
-    let _ = links.dimension();
+    links.see_sound();
     let Some(next) = links.link(dart, 1) else {
         return false;
     };

@@ -54,7 +54,7 @@ pub fn remove_plan<const DIM: usize>(
     ensures { PlansRemoval beta DIM links.now.rows dim dart result }
 {
     // Links name live darts.
-    let _ = links.dimension();
+    links.see_sound();
     let darts = cell(alloc, links, dim, dart)?;
     if !can_remove(links, dim, &darts) {
         return Err(Refused::Line(Refusal::NotRemovable));
@@ -75,7 +75,7 @@ fn can_remove<const DIM: usize>(links: &Links<Beta, DIM>, dim: usize, darts: &[D
     ensures { (d : ℕ) → IsCellOf (links_of links.now.rows) dim darts.now d → TellsRemovable beta links.now.rows dim d result }
 {
     // A map has links 0 to 8 at most.
-    let _ = links.dimension();
+    links.see_sound();
     match dim {
         0 => are_flat(links, darts) && sides_stay_apart(links, darts),
         1 => are_commuting(links, 2, 3, darts),

@@ -30,7 +30,7 @@ pub fn vertex_plan<const DIM: usize>(
     ensures { IfOk result (PlansVertex beta DIM links.now.rows dart) }
 {
     // A map has links 0 to 2 at least.
-    let _ = links.dimension();
+    links.see_sound();
     let darts = cell(alloc, links, 1, dart)?;
     let stars = Stars::new(darts, links.made());
     let changes = split_changes(alloc, links, &stars)?;
@@ -53,7 +53,7 @@ fn split_changes<const DIM: usize>(
         (AreSplitEntries (links_of links.now.rows) (star_of stars.now) (DIM + 1) stars.now.keys) changes.items) }
 {
     // A map has links 0 to 2 at least.
-    let _ = links.dimension();
+    links.see_sound();
     let mut changes = Vec::new(alloc);
     for dart in stars.darts() {
         push_dart(links, stars, *dart, &mut changes)?;
@@ -90,7 +90,7 @@ fn push_behind<const DIM: usize>(
         (IsBehindEntry (links_of links.now.rows) (star_of stars.now) dart) changes.old.items changes.new.items) }
 {
     // A map has links 0 to 2 at least.
-    let _ = links.dimension();
+    links.see_sound();
     let new = stars.star(dart);
     push_way(links, dart, new, changes)?;
     let Some(next) = links.link(dart, 1) else {

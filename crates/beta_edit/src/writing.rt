@@ -37,7 +37,7 @@ pub(crate) fn push_way<const DIM: usize>(
     ensures { OnOk result (Appends (links_of links.now.rows) (IsWayEntry from to) changes.old.items changes.new.items) }
 {
     // A map has links 0 to 2 at least.
-    let _ = links.dimension();
+    links.see_sound();
     push_link(links, from, 1, to, changes)?;
     push_link(links, to, 0, from, changes)
 }

@@ -29,7 +29,7 @@ pub fn ending_edit<K: Kind, const DIM: usize>(
         (λ N. IsBridged K.kind link (Contains darts.items) (across K.kind (links_of links.now.rows) link beside) (links_of links.now.rows) N) edit) }
 {
     // Links name live darts.
-    let _ = links.made();
+    links.see_sound();
     let changes = ending_changes(alloc, links, link, beside, &darts)?;
     Ok(Edit {
         births: 0,

@@ -36,7 +36,7 @@ pub fn face_plan<K: Kind, const DIM: usize>(
     ensures { PlansFace K.kind DIM links.now.rows path.now result }
 {
     // A map has links 0 to 2 at least.
-    let _ = links.dimension();
+    links.see_sound();
 
     // A closed path lies on one volume, so the volume is walked only for a path that is not closed.
     if !is_closed(alloc, links, path)? {

@@ -58,6 +58,17 @@ impl<K: Kind, const DIM: usize> Links<K, DIM> {
         DIM
     }
 
+    /// The dimension is from 2 to 8, links and back links agree, and entries name live darts alone: so it is of all links. A
+    /// caller that rests on it says so by this call, which does nothing.
+    pub fn see_sound(&self)
+        ensures low { 2 ≤ DIM }
+        ensures high { DIM ≤ 8 }
+        ensures begun { 0 < length self.now.rows }
+        ensures sound { IsSound K.kind DIM self.now.rows }
+    {
+        let _ = &self.rows;
+    }
+
     /// How many darts were made so far, dead ones among them: the greatest number of a dart, or 0.
     pub fn made(&self) -> u32
         ensures made { result ≡ made self.now.rows }

@@ -18,7 +18,7 @@ ending_edit-requires g c =
       (
         c.requires.dim,
         (
-          contraction-can g.row.DIM c.args.links.now.rows c.dimension.ensures.sound c.requires.laws c.args.dim c.args.dart c.requires.dart c.in_ok-darts.darts.items
+          contraction-can g.row.DIM c.args.links.now.rows c.see_sound.ensures.sound c.requires.laws c.args.dim c.args.dart c.requires.dart c.in_ok-darts.darts.items
               c.in_ok-darts.ensures.members c.in_ok-darts.ensures.ascending can,
           c.requires.laws,
         ),

@@ -12,7 +12,7 @@ use Rattle.alpha_edit.proofs.edge.edge_plan.Goals as goal
 pub insertion_edit-requires : goal.insertion_edit-requires
 insertion_edit-requires g c =
     let rows = c.args.links.now.rows in
-    let sound = c.dimension.ensures.sound in
+    let sound = c.see_sound.ensures.sound in
     let keys : List ℕ = c.in_ok-darts-in-Ok.darts.items in
     let pairs : List Triple = c.in-Ok.pairs.items in
     let members = c.in_ok-darts-in-Ok.ensures.members in
@@ -22,7 +22,7 @@ insertion_edit-requires g c =
     rw c.deref.ensures.value (
       lit< tt,
       (
-        omega (arith, c.dimension.ensures.low),
+        omega (arith, c.see_sound.ensures.low),
         (
           c.in_ok-darts-in-Ok.ensures.ascending,
           (

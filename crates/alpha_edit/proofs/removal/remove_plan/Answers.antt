@@ -15,7 +15,7 @@ ending_edit-requires g c =
       (
         c.requires.dim,
         (
-          removal-ends g.row.DIM c.args.links.now.rows c.dimension.ensures.sound c.requires.laws c.args.dim c.args.dart c.requires.dart c.in_ok-darts.darts.items
+          removal-ends g.row.DIM c.args.links.now.rows c.see_sound.ensures.sound c.requires.laws c.args.dim c.args.dart c.requires.dart c.in_ok-darts.darts.items
               c.in_ok-darts.ensures.members c.in_ok-darts.ensures.ascending can,
           c.requires.laws,
         ),

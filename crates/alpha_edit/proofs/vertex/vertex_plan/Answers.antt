@@ -14,9 +14,9 @@ pub insertion_edit-requires : goal.insertion_edit-requires
 insertion_edit-requires g c =
     let rows = c.args.links.now.rows in
     let keys : List ℕ = c.in_ok-cell.field-0.items in
-    let live : All (λ (d : ℕ). IsLive rows d) keys = all-live rows (InCell alpha (links_of rows) 1 c.args.dart) keys c.in_ok-cell.ensures.members (edge-live g.row.DIM rows c.dimension.ensures.sound c.args.dart c.requires.dart) in
-    let dart : c.args.dart ≢ 0 = live-dart alpha g.row.DIM rows c.dimension.ensures.sound c.args.dart c.requires.dart in
-    (lit< tt, (omega (arith, c.dimension.ensures.low), (c.in_ok-cell.ensures.ascending, (live, (none-ascending, (none-of keys, (vertex-insertable (links_of rows) c.args.dart keys dart c.in_ok-cell.ensures.members, c.requires.laws)))))))
+    let live : All (λ (d : ℕ). IsLive rows d) keys = all-live rows (InCell alpha (links_of rows) 1 c.args.dart) keys c.in_ok-cell.ensures.members (edge-live g.row.DIM rows c.see_sound.ensures.sound c.args.dart c.requires.dart) in
+    let dart : c.args.dart ≢ 0 = live-dart alpha g.row.DIM rows c.see_sound.ensures.sound c.args.dart c.requires.dart in
+    (lit< tt, (omega (arith, c.see_sound.ensures.low), (c.in_ok-cell.ensures.ascending, (live, (none-ascending, (none-of keys, (vertex-insertable (links_of rows) c.args.dart keys dart c.in_ok-cell.ensures.members, c.requires.laws)))))))
 
 pub returns : goal.returns
 returns g c =

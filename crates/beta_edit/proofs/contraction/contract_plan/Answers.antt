@@ -14,38 +14,38 @@ use Rattle.beta_edit.proofs.contraction.contract_plan.Goals as goal
 pub can_contract-requires : goal.can_contract-requires
 can_contract-requires g c =
     let cell : IsCellOf (links_of c.args.links.now.rows) c.args.dim c.in_ok-darts.darts.items c.args.dart =
-    (live-dart beta g.row.DIM c.args.links.now.rows c.dimension.ensures.sound c.args.dart c.requires.dart, c.in_ok-darts.ensures.members) in
+    (live-dart beta g.row.DIM c.args.links.now.rows c.see_sound.ensures.sound c.args.dart c.requires.dart, c.in_ok-darts.ensures.members) in
     rw c.deref.ensures.value
     (lit< tt, (c.requires.dim, (c.in_ok-darts.ensures.ascending, (cell-nothing (links_of c.args.links.now.rows) c.args.dim c.args.dart c.in_ok-darts.darts.items cell, c.requires.laws))))
 
 pub returns-then-not-can_contract : goal.returns-then-not-can_contract
 returns-then-not-can_contract g c =
     let cell : IsCellOf (links_of c.args.links.now.rows) c.args.dim c.in_ok-darts.darts.items c.args.dart =
-    (live-dart beta g.row.DIM c.args.links.now.rows c.dimension.ensures.sound c.args.dart c.requires.dart, c.in_ok-darts.ensures.members) in
+    (live-dart beta g.row.DIM c.args.links.now.rows c.see_sound.ensures.sound c.args.dart c.requires.dart, c.in_ok-darts.ensures.members) in
     (refl, λ can. false≢true (sym c.if-not-can_contract.true ∙ ((rw c.deref.ensures.value at c.can_contract.ensures) c.args.dart cell).1 can))
 
 pub drawn_edit-requires : goal.drawn_edit-requires
 drawn_edit-requires g c =
     let cell : IsCellOf (links_of c.args.links.now.rows) c.args.dim c.in_ok-darts.darts.items c.args.dart =
-    (live-dart beta g.row.DIM c.args.links.now.rows c.dimension.ensures.sound c.args.dart c.requires.dart, c.in_ok-darts.ensures.members) in
+    (live-dart beta g.row.DIM c.args.links.now.rows c.see_sound.ensures.sound c.args.dart c.requires.dart, c.in_ok-darts.ensures.members) in
     let can : IsContractible beta (links_of c.args.links.now.rows) c.args.dim c.args.dart = ((rw c.deref.ensures.value at c.can_contract.ensures) c.args.dart cell).0 c.if-not-can_contract.false in
     let members : (x : ℕ) → Contains c.in_ok-darts.darts.items x ↔ InCell beta (links_of c.args.links.now.rows) 1 c.args.dart x = rw c.in-1.is at c.in_ok-darts.ensures.members in
     let can1 : IsContractible beta (links_of c.args.links.now.rows) 1 c.args.dart = rw c.in-1.is at can in
-    (lit< tt, (edge-contraction-can g.row.DIM c.args.links.now.rows c.dimension.ensures.sound c.requires.laws c.args.dart c.requires.dart c.in_ok-darts.darts.items members c.in_ok-darts.ensures.ascending can1, c.requires.laws))
+    (lit< tt, (edge-contraction-can g.row.DIM c.args.links.now.rows c.see_sound.ensures.sound c.requires.laws c.args.dart c.requires.dart c.in_ok-darts.darts.items members c.in_ok-darts.ensures.ascending can1, c.requires.laws))
 
 pub returns-in_ok-drawn_edit-in-1 : goal.returns-in_ok-drawn_edit-in-1
 returns-in_ok-drawn_edit-in-1 g c =
     let cell : IsCellOf (links_of c.args.links.now.rows) c.args.dim c.in_ok-darts.darts.items c.args.dart =
-    (live-dart beta g.row.DIM c.args.links.now.rows c.dimension.ensures.sound c.args.dart c.requires.dart, c.in_ok-darts.ensures.members) in
+    (live-dart beta g.row.DIM c.args.links.now.rows c.see_sound.ensures.sound c.args.dart c.requires.dart, c.in_ok-darts.ensures.members) in
     let can : IsContractible beta (links_of c.args.links.now.rows) c.args.dim c.args.dart = ((rw c.deref.ensures.value at c.can_contract.ensures) c.args.dart cell).0 c.if-not-can_contract.false in
     let members : (x : ℕ) → Contains c.in_ok-darts.darts.items x ↔ InCell beta (links_of c.args.links.now.rows) 1 c.args.dart x = rw c.in-1.is at c.in_ok-darts.ensures.members in
     let can1 : IsContractible beta (links_of c.args.links.now.rows) 1 c.args.dart = rw c.in-1.is at can in
-    rw c.in-1.is (can1, edge-contraction-ends g.row.DIM c.args.links.now.rows c.dimension.ensures.sound c.requires.laws c.args.dart c.requires.dart c.in_ok-darts.darts.items members c.in_ok-drawn_edit-in-1.field-0 c.in_ok-drawn_edit-in-1.ensures)
+    rw c.in-1.is (can1, edge-contraction-ends g.row.DIM c.args.links.now.rows c.see_sound.ensures.sound c.requires.laws c.args.dart c.requires.dart c.in_ok-darts.darts.items members c.in_ok-drawn_edit-in-1.field-0 c.in_ok-drawn_edit-in-1.ensures)
 
 pub link_beside-requires : goal.link_beside-requires
 link_beside-requires g c =
     let cell : IsCellOf (links_of c.args.links.now.rows) c.args.dim c.in_ok-darts.darts.items c.args.dart =
-    (live-dart beta g.row.DIM c.args.links.now.rows c.dimension.ensures.sound c.args.dart c.requires.dart, c.in_ok-darts.ensures.members) in
+    (live-dart beta g.row.DIM c.args.links.now.rows c.see_sound.ensures.sound c.args.dart c.requires.dart, c.in_ok-darts.ensures.members) in
     let can : IsContractible beta (links_of c.args.links.now.rows) c.args.dim c.args.dart = ((rw c.deref.ensures.value at c.can_contract.ensures) c.args.dart cell).0 c.if-not-can_contract.false in
     let some : c.args.dim ≢ 0 = above-vertex (links_of c.args.links.now.rows) c.args.dim c.args.dart can in
     let more : c.args.dim ≢ 1 = omega arith in
@@ -54,7 +54,7 @@ link_beside-requires g c =
 pub ending_edit-requires : goal.ending_edit-requires
 ending_edit-requires g c =
     let cell : IsCellOf (links_of c.args.links.now.rows) c.args.dim c.in_ok-darts.darts.items c.args.dart =
-    (live-dart beta g.row.DIM c.args.links.now.rows c.dimension.ensures.sound c.args.dart c.requires.dart, c.in_ok-darts.ensures.members) in
+    (live-dart beta g.row.DIM c.args.links.now.rows c.see_sound.ensures.sound c.args.dart c.requires.dart, c.in_ok-darts.ensures.members) in
     let can : IsContractible beta (links_of c.args.links.now.rows) c.args.dim c.args.dart = ((rw c.deref.ensures.value at c.can_contract.ensures) c.args.dart cell).0 c.if-not-can_contract.false in
     let some : c.args.dim ≢ 0 = above-vertex (links_of c.args.links.now.rows) c.args.dim c.args.dart can in
     let more : c.args.dim ≢ 1 = omega arith in
@@ -63,7 +63,7 @@ ending_edit-requires g c =
       (
         c.requires.dim,
         (
-          contraction-can g.row.DIM c.args.links.now.rows c.args.dart c.in_ok-darts.darts.items c.dimension.ensures.sound c.requires.laws c.requires.dart c.in_ok-darts.ensures.ascending
+          contraction-can g.row.DIM c.args.links.now.rows c.args.dart c.in_ok-darts.darts.items c.see_sound.ensures.sound c.requires.laws c.requires.dart c.in_ok-darts.ensures.ascending
               c.args.dim some more c.in_ok-darts.ensures.members can,
           c.requires.laws,
         ),
@@ -73,7 +73,7 @@ ending_edit-requires g c =
 pub returns-in_ok-ending_edit-in_default : goal.returns-in_ok-ending_edit-in_default
 returns-in_ok-ending_edit-in_default g c =
     let cell : IsCellOf (links_of c.args.links.now.rows) c.args.dim c.in_ok-darts.darts.items c.args.dart =
-    (live-dart beta g.row.DIM c.args.links.now.rows c.dimension.ensures.sound c.args.dart c.requires.dart, c.in_ok-darts.ensures.members) in
+    (live-dart beta g.row.DIM c.args.links.now.rows c.see_sound.ensures.sound c.args.dart c.requires.dart, c.in_ok-darts.ensures.members) in
     let can : IsContractible beta (links_of c.args.links.now.rows) c.args.dim c.args.dart = ((rw c.deref.ensures.value at c.can_contract.ensures) c.args.dart cell).0 c.if-not-can_contract.false in
     let some : c.args.dim ≢ 0 = above-vertex (links_of c.args.links.now.rows) c.args.dim c.args.dart can in
     let more : c.args.dim ≢ 1 = omega arith in

@@ -33,7 +33,7 @@ loop-pair-preserved g c =
     let q : Triple = record { x = c.pair.inside.x; y = c.pair.inside.y; t = c.pair.inside.t } in
     let at : q ≡ get_or pairs c.loop-pair.pair-index q = subst (λ (p : Triple). p ≡ get_or pairs c.loop-pair.pair-index p) (sym c.pair.view_is) c.pair-item.is in
     each-more (links_of rows) (IsTurnEntry (links_of rows) (star_of stars) (g.row.DIM + 1)) pairs c.loop-pair.pair-index q c.loop-pair.changes.items c.push_corner.new.changes.items c.loop-pair-test.true at
-    (λ u has. turns-apart g.row.DIM rows c.dimension.ensures.sound c.dimension.ensures.low c.requires.laws stars pairs c.requires.turns (g.row.DIM + 1) c.loop-pair.pair-index q u c.loop-pair-test.true at has)
+    (λ u has. turns-apart g.row.DIM rows c.see_sound.ensures.sound c.see_sound.ensures.low c.requires.laws stars pairs c.requires.turns (g.row.DIM + 1) c.loop-pair.pair-index q u c.loop-pair-test.true at has)
     c.loop-pair.invariant
     (appends-same (links_of rows) (IsCornerEntry (links_of rows) (star_of stars) (g.row.DIM + 1) q.x q.y) (IsTurnEntry (links_of rows) (star_of stars) (g.row.DIM + 1) q) c.loop-pair.changes.items c.push_corner.new.changes.items
     (λ d t y. (λ e. (c.if-pair-ne0.false, e), λ e. e.1)) c.in_ok-push_corner.ensures)

@@ -9,7 +9,7 @@ use Rattle.beta_edit.proofs.removal.can_remove.Goals as goal
 pub returns-then-are_flat : goal.returns-then-are_flat
 returns-then-are_flat g c = rw c.in-0.is (λ d cell.
     vertex-removable (links_of c.args.links.now.rows) c.requires.laws (made c.args.links.now.rows) g.row.DIM d (rows_made c.args.links.now.rows)
-    (rows_dimension g.row.DIM c.args.links.now.rows c.dimension.ensures.sound.wide) c.args.darts.now cell c.sides_stay_apart.result
+    (rows_dimension g.row.DIM c.args.links.now.rows c.see_sound.ensures.sound.wide) c.args.darts.now cell c.sides_stay_apart.result
     (both-then ((b : ℕ) → Contains c.args.darts.now b → IsFlatAt (links_of c.args.links.now.rows) b)
     ((j : ℕ) → 2 ≤ j → j ≤ g.row.DIM → JoinsNoDart (links_of c.args.links.now.rows) j (Contains c.args.darts.now) (drawn_step (links_of c.args.links.now.rows) None j))
     c.are_flat.result c.sides_stay_apart.result c.if-are_flat.true c.are_flat.ensures c.sides_stay_apart.ensures))
@@ -17,7 +17,7 @@ returns-then-are_flat g c = rw c.in-0.is (λ d cell.
 pub returns-else-are_flat : goal.returns-else-are_flat
 returns-else-are_flat g c = rw c.in-0.is (λ d cell.
     vertex-removable (links_of c.args.links.now.rows) c.requires.laws (made c.args.links.now.rows) g.row.DIM d (rows_made c.args.links.now.rows)
-    (rows_dimension g.row.DIM c.args.links.now.rows c.dimension.ensures.sound.wide) c.args.darts.now cell c.are_flat.result
+    (rows_dimension g.row.DIM c.args.links.now.rows c.see_sound.ensures.sound.wide) c.args.darts.now cell c.are_flat.result
     (both-else ((b : ℕ) → Contains c.args.darts.now b → IsFlatAt (links_of c.args.links.now.rows) b)
     ((j : ℕ) → 2 ≤ j → j ≤ g.row.DIM → JoinsNoDart (links_of c.args.links.now.rows) j (Contains c.args.darts.now) (drawn_step (links_of c.args.links.now.rows) None j))
     c.are_flat.result c.if-are_flat.false c.are_flat.ensures))

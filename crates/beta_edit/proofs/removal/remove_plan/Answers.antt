@@ -14,56 +14,56 @@ use Rattle.beta_edit.proofs.removal.remove_plan.Goals as goal
 pub can_remove-requires : goal.can_remove-requires
 can_remove-requires g c =
     let cell : IsCellOf (links_of c.args.links.now.rows) c.args.dim c.in_ok-darts.darts.items c.args.dart =
-    (live-dart beta g.row.DIM c.args.links.now.rows c.dimension.ensures.sound c.args.dart c.requires.dart, c.in_ok-darts.ensures.members) in
+    (live-dart beta g.row.DIM c.args.links.now.rows c.see_sound.ensures.sound c.args.dart c.requires.dart, c.in_ok-darts.ensures.members) in
     rw c.deref.ensures.value
     (lit< tt, (c.requires.dim, (c.in_ok-darts.ensures.ascending, (cell-nothing (links_of c.args.links.now.rows) c.args.dim c.args.dart c.in_ok-darts.darts.items cell, c.requires.laws))))
 
 pub returns-then-not-can_remove : goal.returns-then-not-can_remove
 returns-then-not-can_remove g c =
     let cell : IsCellOf (links_of c.args.links.now.rows) c.args.dim c.in_ok-darts.darts.items c.args.dart =
-    (live-dart beta g.row.DIM c.args.links.now.rows c.dimension.ensures.sound c.args.dart c.requires.dart, c.in_ok-darts.ensures.members) in
+    (live-dart beta g.row.DIM c.args.links.now.rows c.see_sound.ensures.sound c.args.dart c.requires.dart, c.in_ok-darts.ensures.members) in
     (refl, λ can. false≢true (sym c.if-not-can_remove.true ∙ ((rw c.deref.ensures.value at c.can_remove.ensures) c.args.dart cell).1 can))
 
 pub drawn_edit-requires : goal.drawn_edit-requires
 drawn_edit-requires g c =
     let cell : IsCellOf (links_of c.args.links.now.rows) c.args.dim c.in_ok-darts.darts.items c.args.dart =
-    (live-dart beta g.row.DIM c.args.links.now.rows c.dimension.ensures.sound c.args.dart c.requires.dart, c.in_ok-darts.ensures.members) in
+    (live-dart beta g.row.DIM c.args.links.now.rows c.see_sound.ensures.sound c.args.dart c.requires.dart, c.in_ok-darts.ensures.members) in
     let can : IsRemovable beta (links_of c.args.links.now.rows) c.args.dim c.args.dart = ((rw c.deref.ensures.value at c.can_remove.ensures) c.args.dart cell).0 c.if-not-can_remove.false in
     let members : (x : ℕ) → Contains c.in_ok-darts.darts.items x ↔ InCell beta (links_of c.args.links.now.rows) 0 c.args.dart x = rw c.in-0.is at c.in_ok-darts.ensures.members in
     let can0 : IsRemovable beta (links_of c.args.links.now.rows) 0 c.args.dart = rw c.in-0.is at can in
-    (lit< tt, (vertex-can g.row.DIM c.args.links.now.rows c.dimension.ensures.sound c.requires.laws c.args.dart c.requires.dart c.in_ok-darts.darts.items members can0 c.in_ok-darts.ensures.ascending, c.requires.laws))
+    (lit< tt, (vertex-can g.row.DIM c.args.links.now.rows c.see_sound.ensures.sound c.requires.laws c.args.dart c.requires.dart c.in_ok-darts.darts.items members can0 c.in_ok-darts.ensures.ascending, c.requires.laws))
 
 pub drawn_edit-requires-in-1 : goal.drawn_edit-requires-in-1
 drawn_edit-requires-in-1 g c =
     let cell : IsCellOf (links_of c.args.links.now.rows) c.args.dim c.in_ok-darts.darts.items c.args.dart =
-    (live-dart beta g.row.DIM c.args.links.now.rows c.dimension.ensures.sound c.args.dart c.requires.dart, c.in_ok-darts.ensures.members) in
+    (live-dart beta g.row.DIM c.args.links.now.rows c.see_sound.ensures.sound c.args.dart c.requires.dart, c.in_ok-darts.ensures.members) in
     let can : IsRemovable beta (links_of c.args.links.now.rows) c.args.dim c.args.dart = ((rw c.deref.ensures.value at c.can_remove.ensures) c.args.dart cell).0 c.if-not-can_remove.false in
     let members : (x : ℕ) → Contains c.in_ok-darts.darts.items x ↔ InCell beta (links_of c.args.links.now.rows) 1 c.args.dart x = rw c.in-1.is at c.in_ok-darts.ensures.members in
     let can1 : IsRemovable beta (links_of c.args.links.now.rows) 1 c.args.dart = rw c.in-1.is at can in
-    (lit< tt, (edge-removal-can g.row.DIM c.args.links.now.rows c.dimension.ensures.sound c.requires.laws c.args.dart c.requires.dart c.in_ok-darts.darts.items members c.in_ok-darts.ensures.ascending can1, c.requires.laws))
+    (lit< tt, (edge-removal-can g.row.DIM c.args.links.now.rows c.see_sound.ensures.sound c.requires.laws c.args.dart c.requires.dart c.in_ok-darts.darts.items members c.in_ok-darts.ensures.ascending can1, c.requires.laws))
 
 pub returns-in_ok-drawn_edit-in-0 : goal.returns-in_ok-drawn_edit-in-0
 returns-in_ok-drawn_edit-in-0 g c =
     let cell : IsCellOf (links_of c.args.links.now.rows) c.args.dim c.in_ok-darts.darts.items c.args.dart =
-    (live-dart beta g.row.DIM c.args.links.now.rows c.dimension.ensures.sound c.args.dart c.requires.dart, c.in_ok-darts.ensures.members) in
+    (live-dart beta g.row.DIM c.args.links.now.rows c.see_sound.ensures.sound c.args.dart c.requires.dart, c.in_ok-darts.ensures.members) in
     let can : IsRemovable beta (links_of c.args.links.now.rows) c.args.dim c.args.dart = ((rw c.deref.ensures.value at c.can_remove.ensures) c.args.dart cell).0 c.if-not-can_remove.false in
     let members : (x : ℕ) → Contains c.in_ok-darts.darts.items x ↔ InCell beta (links_of c.args.links.now.rows) 0 c.args.dart x = rw c.in-0.is at c.in_ok-darts.ensures.members in
     let can0 : IsRemovable beta (links_of c.args.links.now.rows) 0 c.args.dart = rw c.in-0.is at can in
-    rw c.in-0.is (can0, vertex-removal-ends g.row.DIM c.args.links.now.rows c.dimension.ensures.sound c.requires.laws c.args.dart c.requires.dart c.in_ok-darts.darts.items members can0 c.in_ok-drawn_edit-in-0.field-0 c.in_ok-drawn_edit-in-0.ensures)
+    rw c.in-0.is (can0, vertex-removal-ends g.row.DIM c.args.links.now.rows c.see_sound.ensures.sound c.requires.laws c.args.dart c.requires.dart c.in_ok-darts.darts.items members can0 c.in_ok-drawn_edit-in-0.field-0 c.in_ok-drawn_edit-in-0.ensures)
 
 pub returns-in_ok-drawn_edit-in-1 : goal.returns-in_ok-drawn_edit-in-1
 returns-in_ok-drawn_edit-in-1 g c =
     let cell : IsCellOf (links_of c.args.links.now.rows) c.args.dim c.in_ok-darts.darts.items c.args.dart =
-    (live-dart beta g.row.DIM c.args.links.now.rows c.dimension.ensures.sound c.args.dart c.requires.dart, c.in_ok-darts.ensures.members) in
+    (live-dart beta g.row.DIM c.args.links.now.rows c.see_sound.ensures.sound c.args.dart c.requires.dart, c.in_ok-darts.ensures.members) in
     let can : IsRemovable beta (links_of c.args.links.now.rows) c.args.dim c.args.dart = ((rw c.deref.ensures.value at c.can_remove.ensures) c.args.dart cell).0 c.if-not-can_remove.false in
     let members : (x : ℕ) → Contains c.in_ok-darts.darts.items x ↔ InCell beta (links_of c.args.links.now.rows) 1 c.args.dart x = rw c.in-1.is at c.in_ok-darts.ensures.members in
     let can1 : IsRemovable beta (links_of c.args.links.now.rows) 1 c.args.dart = rw c.in-1.is at can in
-    rw c.in-1.is (can1, edge-removal-ends g.row.DIM c.args.links.now.rows c.dimension.ensures.sound c.requires.laws c.args.dart c.requires.dart c.in_ok-darts.darts.items members c.in_ok-drawn_edit-in-1.field-0 can1 c.in_ok-drawn_edit-in-1.ensures)
+    rw c.in-1.is (can1, edge-removal-ends g.row.DIM c.args.links.now.rows c.see_sound.ensures.sound c.requires.laws c.args.dart c.requires.dart c.in_ok-darts.darts.items members c.in_ok-drawn_edit-in-1.field-0 can1 c.in_ok-drawn_edit-in-1.ensures)
 
 pub ending_edit-requires : goal.ending_edit-requires
 ending_edit-requires g c =
     let cell : IsCellOf (links_of c.args.links.now.rows) c.args.dim c.in_ok-darts.darts.items c.args.dart =
-    (live-dart beta g.row.DIM c.args.links.now.rows c.dimension.ensures.sound c.args.dart c.requires.dart, c.in_ok-darts.ensures.members) in
+    (live-dart beta g.row.DIM c.args.links.now.rows c.see_sound.ensures.sound c.args.dart c.requires.dart, c.in_ok-darts.ensures.members) in
     let can : IsRemovable beta (links_of c.args.links.now.rows) c.args.dim c.args.dart = ((rw c.deref.ensures.value at c.can_remove.ensures) c.args.dart cell).0 c.if-not-can_remove.false in
     let some : c.args.dim ≢ 0 = omega arith in
     let more : c.args.dim ≢ 1 = omega arith in (
@@ -71,7 +71,7 @@ ending_edit-requires g c =
       (
         c.requires.dim,
         (
-          removal-can g.row.DIM c.args.links.now.rows c.args.dart c.in_ok-darts.darts.items c.dimension.ensures.sound c.requires.laws c.requires.dart c.in_ok-darts.ensures.ascending
+          removal-can g.row.DIM c.args.links.now.rows c.args.dart c.in_ok-darts.darts.items c.see_sound.ensures.sound c.requires.laws c.requires.dart c.in_ok-darts.ensures.ascending
               c.args.dim some more c.in_ok-darts.ensures.members can,
           c.requires.laws,
         ),
@@ -81,7 +81,7 @@ ending_edit-requires g c =
 pub returns-in_ok-ending_edit-in_default : goal.returns-in_ok-ending_edit-in_default
 returns-in_ok-ending_edit-in_default g c =
     let cell : IsCellOf (links_of c.args.links.now.rows) c.args.dim c.in_ok-darts.darts.items c.args.dart =
-    (live-dart beta g.row.DIM c.args.links.now.rows c.dimension.ensures.sound c.args.dart c.requires.dart, c.in_ok-darts.ensures.members) in
+    (live-dart beta g.row.DIM c.args.links.now.rows c.see_sound.ensures.sound c.args.dart c.requires.dart, c.in_ok-darts.ensures.members) in
     let can : IsRemovable beta (links_of c.args.links.now.rows) c.args.dim c.args.dart = ((rw c.deref.ensures.value at c.can_remove.ensures) c.args.dart cell).0 c.if-not-can_remove.false in
     let some : c.args.dim ≢ 0 = omega arith in
     let more : c.args.dim ≢ 1 = omega arith in

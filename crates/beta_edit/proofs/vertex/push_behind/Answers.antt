@@ -20,7 +20,7 @@ returns g c =
     let dart : ℕ = c.args.dart in
     let some : links_of rows 1 dart ≢ 0 = λ none. false≢true (sym (c.in-Some.ensures.free.1 none)) in
     let low : dart ≤ made rows = live-made rows dart (All-contains (λ (d : ℕ). IsLive rows d) c.args.stars.now.keys dart c.requires.edge.grow.live c.requires.key) in
-    let next : links_of rows 1 dart ≤ made rows = live-made rows (links_of rows 1 dart) (c.dimension.ensures.sound.live 1 dart some) in
+    let next : links_of rows 1 dart ≤ made rows = live-made rows (links_of rows 1 dart) (c.see_sound.ensures.sound.live 1 dart some) in
     let above : c.args.stars.now.made < star_of c.args.stars.now dart = rw c.star-new.ensures.star at c.star-new.ensures.above in
     on_ok_weaker c.push_way-2.result
     (behind-both (links_of rows) (star_of c.args.stars.now) dart c.args.changes.now.items c.push_way.new.changes.items c.push_way-2.new.changes.items

@@ -14,5 +14,5 @@ loop-dart-preserved g c =
     let low : c.loop-dart.dart-index < length keys = rw c.darts-dart-items.ensures.darts at c.loop-dart-test.true in
     let at : c.dart-item.result ≡ get_or keys c.loop-dart.dart-index c.dart-item.result = rw c.darts-dart-items.ensures.darts at c.dart-item.is in
     each-more (links_of rows) (IsSplitEntry (links_of rows) (star_of stars) (g.row.DIM + 1)) keys c.loop-dart.dart-index c.dart-item.result c.loop-dart.changes.items c.push_dart.new.changes.items low at
-    (λ u has. splits-apart g.row.DIM rows c.dimension.ensures.sound c.dimension.ensures.low c.requires.laws stars c.requires.edge (g.row.DIM + 1) c.loop-dart.dart-index c.dart-item.result u low at has)
+    (λ u has. splits-apart g.row.DIM rows c.see_sound.ensures.sound c.see_sound.ensures.low c.requires.laws stars c.requires.edge (g.row.DIM + 1) c.loop-dart.dart-index c.dart-item.result u low at has)
     c.loop-dart.invariant c.in_ok-push_dart.ensures

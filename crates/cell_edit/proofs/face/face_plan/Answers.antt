@@ -11,7 +11,7 @@ use Rattle.cell_edit.proofs.face.face_plan.Goals as goal
 pub insertion_edit-requires : goal.insertion_edit-requires
 insertion_edit-requires g c =
     let rows = c.args.links.now.rows in
-    let sound = c.dimension.ensures.sound in
+    let sound = c.see_sound.ensures.sound in
     let keys : List ℕ = c.in_ok-darts-in-Ok.darts.items in
     let pairs : List Triple = c.in-Ok.pairs.items in
     let members = c.in_ok-darts-in-Ok.ensures.members in
@@ -42,7 +42,7 @@ pub returns-in_ok-insertion_edit-in-Ok : goal.returns-in_ok-insertion_edit-in-Ok
 returns-in_ok-insertion_edit-in-Ok g c =
     let rows = c.args.links.now.rows in
     let closed : IsClosedPath g.K.Kind.kind (links_of rows) c.args.path.now = c.in_ok-is_closed.ensures.0 c.if-not-branch.false in (
-      closed-volume g.K.Kind.kind (links_of rows) c.requires.laws c.args.path.now (path-darts g.K.Kind.kind g.row.DIM rows c.dimension.ensures.sound c.args.path.now c.requires.live) closed,
+      closed-volume g.K.Kind.kind (links_of rows) c.requires.laws c.args.path.now (path-darts g.K.Kind.kind g.row.DIM rows c.see_sound.ensures.sound c.args.path.now c.requires.live) closed,
       closed,
       c.in-Ok.ensures.paired,
       inserts-same g.row.DIM rows (FaceDarts g.K.Kind.kind (links_of rows) c.args.path.now) (Contains c.in_ok-darts-in-Ok.darts.items) g.K.Kind.kind 2
@@ -56,7 +56,7 @@ returns-in-Err-Unpaired g c =
     let closed : IsClosedPath g.K.Kind.kind (links_of rows) c.args.path.now = c.in_ok-is_closed.ensures.0 c.if-not-branch.false in
     inr (inr (
       refl,
-      closed-volume g.K.Kind.kind (links_of rows) c.requires.laws c.args.path.now (path-darts g.K.Kind.kind g.row.DIM rows c.dimension.ensures.sound c.args.path.now c.requires.live) closed,
+      closed-volume g.K.Kind.kind (links_of rows) c.requires.laws c.args.path.now (path-darts g.K.Kind.kind g.row.DIM rows c.see_sound.ensures.sound c.args.path.now c.requires.live) closed,
       closed,
       c.in-Err-Unpaired.ensures.unpaired (ap Err c.in-Err-Unpaired.field-0-is),
     ))
