@@ -1,5 +1,5 @@
 //! The edit that makes the dual.
-ghost use Rattle.std.specs.Prelude.{◌≡◌, ◌≢◌, ◌+◌, ◌*◌, ◌%◌, ◌≤◌, ◌↔◌, ◌⊎◌, ◌++◌, [], All, IfOk, IfErr, OnOk, IsErrOf};
+ghost use Rattle.std.specs.Prelude.{◌≡◌, ◌≢◌, ◌+◌, ◌*◌, ◌%◌, ◌<◌, ◌≤◌, ◌↔◌, ◌⊎◌, ◌++◌, [], length, All, IfOk, IfErr, OnOk, IsErrOf};
 ghost use Rattle.map_defs.specs.Rows.{links_of, made, live_count, IsLive, IsSound};
 ghost use Rattle.map_defs.specs.Laws.{Laws};
 ghost use Rattle.map_defs.specs.Edits.{Fits, after_edit};
@@ -35,6 +35,10 @@ pub fn dual_plan<K: Kind, const DIM: usize>(
         (links_of (after_edit DIM edit links.now.rows))) }
     ensures laws { IfOk result (λ edit. Laws K.kind (links_of (after_edit DIM edit links.now.rows))) }
 
+    // The rows of the links are as their type keeps them.
+    ensures begun { OnOk result (0 < length links.now.rows) }
+    ensures sound { OnOk result (IsSound K.kind DIM links.now.rows) }
+
     // It is refused where there is no dual, or for want of memory.
     ensures boundary { IsErrOf result (Refused.Line Refusal.Boundary)
         ↔ (IsDualable K.kind DIM (links_of links.now.rows) (IsLive links.now.rows) → ⊥) }
@@ -59,6 +63,7 @@ fn dual_changes<K: Kind, const DIM: usize>(
     ensures changes { IfOk result (λ changes. changes.items
         ≡ map_changes DIM (links_of links.now.rows) (dual_link K.kind DIM (links_of links.now.rows)) (made links.now.rows)) }
     ensures low { OnOk result (2 ≤ DIM) }
+    ensures begun { OnOk result (0 < length links.now.rows) }
     ensures sound { OnOk result (IsSound K.kind DIM links.now.rows) }
 {
     let mut changes = Vec::with_capacity(alloc, most_changes(links))?;

@@ -3,6 +3,7 @@
 //! A kind of map implements `Plans` for its links of each dimension, and `Edits` says that it does so.
 #![tactic(auto)]
 
+mod combinatorial;
 mod generalized;
 mod plans;
 mod store;

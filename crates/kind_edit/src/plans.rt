@@ -6,7 +6,7 @@ ghost use Rattle.kind_edit.specs.Turning.{TakesDual};
 
 use crate::store::LinkStore;
 use link_rows::{Edit, Links};
-use map_kind::{Alpha, Dart, Kind, Refused};
+use map_kind::{Alpha, Beta, Dart, Kind, Refused};
 use std::alloc::{AllocError, Global};
 
 /// A kind of map with the edits of its links: a plan looks at the links and answers the edit, or why there is none.
@@ -58,12 +58,14 @@ pub trait Plans<L: LinkStore>: Kind {
 
     /// Whether a dart's cell of dimension `dim` can be removed: `remove_plan` refuses exactly where not, memory aside.
     fn removable(alloc: Global, links: &L, dim: usize, dart: Dart) -> Result<bool, AllocError>
-        requires { dim ≤ L.dim }
+        requires dim { dim ≤ L.dim }
+        requires laws { Laws Self.kind (links_of (L.rows links.now)) }
         ensures { IfOk result (TellsRemovable Self.kind (L.rows links.now) dim dart) };
 
     /// Whether a dart's cell of dimension `dim` can be contracted: `contract_plan` refuses exactly where not, memory aside.
     fn contractible(alloc: Global, links: &L, dim: usize, dart: Dart) -> Result<bool, AllocError>
-        requires { dim ≤ L.dim }
+        requires dim { dim ≤ L.dim }
+        requires laws { Laws Self.kind (links_of (L.rows links.now)) }
         ensures { IfOk result (TellsContractible Self.kind (L.rows links.now) dim dart) };
 
     /// Makes the map its dual, which has the same darts. `Boundary` comes exactly where the map has no dual, memory aside. A
@@ -77,3 +79,5 @@ pub trait Plans<L: LinkStore>: Kind {
 pub trait Edits<const DIM: usize>: Plans<Links<Self, DIM>> + Sized {}
 
 impl<const DIM: usize> Edits<DIM> for Alpha {}
+
+impl<const DIM: usize> Edits<DIM> for Beta {}

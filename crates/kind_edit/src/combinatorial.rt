@@ -1,0 +1,72 @@
+//! The edits of combinatorial maps.
+
+use crate::plans::Plans;
+use link_rows::{Edit, Links};
+use map_kind::{Beta, Dart, Refused};
+use std::alloc::{AllocError, Global};
+
+impl<const DIM: usize> Plans<Links<Beta, DIM>> for Beta {
+    fn vertex_plan(
+        alloc: Global,
+        links: &Links<Beta, DIM>,
+        dart: Dart,
+    ) -> Result<Edit, AllocError> {
+        beta_edit::vertex_plan(alloc, links, dart)
+    }
+
+    fn edge_plan(
+        alloc: Global,
+        links: &Links<Beta, DIM>,
+        one: Dart,
+        other: Dart,
+    ) -> Result<Edit, Refused> {
+        beta_edit::edge_plan(alloc, links, one, other)
+    }
+
+    fn face_plan(alloc: Global, links: &Links<Beta, DIM>, path: &[Dart]) -> Result<Edit, Refused> {
+        beta_edit::face_plan(alloc, links, path)
+    }
+
+    fn remove_plan(
+        alloc: Global,
+        links: &Links<Beta, DIM>,
+        dim: usize,
+        dart: Dart,
+    ) -> Result<Edit, Refused> {
+        beta_edit::remove_plan(alloc, links, dim, dart)
+    }
+
+    fn contract_plan(
+        alloc: Global,
+        links: &Links<Beta, DIM>,
+        dim: usize,
+        dart: Dart,
+    ) -> Result<Edit, Refused> {
+        beta_edit::contract_plan(alloc, links, dim, dart)
+    }
+
+    fn removable(
+        alloc: Global,
+        links: &Links<Beta, DIM>,
+        dim: usize,
+        dart: Dart,
+    ) -> Result<bool, AllocError> {
+        beta_edit::removable(alloc, links, dim, dart)
+    }
+
+    fn contractible(
+        alloc: Global,
+        links: &Links<Beta, DIM>,
+        dim: usize,
+        dart: Dart,
+    ) -> Result<bool, AllocError> {
+        beta_edit::contractible(alloc, links, dim, dart)
+    }
+
+    /// It takes the memory of the links that differ in the dual, since a link of the dual follows two links of the map.
+    fn take_dual(alloc: Global, links: &mut Links<Beta, DIM>) -> Result<(), Refused> {
+        let edit = dual_map::dual_plan(alloc, links)?;
+        links.apply(&edit);
+        Ok(())
+    }
+}
