@@ -1,6 +1,6 @@
 ghost use Rattle.std.specs.Prelude.{◌≡◌, ◌≤◌};
 ghost use Rattle.map_defs.specs.Kind.{beta};
-ghost use Rattle.map_defs.specs.Rows.{links_of, IsLive};
+ghost use Rattle.map_defs.specs.Rows.{links_of, IsLive, IsSound};
 ghost use Rattle.map_defs.specs.Laws.{Laws};
 ghost use Rattle.map_defs.specs.Edits.{Fits, after_edit};
 
@@ -15,6 +15,8 @@ use std::test::Fail;
 fn dart<const DIM: usize>(rt: &impl Abort, links: &Links<Beta, DIM>, number: u32) -> Dart
     ensures live { IsLive links.now.rows result }
     ensures number { result ≡ number }
+    ensures low { 2 ≤ DIM }
+    ensures sound { IsSound beta DIM links.now.rows }
 {
     let dart = Dart::new(number).expect(rt, "0 is no dart");
     assert!(rt; links.is_live(dart));
