@@ -52,10 +52,10 @@ module _ (hook : Meaning) (k : Kind) (n : ℕ) (flat : 2 ≤ n) (text script : L
 
 command_found : (hook : Meaning) (files : Files) (c : Command) → IsOffered c → NotNot (HasText (CommandAnswer hook files c))
 command_found hook files (RunScript k n None script) offered =
-    file_found (held files script) (ScriptAnswer hook (empty_state k n)) (λ bytes. script_found hook (empty_state k n) bytes (empty-kept k n offered.1) tt)
+    file_found (held files script) (ScriptAnswer hook (empty_state k n)) (λ bytes. script_found hook (empty_state k n) bytes (empty-kept k n offered.0) tt)
 command_found hook files (RunScript k n (Some name) script) offered =
     file_found (held files name) (λ mesh. FileAnswer (held files script) (MeshAnswer hook k n mesh))
-    (λ mesh. file_found (held files script) (MeshAnswer hook k n mesh) (λ bytes. read_found hook k n offered.1 mesh bytes (mesh_of mesh) refl))
+    (λ mesh. file_found (held files script) (MeshAnswer hook k n mesh) (λ bytes. read_found hook k n offered.0 mesh bytes (mesh_of mesh) refl))
 
 pub answer_found : (hook : Meaning) (words : List (List ℕ)) (files : Files) → NotNot (HasAnswer hook words files)
 answer_found hook words files never = either_way ((c : Command) × TellsCommand words c) (λ known. elim known [

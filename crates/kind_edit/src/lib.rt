@@ -7,6 +7,8 @@ mod combinatorial;
 mod generalized;
 mod plans;
 mod store;
+#[cfg(test)]
+mod tests;
 
 pub use plans::{Edits, Plans};
 pub use store::LinkStore;

@@ -1,7 +1,7 @@
 -- The program: the text and the status for its words and files. Source: this project's.
 use Rattle.std.specs.Prelude.{ℕ, ◌≡◌, ◌≢◌, ◌<◌, ◌≤◌, ◌⊎◌, List, [], ◌∷◌, ◌++◌, length, Option, Some, None, Bool, true, false, codes}
 use Rattle.std.specs.Fmt.{decimal}
-use Rattle.map_defs.specs.Kind.{Kind, alpha, letter}
+use Rattle.map_defs.specs.Kind.{Kind, letter}
 use Rattle.map_defs.specs.Values.{Meaning}
 use Rattle.machine_defs.specs.State.{State, empty_state}
 use Rattle.machine_defs.specs.Text.{Reply, ended, replies_text, any_refused}
@@ -19,9 +19,9 @@ pub data Command : Type 0 where
 abbrev pub no_mesh : List ℕ
 no_mesh = codes "-"
 
--- the commands that the program offers: generalized maps of dimension 2, 3 or 4
+-- the commands that the program offers: generalized and combinatorial maps of dimension 2, 3 or 4
 abbrev pub IsOffered : Command → Type 0
-IsOffered (RunScript kind dim mesh script) = (kind ≡ alpha) × (2 ≤ dim) × (dim ≤ 4) × (mesh ≢ Some no_mesh)
+IsOffered (RunScript kind dim mesh script) = (2 ≤ dim) × (dim ≤ 4) × (mesh ≢ Some no_mesh)
 
 abbrev pub mesh_word : Option (List ℕ) → List ℕ
 mesh_word None = no_mesh

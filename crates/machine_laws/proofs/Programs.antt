@@ -2,7 +2,7 @@
 use Rattle.std.proofs.Common.{◌≡◌, ◌≢◌, ℕ, ◌≤◌, List, ◌++◌, length, Option, Some, None, refl, sym, ap, ◌∙◌, subst, append_assoc, inl, inr, arith}
 use Rattle.std.proofs.lemmas.Fmt.{decimal_injective}
 use Rattle.std.proofs.lemmas.Grind.{flat_map-append}
-use Rattle.map_defs.specs.Kind.{Kind}
+use Rattle.map_defs.specs.Kind.{Kind, alpha, beta, letter}
 use Rattle.map_defs.specs.Values.{Meaning}
 use Rattle.machine_defs.specs.State.{State, empty_state}
 use Rattle.machine_defs.specs.Kept.{IsLawfulState}
@@ -25,13 +25,20 @@ mesh-one None (Some name) named named' e = absurd (named' (ap (λ (x : List ℕ)
 mesh-one (Some name) None named named' e = absurd (named (ap (λ (x : List ℕ). Some x) e))
 mesh-one (Some name) (Some name') named named' e = ap (λ (x : List ℕ). Some x) e
 
+-- a letter is that of one kind
+letter-one : (k k' : Kind) → letter k ≡ letter k' → k ≡ k'
+letter-one alpha alpha e = refl
+letter-one alpha beta e = absurd (omega (arith, e))
+letter-one beta alpha e = absurd (omega (arith, e))
+letter-one beta beta e = refl
+
 -- words tell one command
 told-one : (words : List (List ℕ)) (c c' : Command) → TellsCommand words c → TellsCommand words c' → c ≡ c'
 told-one words (RunScript k n mesh script) (RunScript k' n' mesh' script') t t' =
-    let kinds = t.0.0 ∙ sym t'.0.0 in
     let same = sym t.1 ∙ t'.1 in
-    let dims : n ≡ n' = decimal_injective n n' (omega (arith, t.0.2)) (omega (arith, t'.0.2)) (cc (same)) in
-    let meshes : mesh ≡ mesh' = mesh-one mesh mesh' t.0.3 t'.0.3 (cc (same)) in
+    let kinds : k ≡ k' = letter-one k k' (cc (same)) in
+    let dims : n ≡ n' = decimal_injective n n' (omega (arith, t.0.1)) (omega (arith, t'.0.1)) (cc (same)) in
+    let meshes : mesh ≡ mesh' = mesh-one mesh mesh' t.0.2 t'.0.2 (cc (same)) in
     let scripts : script ≡ script' = cc in
     cc
 
@@ -75,11 +82,11 @@ mesh-answer-one hook k n mesh script one other status status' flat (inr a) (inr 
 command-one : (hook : Meaning) (files : Files) (c : Command) (one other : List ℕ) (status status' : ℕ) → IsOffered c → CommandAnswer hook files c one status → CommandAnswer hook files c other status' → (one ≡ other) × (status ≡ status')
 command-one hook files (RunScript k n None script) one other status status' offered a b =
     file-one (held files script) (ScriptAnswer hook (empty_state k n)) one other status status'
-    (λ bytes x y. script-one hook (empty_state k n) bytes one other status status' (empty-kept k n offered.1) x y) a b
+    (λ bytes x y. script-one hook (empty_state k n) bytes one other status status' (empty-kept k n offered.0) x y) a b
 command-one hook files (RunScript k n (Some name) script) one other status status' offered a b =
     file-one (held files name) (λ mesh. FileAnswer (held files script) (MeshAnswer hook k n mesh)) one other status status'
     (λ mesh x y. file-one (held files script) (MeshAnswer hook k n mesh) one other status status'
-    (λ bytes v w. mesh-answer-one hook k n mesh bytes one other status status' offered.1 v w) x y) a b
+    (λ bytes v w. mesh-answer-one hook k n mesh bytes one other status status' offered.0 v w) x y) a b
 
 pub answer-one : (hook : Meaning) (words : List (List ℕ)) (files : Files) (one other : List ℕ) (status status' : ℕ) → ProgramAnswer hook words files one status → ProgramAnswer hook words files other status' → (one ≡ other) × (status ≡ status')
 answer-one hook words files one other status status' (untold n t s) (untold n' t' s') = (t ∙ sym t', s ∙ sym s')
@@ -122,6 +129,6 @@ pub front-one : (hook : Meaning) (words : List (List ℕ)) (files : Files) (fron
 front-one hook words files front text status (whole text' status' a f) b = subst (IsFront front) (answer-one hook words files text' text status' status a b).0 f
 front-one hook words files front text status (lines c tells f) (untold n t s) = absurd (n c tells)
 front-one hook words files front text status (lines (RunScript k n mesh script) tells f) (told c' tells' a) =
-    front-of-all hook f.0 f.1 front text status (starts-kept files k n mesh f.0 tells.0.1 f.2) f.4
+    front-of-all hook f.0 f.1 front text status (starts-kept files k n mesh f.0 tells.0.0 f.2) f.4
     (command-run hook files k n mesh script f.0 f.1 text status f.2 f.3.0 f.3.1
     (subst (λ (d : Command). CommandAnswer hook files d text status) (told-one words c' (RunScript k n mesh script) tells' tells) a))

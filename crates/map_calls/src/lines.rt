@@ -1,7 +1,7 @@
 //! Lines as data, each obeyed by its call of the map.
 use attr_rules::FirstCopy;
-use map_core::{Done, Map};
-use map_kind::{Alpha, Refused, Value};
+use map_core::{Done, Edits, Map};
+use map_kind::{Refused, Value};
 use std::alloc::Global;
 
 /// A changing line, and what it names.
@@ -66,9 +66,9 @@ pub enum Line {
 }
 
 /// Obeys a line.
-pub fn obey<const DIM: usize>(
+pub fn obey<K: Edits<DIM>, const DIM: usize>(
     alloc: Global,
-    map: &mut Map<'_, Alpha, FirstCopy, DIM>,
+    map: &mut Map<'_, K, FirstCopy, DIM>,
     line: &Line,
 ) -> Result<Done, Refused> {
     match *line {

@@ -1,9 +1,11 @@
 //! The values after random lines, against those that are computed plainly for all cells from all live darts: from the
 //! values and the cells before a line, and from the cells after it. In the end all lines are taken back.
+ghost use Rattle.std.specs.Prelude.{◌≤◌};
+
 use crate::lines::{Line, obey};
 use attr_rules::{FirstCopy, Merge, Rule, RuleWith, Split, TableRule};
-use map_core::Map;
-use map_kind::{Alpha, Refused, Value};
+use map_core::{Edits, Map};
+use map_kind::{Alpha, Beta, Refused, Value};
 use std::alloc::{AllocError, Global};
 use std::process::Abort;
 use std::test::Fail;
@@ -103,9 +105,9 @@ fn rule_of(number: u64) -> Option<TableRule> {
 }
 
 /// All that stands of the live darts: dimension by dimension, ascending.
-fn standings<const DIM: usize>(
+fn standings<K: Edits<DIM>, const DIM: usize>(
     alloc: Global,
-    map: &Map<'_, Alpha, FirstCopy, DIM>,
+    map: &Map<'_, K, FirstCopy, DIM>,
 ) -> Result<Vec<Standing>, Refused> {
     let mut standings = Vec::new(alloc);
     for dim in 0..map.links().dimension() + 1 {
@@ -114,9 +116,9 @@ fn standings<const DIM: usize>(
     Ok(standings)
 }
 
-fn add_dimension<const DIM: usize>(
+fn add_dimension<K: Edits<DIM>, const DIM: usize>(
     alloc: Global,
-    map: &Map<'_, Alpha, FirstCopy, DIM>,
+    map: &Map<'_, K, FirstCopy, DIM>,
     dim: u64,
     standings: &mut Vec<Standing>,
 ) -> Result<(), Refused> {
@@ -126,9 +128,9 @@ fn add_dimension<const DIM: usize>(
     Ok(())
 }
 
-fn add_standing<const DIM: usize>(
+fn add_standing<K: Edits<DIM>, const DIM: usize>(
     alloc: Global,
-    map: &Map<'_, Alpha, FirstCopy, DIM>,
+    map: &Map<'_, K, FirstCopy, DIM>,
     dim: u64,
     dart: u64,
     standings: &mut Vec<Standing>,
@@ -266,10 +268,10 @@ fn wanted(
 }
 
 /// Obeys a line, compares all values, and answers whether some old cell with a value was joined or parted.
-fn check_line<const DIM: usize>(
+fn check_line<K: Edits<DIM>, const DIM: usize>(
     rt: &impl Abort,
     alloc: Global,
-    map: &mut Map<'_, Alpha, FirstCopy, DIM>,
+    map: &mut Map<'_, K, FirstCopy, DIM>,
     first_rule: u64,
     line: &Line,
 ) -> Result<bool, Refused> {
@@ -287,9 +289,9 @@ fn check_line<const DIM: usize>(
 }
 
 /// Makes three triangles and a dart alone.
-fn make_darts<const DIM: usize>(
+fn make_darts<K: Edits<DIM>, const DIM: usize>(
     alloc: Global,
-    map: &mut Map<'_, Alpha, FirstCopy, DIM>,
+    map: &mut Map<'_, K, FirstCopy, DIM>,
 ) -> Result<(), Refused> {
     for _ in 0..3 {
         obey(alloc, map, &Line::Polygon { sides: 3 })?;
@@ -300,9 +302,9 @@ fn make_darts<const DIM: usize>(
 
 /// Gives dimension 0 the rule of this number, and each further dimension that of the next, and all their cells values.
 /// A dimension whose number stands for no rule gets nothing.
-fn set_rules<const DIM: usize>(
+fn set_rules<K: Edits<DIM>, const DIM: usize>(
     alloc: Global,
-    map: &mut Map<'_, Alpha, FirstCopy, DIM>,
+    map: &mut Map<'_, K, FirstCopy, DIM>,
     first_rule: u64,
     random: &mut Random,
 ) -> Result<(), Refused> {
@@ -316,9 +318,9 @@ fn set_rules<const DIM: usize>(
     Ok(())
 }
 
-fn set_values<const DIM: usize>(
+fn set_values<K: Edits<DIM>, const DIM: usize>(
     alloc: Global,
-    map: &mut Map<'_, Alpha, FirstCopy, DIM>,
+    map: &mut Map<'_, K, FirstCopy, DIM>,
     dim: u64,
     random: &mut Random,
 ) -> Result<(), Refused> {
@@ -331,10 +333,10 @@ fn set_values<const DIM: usize>(
 }
 
 /// Checks a random script, takes it back, and answers how many of its lines joined or parted cells with values.
-fn check_script<const DIM: usize>(
+fn check_script<K: Edits<DIM>, const DIM: usize>(
     rt: &impl Abort,
     alloc: Global,
-    map: &mut Map<'_, Alpha, FirstCopy, DIM>,
+    map: &mut Map<'_, K, FirstCopy, DIM>,
     first_rule: u64,
 ) -> Result<u32, Refused> {
     make_darts(alloc, map)?;
@@ -356,28 +358,42 @@ fn check_script<const DIM: usize>(
     Ok(carrying)
 }
 
-#[test]
-fn values_of_the_whole_map_in_dimension_two(rt: HostRuntime) -> Result<(), Fail> {
+/// Checks a script for each choice of rules, and that enough of their lines joined or parted cells with values.
+fn check_scripts<K: Edits<DIM>, const DIM: usize>(
+    rt: &impl Abort,
+    alloc: Global,
+    enough: u32,
+) -> Result<(), Refused>
+    requires low { 2 ≤ DIM }
+    requires high { DIM ≤ 8 }
+{
     let hook = FirstCopy;
     let mut carrying: u32 = 0;
     for first_rule in 0..7 {
-        let mut map = Map::<'_, Alpha, FirstCopy, 2>::new(rt.alloc(), &hook);
-        let more = check_script(&rt, rt.alloc(), &mut map, first_rule)?;
+        let mut map = Map::<'_, K, FirstCopy, DIM>::new(alloc, &hook);
+        let more = check_script(rt, alloc, &mut map, first_rule)?;
         carrying = carrying.wrapping_add(more);
     }
-    assert!(&rt; carrying > 60, "{carrying} lines");
+    assert!(rt; carrying > enough, "{carrying} lines");
     Ok(())
 }
 
 #[test]
-fn values_of_the_whole_map_in_dimension_three(rt: HostRuntime) -> Result<(), Fail> {
-    let hook = FirstCopy;
-    let mut carrying: u32 = 0;
-    for first_rule in 0..7 {
-        let mut map = Map::<'_, Alpha, FirstCopy, 3>::new(rt.alloc(), &hook);
-        let more = check_script(&rt, rt.alloc(), &mut map, first_rule)?;
-        carrying = carrying.wrapping_add(more);
-    }
-    assert!(&rt; carrying > 60, "{carrying} lines");
-    Ok(())
+fn values_of_generalized_maps_in_dimension_two(rt: HostRuntime) -> Result<(), Fail> {
+    Ok(check_scripts::<Alpha, 2>(&rt, rt.alloc(), 60)?)
+}
+
+#[test]
+fn values_of_generalized_maps_in_dimension_three(rt: HostRuntime) -> Result<(), Fail> {
+    Ok(check_scripts::<Alpha, 3>(&rt, rt.alloc(), 60)?)
+}
+
+#[test]
+fn values_of_combinatorial_maps_in_dimension_two(rt: HostRuntime) -> Result<(), Fail> {
+    Ok(check_scripts::<Beta, 2>(&rt, rt.alloc(), 60)?)
+}
+
+#[test]
+fn values_of_combinatorial_maps_in_dimension_three(rt: HostRuntime) -> Result<(), Fail> {
+    Ok(check_scripts::<Beta, 3>(&rt, rt.alloc(), 40)?)
 }

@@ -70,14 +70,14 @@ impl Sink for Narrow {
     }
 }
 
-/// Words that are no command: none, an unknown one, one too few, one too many, the other kind, dimensions below and above
+/// Words that are no command: none, an unknown one, one too few, one too many, an unknown kind, dimensions below and above
 /// those offered, and a dimension with a leading zero.
 const NO_COMMANDS: [&[&str]; 8] = [
     &[],
     &["fly"],
     &["run", "g", "2", "-"],
     &["run", "g", "2", "-", "s", "s"],
-    &["run", "c", "2", "-", "s"],
+    &["run", "gc", "2", "-", "s"],
     &["run", "g", "1", "-", "s"],
     &["run", "g", "5", "-", "s"],
     &["run", "g", "02", "-", "s"],

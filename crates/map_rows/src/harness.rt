@@ -41,11 +41,11 @@ fn text(alloc: Global, word: &str) -> Result<String, AllocError>
     String::from_str(alloc, word)
 }
 
-/// Runs `run g DIM - s`, where the file `s` has these bytes.
-pub fn obey(alloc: Global, dim: &str, script: Vec<u8>) -> Result<Answer, AllocError> {
+/// Runs `run KIND DIM - s`, where the file `s` has these bytes.
+pub fn obey(alloc: Global, kind: &str, dim: &str, script: Vec<u8>) -> Result<Answer, AllocError> {
     let mut words = Vec::new(alloc);
     words.push(text(alloc, "run")?)?;
-    words.push(text(alloc, "g")?)?;
+    words.push(text(alloc, kind)?)?;
     words.push(text(alloc, dim)?)?;
     words.push(text(alloc, "-")?)?;
     words.push(text(alloc, "s")?)?;
@@ -57,16 +57,17 @@ pub fn obey(alloc: Global, dim: &str, script: Vec<u8>) -> Result<Answer, AllocEr
     run_over(alloc, words.as_slice(), files)
 }
 
-/// Runs each row's script in a dimension, and compares the text and the status.
+/// Runs each row's script over a map of a kind and a dimension, and compares the text and the status.
 pub fn check_rows(
     rt: &impl Abort,
     alloc: Global,
+    kind: &str,
     dim: &str,
     rows: &[Row],
 ) -> Result<(), AllocError> {
     for row in rows {
         let script = Vec::from_slice(alloc, row.script.as_bytes())?;
-        let answer = obey(alloc, dim, script)?;
+        let answer = obey(alloc, kind, dim, script)?;
         assert_eq!(rt;
             answer.text.as_slice(),
             row.text.as_bytes(),

@@ -50,10 +50,10 @@ const SOLID: [Row; 1] = [
 
 #[test]
 fn insertions_in_dimension_2(rt: HostRuntime) -> Result<(), AllocError> {
-    check_rows(&rt, rt.alloc(), "2", &FLAT)
+    check_rows(&rt, rt.alloc(), "g", "2", &FLAT)
 }
 
 #[test]
 fn insertions_in_dimension_3(rt: HostRuntime) -> Result<(), AllocError> {
-    check_rows(&rt, rt.alloc(), "3", &SOLID)
+    check_rows(&rt, rt.alloc(), "g", "3", &SOLID)
 }

@@ -58,15 +58,15 @@ const FOUR: [Row; 1] = [Row {
 
 #[test]
 fn lines_in_dimension_2(rt: HostRuntime) -> Result<(), AllocError> {
-    check_rows(&rt, rt.alloc(), "2", &FLAT)
+    check_rows(&rt, rt.alloc(), "g", "2", &FLAT)
 }
 
 #[test]
 fn lines_in_dimension_3(rt: HostRuntime) -> Result<(), AllocError> {
-    check_rows(&rt, rt.alloc(), "3", &SOLID)
+    check_rows(&rt, rt.alloc(), "g", "3", &SOLID)
 }
 
 #[test]
 fn lines_in_dimension_4(rt: HostRuntime) -> Result<(), AllocError> {
-    check_rows(&rt, rt.alloc(), "4", &FOUR)
+    check_rows(&rt, rt.alloc(), "g", "4", &FOUR)
 }

@@ -67,22 +67,22 @@ const SOLID: [MeshRow; 1] = [
 
 #[test]
 fn marks_in_dimension_2(rt: HostRuntime) -> Result<(), AllocError> {
-    check_rows(&rt, rt.alloc(), "2", &MARKS)
+    check_rows(&rt, rt.alloc(), "g", "2", &MARKS)
 }
 
 #[test]
 fn logs_in_dimension_2(rt: HostRuntime) -> Result<(), AllocError> {
-    check_rows(&rt, rt.alloc(), "2", &LOGS)
+    check_rows(&rt, rt.alloc(), "g", "2", &LOGS)
 }
 
 #[test]
 fn back_to_a_cube(rt: HostRuntime) -> Result<(), AllocError> {
-    check_meshes(&rt, rt.alloc(), "2", &CUBES)
+    check_meshes(&rt, rt.alloc(), "g", "2", &CUBES)
 }
 
 #[test]
 fn back_to_a_wall(rt: HostRuntime) -> Result<(), AllocError> {
-    check_meshes(&rt, rt.alloc(), "3", &SOLID)
+    check_meshes(&rt, rt.alloc(), "g", "3", &SOLID)
 }
 
 /// 32 polygons of 65,536 sides make all the darts that are ever made. The last one taken back leaves room for its numbers.
@@ -93,7 +93,7 @@ fn back_from_a_full_map(rt: HostRuntime) -> Result<(), AllocError> {
         script.extend_from_slice(b"polygon 65536\n")?;
     }
     script.extend_from_slice(b"mark a\npolygon 65536\ndart\nundo a\ndart\n")?;
-    let answer = obey(rt.alloc(), "2", script)?;
+    let answer = obey(rt.alloc(), "g", "2", script)?;
     assert!(rt;
         answer.text.ends_with(
             b"ok 3932161 131072\nok\nok 4063233 131072\nno 21 Full\nok\nok 4063233 1\n"
@@ -114,7 +114,7 @@ fn back_through_many_marks(rt: HostRuntime) -> Result<(), AllocError> {
         script.extend_from_slice(lines.as_bytes())?;
     }
     script.extend_from_slice(b"undo m0\ncount\n")?;
-    let answer = obey(rt.alloc(), "2", script)?;
+    let answer = obey(rt.alloc(), "g", "2", script)?;
     assert!(rt;
         answer
             .text

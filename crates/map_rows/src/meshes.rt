@@ -39,16 +39,17 @@ impl Shelf for TwoFiles {
     }
 }
 
-/// Runs each row in a dimension, and compares the text and the status.
+/// Runs each row over a map of a kind and a dimension, and compares the text and the status.
 pub fn check_meshes(
     rt: &impl Abort,
     alloc: Global,
+    kind: &str,
     dim: &str,
     rows: &[MeshRow],
 ) -> Result<(), AllocError> {
     for row in rows {
         let mut words = Vec::new(alloc);
-        for word in ["run", "g", dim, "m", "s"] {
+        for word in ["run", kind, dim, "m", "s"] {
             words.push(String::from_str(alloc, word)?)?;
         }
         let mut shelf = TwoFiles {
@@ -180,10 +181,10 @@ const BOXES: [MeshRow; 2] = [
 
 #[test]
 fn meshes_in_dimension_2(rt: HostRuntime) -> Result<(), AllocError> {
-    check_meshes(&rt, rt.alloc(), "2", &MESHES)
+    check_meshes(&rt, rt.alloc(), "g", "2", &MESHES)
 }
 
 #[test]
 fn meshes_in_dimension_3(rt: HostRuntime) -> Result<(), AllocError> {
-    check_meshes(&rt, rt.alloc(), "3", &BOXES)
+    check_meshes(&rt, rt.alloc(), "g", "3", &BOXES)
 }

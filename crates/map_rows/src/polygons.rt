@@ -50,7 +50,7 @@ const ROWS: [Row; 8] = [
 
 #[test]
 fn polygons_and_their_listing(rt: HostRuntime) -> Result<(), AllocError> {
-    check_rows(&rt, rt.alloc(), "2", &ROWS)
+    check_rows(&rt, rt.alloc(), "g", "2", &ROWS)
 }
 
 /// 32 polygons of 65,536 sides make all the darts that are ever made, and the next polygon is one too many.
@@ -61,7 +61,7 @@ fn fills_the_map(rt: HostRuntime) -> Result<(), AllocError> {
         script.extend_from_slice(b"polygon 65536\n")?;
     }
     script.extend_from_slice(b"polygon 2\npolygon 3\n")?;
-    let answer = obey(rt.alloc(), "2", script)?;
+    let answer = obey(rt.alloc(), "g", "2", script)?;
     assert!(rt; answer.text.starts_with(b"ok 1 131072\nok 131073 131072\n"));
     assert!(rt;
         answer.text.ends_with(b"ok 3932161 131072\nok 4063233 131072\nno 16 BadCount\nno 21 Full\n")

@@ -80,15 +80,15 @@ const SOLID: [MeshRow; 1] = [
 
 #[test]
 fn removals_in_dimension_2(rt: HostRuntime) -> Result<(), AllocError> {
-    check_rows(&rt, rt.alloc(), "2", &FLAT)
+    check_rows(&rt, rt.alloc(), "g", "2", &FLAT)
 }
 
 #[test]
 fn removals_from_a_cube(rt: HostRuntime) -> Result<(), AllocError> {
-    check_meshes(&rt, rt.alloc(), "2", &CUBES)
+    check_meshes(&rt, rt.alloc(), "g", "2", &CUBES)
 }
 
 #[test]
 fn removal_of_a_wall(rt: HostRuntime) -> Result<(), AllocError> {
-    check_meshes(&rt, rt.alloc(), "3", &SOLID)
+    check_meshes(&rt, rt.alloc(), "g", "3", &SOLID)
 }

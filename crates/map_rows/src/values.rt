@@ -36,5 +36,5 @@ const VALUES: [Row; 5] = [
 
 #[test]
 fn values_in_dimension_2(rt: HostRuntime) -> Result<(), AllocError> {
-    check_rows(&rt, rt.alloc(), "2", &VALUES)
+    check_rows(&rt, rt.alloc(), "g", "2", &VALUES)
 }

@@ -77,18 +77,18 @@ const ROWS: [Row; 14] = [
 
 #[test]
 fn words_of_lines(rt: HostRuntime) -> Result<(), AllocError> {
-    check_rows(&rt, rt.alloc(), "2", &ROWS)
+    check_rows(&rt, rt.alloc(), "g", "2", &ROWS)
 }
 
 /// A script may have 16,777,216 bytes and no more.
 #[test]
 fn limit_of_a_file(rt: HostRuntime) -> Result<(), AllocError> {
     let mut script = vec![in rt.alloc(); b' '; 16_777_216]?;
-    let answer = obey(rt.alloc(), "2", script.clone()?)?;
+    let answer = obey(rt.alloc(), "g", "2", script.clone()?)?;
     assert_eq!(rt; answer.text.len(), 0);
     assert_eq!(rt; answer.status, 0);
     script.push(b' ')?;
-    let answer = obey(rt.alloc(), "2", script)?;
+    let answer = obey(rt.alloc(), "g", "2", script)?;
     assert_eq!(rt; answer.text.as_slice(), b"too long\n".as_slice());
     assert_eq!(rt; answer.status, 4);
     Ok(())

@@ -64,7 +64,7 @@ module _ (hook : Meaning) (words : List (List ℕ)) (files : Files) where
             (read-answer name mesh (λ m. FileAnswer (held files script) (MeshAnswer hook k n m)) line 3 is
             (read-answer script bytes (MeshAnswer hook k n mesh) line 3 at (inl (refused, refl))))
         go None sound =
-            let start = loaded-exists k n mesh tells.0.1 sound in
+            let start = loaded-exists k n mesh tells.0.0 sound in
             lines (RunScript k n (Some name) script) tells (start.0, bytes, (mesh, is, start.1), at, Begins-nothing hook start.0 (lines_of bytes))
 
     pub starts-nothing : (mesh : Option (List ℕ)) → TellsCommand words (RunScript k n mesh script) → Starts hook words files []

@@ -1,12 +1,23 @@
 -- What the program's commands stand for.
-use Rattle.std.specs.Prelude.{ℕ, ◌≡◌, ◌≢◌, ◌≤◌, List, Option, Some, None}
+use Rattle.std.specs.Prelude.{ℕ, ◌≡◌, ◌≢◌, ◌≤◌, List, [], ◌∷◌, Option, Some, None}
 use Rattle.std.specs.Borrow.{Bor}
 use Rattle.std.specs.Fmt.{decimal}
-use Rattle.map_defs.specs.Kind.{alpha}
+use Rattle.map_defs.specs.Kind.{Kind, alpha, beta, letter}
 use Rattle.machine_defs.specs.Program as told
+use Rattle.map_run.specs.declared.command.MapKind.{MapKind}
+use Rattle.map_run.specs.declared.command.MapKind.TheVariants.{Generalized, Combinatorial}
 use Rattle.map_run.specs.declared.command.Dimension.{Dimension}
 use Rattle.map_run.specs.declared.command.Dimension.TheVariants.{Two, Three, Four}
 use Rattle.map_run.specs.declared.command.RunScript.{RunScript}
+
+abbrev pub kind_of : MapKind → Kind
+kind_of Generalized = alpha
+kind_of Combinatorial = beta
+
+-- the word is the letter of the kind; or it is that of none
+abbrev pub IsLettered : Option MapKind → List ℕ → Type 0
+IsLettered (Some kind) word = word ≡ letter (kind_of kind) ∷ []
+IsLettered None word = (k : Kind) → word ≡ letter k ∷ [] → ⊥
 
 abbrev pub number : Dimension → ℕ
 number Two = 2
@@ -28,4 +39,4 @@ abbrev pub IsMeshNamed : Option (Bor (List ℕ)) → List ℕ → Type 0
 IsMeshNamed mesh word = (told.mesh_word (mesh_name mesh) ≡ word) × (mesh_name mesh ≢ Some told.no_mesh)
 
 abbrev pub command_of : RunScript → told.Command
-command_of command = told.RunScript alpha (number command.dimension) (mesh_name command.mesh) command.script.now
+command_of command = told.RunScript (kind_of command.kind) (number command.dimension) (mesh_name command.mesh) command.script.now

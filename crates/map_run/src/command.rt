@@ -1,8 +1,14 @@
 //! The words with which the program is called.
-ghost use Rattle.std.specs.Prelude.{◌≡◌, ℕ, map, IsNone, IfSome, string_bytes, codes, IsTrue, ◌↔◌, ◌≤◌, None, Some};
-ghost use Rattle.map_defs.specs.Kind.{alpha};
-ghost use Rattle.machine_defs.specs.Program.{RunScript, TellsCommand, IsNoCommand};
-ghost use Rattle.map_run.specs.Commands.{number, IsNumbered, IsMeshNamed, command_of};
+ghost use Rattle.std.specs.Prelude.{map, IsNone, IfSome, string_bytes, ◌↔◌};
+ghost use Rattle.machine_defs.specs.Program.{TellsCommand, IsNoCommand};
+ghost use Rattle.map_run.specs.Commands.{IsLettered, IsNumbered, IsMeshNamed, command_of};
+
+/// The kinds of map that the program offers.
+#[derive(Clone, Copy, Debug, PartialEq, Eq)]
+pub enum MapKind {
+    Generalized,
+    Combinatorial,
+}
 
 /// The dimensions that the program offers.
 #[derive(Clone, Copy, Debug, PartialEq, Eq)]
@@ -12,9 +18,10 @@ pub enum Dimension {
     Four,
 }
 
-/// The command `run g DIM MESH SCRIPT`: run a script over a generalized map of a dimension.
+/// The command `run KIND DIM MESH SCRIPT`: run a script over a map of a kind and a dimension.
 #[derive(Clone, Copy, Debug, PartialEq, Eq)]
 pub struct RunScript<'a> {
+    pub kind: MapKind,
     pub dimension: Dimension,
     /// The name of the mesh that makes the map; none for the empty map.
     pub mesh: Option<&'a str>,
@@ -30,21 +37,29 @@ pub fn read_command(words: &[String]) -> Option<RunScript<'_>>
     let [run, kind, dimension, mesh, script] = words else {
         return None;
     };
-    if !is_run(run.as_str(), kind.as_str()) {
+    if run.as_str() != "run" {
         return None;
     }
+    let kind = read_kind(kind.as_str())?;
     let dimension = read_dimension(dimension.as_str())?;
     Some(RunScript {
+        kind,
         dimension,
         mesh: read_mesh(mesh.as_str()),
         script: script.as_str(),
     })
 }
 
-fn is_run(run: &str, kind: &str) -> bool
-    ensures { IsTrue result ↔ ((run.now ≡ codes "run") × (kind.now ≡ codes "g")) }
+fn read_kind(word: &str) -> Option<MapKind>
+    ensures { IsLettered result word.now }
 {
-    run == "run" && kind == "g"
+    if word == "g" {
+        Some(MapKind::Generalized)
+    } else if word == "c" {
+        Some(MapKind::Combinatorial)
+    } else {
+        None
+    }
 }
 
 /// The name of a mesh; none for `-`.

@@ -3,24 +3,50 @@ ghost use Rattle.std.specs.Prelude.{◌≡◌, ℕ, ◌≤◌, ◌||◌, List, S
 ghost use Rattle.machine_defs.specs.Outside.{Rose};
 ghost use Rattle.map_io.specs.Cause.{HasCause};
 ghost use Rattle.map_run.specs.Going.{ObeysScript};
-ghost use Rattle.map_run.specs.Commands.{number};
+ghost use Rattle.map_run.specs.Commands.{kind_of, number};
 ghost use Rattle.map_run.specs.Ending.{status_of};
 ghost use Rattle.map_run.specs.Texts.{AreShort, mesh_bytes, IsFirst, EndsTexts};
 ghost use Rattle.map_run.specs.Loads.{Refuses};
 
-use crate::command::Dimension;
+use crate::command::{Dimension, MapKind};
 use crate::files::Texts;
 use crate::mesh::{LoadFault, load_mesh, refuse_mesh};
 use crate::{machine, script};
 use attr_rules::Hook;
 use map_core::{Edits, Map};
 use map_io::{PutFault, Sink};
-use map_kind::Kind;
+use map_kind::{Alpha, Beta, Kind};
 use std::alloc::Global;
 
 /// Obeys a script from the map of a kind and a dimension that a mesh makes, or else from the empty one, writes the replies or
 /// the line that refuses the mesh, and answers the status.
-pub fn obey_in_dimension<K: Edits<2> + Edits<3> + Edits<4>, S: Sink, H: Hook>(
+pub fn obey_in_kind<S: Sink, H: Hook>(
+    alloc: Global,
+    kind: MapKind,
+    dimension: Dimension,
+    texts: &Texts,
+    out: &mut S,
+    hook: &H,
+) -> u8
+    requires ready { H.ready hook.now }
+    requires short { AreShort texts.now }
+    ensures ends { EndsTexts (H.meaning hook.now) (kind_of kind) (number dimension) (mesh_bytes texts.now.mesh) texts.now.script.items
+        (Rose (S.faults out.old) (S.faults out.new)) (S.written out.old) (S.written out.new) result }
+    ensures unwritten { result ≡ 6 → Rose (S.faults out.old) (S.faults out.new) }
+    ensures later { S.faults out.old ≤ S.faults out.new }
+{
+    match kind {
+        MapKind::Generalized => obey_in_dimension::<Alpha, S, H>(
+            alloc, dimension, texts, out, hook,
+        ),
+        MapKind::Combinatorial => obey_in_dimension::<Beta, S, H>(
+            alloc, dimension, texts, out, hook,
+        ),
+    }
+}
+
+/// The same for a kind that is known.
+fn obey_in_dimension<K: Edits<2> + Edits<3> + Edits<4>, S: Sink, H: Hook>(
     alloc: Global,
     dimension: Dimension,
     texts: &Texts,

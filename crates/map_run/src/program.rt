@@ -8,10 +8,9 @@ ghost use Rattle.map_run.specs.Ending.{EndsCall, EndsWhole};
 use crate::command::{RunScript, read_command};
 use crate::files::fetch_texts;
 use crate::last::{write_last, write_unfetched};
-use crate::obey::obey_in_dimension;
+use crate::obey::obey_in_kind;
 use attr_rules::Hook;
 use map_io::{Shelf, Sink};
-use map_kind::Alpha;
 use std::alloc::Global;
 
 /// Fetches the files of the command, obeys the script and writes the replies; or writes the line that says why a file was
@@ -36,10 +35,7 @@ fn run_script<F: Shelf, S: Sink, H: Hook>(
     ensures later { S.faults out.old ≤ S.faults out.new }
 {
     match fetch_texts(alloc, command, shelf) {
-        // The command offers generalized maps alone.
-        Ok(texts) => {
-            obey_in_dimension::<Alpha, S, H>(alloc, command.dimension, &texts, out, hook)
-        }
+        Ok(texts) => obey_in_kind(alloc, command.kind, command.dimension, &texts, out, hook),
         Err(fault) => write_unfetched(out, fault),
     }
 }
@@ -106,9 +102,10 @@ fn serve<F: Shelf, S: Sink, H: Hook>(
 /// puts the text that answers them to the sink, line by line, and answers its status. The hook is the rule that a caller
 /// hands in beside the table of rules.
 ///
-/// The words are `run g DIM MESH SCRIPT`, where DIM is 2, 3 or 4, MESH is the name of a mesh in OFF text, or `-` for the
-/// empty map, and SCRIPT is the name of a script, which is obeyed from that map. Other words are answered by `usage`. Both
-/// files are fetched, the mesh first, before the mesh is read.
+/// The words are `run KIND DIM MESH SCRIPT`, where KIND is `g` for a generalized map or `c` for a combinatorial map, DIM is
+/// 2, 3 or 4, MESH is the name of a mesh in OFF text, or `-` for the empty map, and SCRIPT is the name of a script, which is
+/// obeyed from that map. Other words are answered by `usage`. Both files are fetched, the mesh first, before the mesh is
+/// read.
 ///
 /// | status | when | text |
 /// |---|---|---|
