@@ -1,6 +1,5 @@
 use Rattle.std.proofs.Common.{◌≡◌, ◌+◌, ◌≤◌, ◌∷◌, [], None, inl, inr, ◌∙◌, lit<}
 use Rattle.std.proofs.lemmas.Bool.{cases_lt}
-use Rattle.map_defs.specs.Kind.{alpha}
 use Rattle.map_defs.specs.Rows.{made_max}
 use Rattle.edit_laws.proofs.EditPlain.{births-fit}
 use Rattle.sewing.proofs.TestMaps.{none-sound, born-laws}
@@ -11,9 +10,9 @@ apply-requires g c =
     let rows : c.reserve.new.self.rows ≡ None ∷ [] = c.reserve.ensures.rows ∙ c.new-links.ensures.rows in
     let full = rw c.new-links.ensures.rows at c.in-Ok.ensures.full in
     let few : 0 + c.args.darts ≤ made_max = elim (cases_lt made_max (0 + c.args.darts)) [ inl above ↦ absurd (let e = full.1 above in cc) | inr low ↦ low ] in
-    (lit< tt, rw (c.new.ensures.items, c.new-in-Ok.ensures.items, rows) (births-fit alpha g.row.DIM c.args.darts (None ∷ []) (none-sound alpha g.row.DIM), (c.in-Ok.ensures.spare, (c.in-Ok.ensures.room, few))))
+    (lit< tt, rw (c.new.ensures.items, c.new-in-Ok.ensures.items, rows) (births-fit g.K.Kind.kind g.row.DIM c.args.darts (None ∷ []) (none-sound g.K.Kind.kind g.row.DIM), (c.in-Ok.ensures.spare, (c.in-Ok.ensures.room, few))))
 
 pub returns : goal.returns
 returns g c =
     let rows : c.reserve.new.self.rows ≡ None ∷ [] = c.reserve.ensures.rows ∙ c.new-links.ensures.rows in
-    rw (c.apply.ensures.rows, c.new.ensures.items, c.new-in-Ok.ensures.items, rows) (born-laws alpha g.row.DIM c.args.darts)
+    rw (c.apply.ensures.rows, c.new.ensures.items, c.new-in-Ok.ensures.items, rows) (born-laws g.K.Kind.kind g.row.DIM c.args.darts)
