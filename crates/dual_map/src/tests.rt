@@ -1,23 +1,29 @@
 ghost use Rattle.std.specs.Prelude.{◌≡◌, ◌≤◌};
-ghost use Rattle.map_defs.specs.Kind.{alpha};
+ghost use Rattle.map_defs.specs.Kind.{alpha, beta};
 ghost use Rattle.map_defs.specs.Rows.{links_of};
 ghost use Rattle.map_defs.specs.Laws.{Laws};
 
 use crate::{dual_plan, dualable, take_dual};
 use link_rows::{Edit, Links, polygon_edit};
-use map_kind::{Alpha, Dart, Refusal, Refused};
+use map_kind::{Alpha, Beta, Dart, Kind, Refusal, Refused};
 use sewing::sew_plan;
 use std::alloc::Global;
 use std::process::Abort;
 use std::test::Fail;
 
 /// Makes a polygon of so many sides.
-fn polygon(rt: &impl Abort, alloc: Global, links: &mut Links<Alpha, 2>, sides: u32)
+fn polygon<K: Kind, const DIM: usize>(
+    rt: &impl Abort,
+    alloc: Global,
+    links: &mut Links<K, DIM>,
+    sides: u32,
+)
     requires low { 3 ≤ sides }
     requires high { sides ≤ 65536 }
-    requires laws { Laws alpha (links_of links.old.rows) }
-    ensures { Laws alpha (links_of links.new.rows) }
+    requires laws { Laws K.kind (links_of links.old.rows) }
+    ensures { Laws K.kind (links_of links.new.rows) }
 {
+    assert!(rt; K::per_side() <= 2);
     match links.reserve(2 * sides) {
         Ok(()) => {}
         Err(_) => panic!(rt; "no room"),
@@ -28,16 +34,24 @@ fn polygon(rt: &impl Abort, alloc: Global, links: &mut Links<Alpha, 2>, sides: u
     }
 }
 
-/// Sews two darts at link 2.
-fn sew(rt: &impl Abort, alloc: Global, links: &mut Links<Alpha, 2>, one: u32, other: u32)
-    requires { Laws alpha (links_of links.old.rows) }
-    ensures { Laws alpha (links_of links.new.rows) }
+/// Sews two darts that can be sewn.
+fn sew<K: Kind, const DIM: usize>(
+    rt: &impl Abort,
+    alloc: Global,
+    links: &mut Links<K, DIM>,
+    link: usize,
+    one: u32,
+    other: u32,
+)
+    requires link { link ≤ DIM }
+    requires laws { Laws K.kind (links_of links.old.rows) }
+    ensures { Laws K.kind (links_of links.new.rows) }
 {
     let one = dart(rt, one);
     let other = dart(rt, other);
     assert!(rt; links.is_live(one));
     assert!(rt; links.is_live(other));
-    match sew_plan(alloc, links, 2, one, other) {
+    match sew_plan(alloc, links, link, one, other) {
         Ok(edit) => links.apply(&edit),
         Err(_) => panic!(rt; "not sewn"),
     }
@@ -51,24 +65,28 @@ fn cube(rt: &impl Abort, alloc: Global, links: &mut Links<Alpha, 2>)
     for _square in 0..6 {
         polygon(rt, alloc, links, 4);
     }
-    sew(rt, alloc, links, 1, 42);
-    sew(rt, alloc, links, 3, 34);
-    sew(rt, alloc, links, 5, 26);
-    sew(rt, alloc, links, 7, 18);
-    sew(rt, alloc, links, 9, 22);
-    sew(rt, alloc, links, 11, 30);
-    sew(rt, alloc, links, 13, 38);
-    sew(rt, alloc, links, 15, 46);
-    sew(rt, alloc, links, 19, 32);
-    sew(rt, alloc, links, 23, 44);
-    sew(rt, alloc, links, 27, 40);
-    sew(rt, alloc, links, 35, 48);
+    sew(rt, alloc, links, 2, 1, 42);
+    sew(rt, alloc, links, 2, 3, 34);
+    sew(rt, alloc, links, 2, 5, 26);
+    sew(rt, alloc, links, 2, 7, 18);
+    sew(rt, alloc, links, 2, 9, 22);
+    sew(rt, alloc, links, 2, 11, 30);
+    sew(rt, alloc, links, 2, 13, 38);
+    sew(rt, alloc, links, 2, 15, 46);
+    sew(rt, alloc, links, 2, 19, 32);
+    sew(rt, alloc, links, 2, 23, 44);
+    sew(rt, alloc, links, 2, 27, 40);
+    sew(rt, alloc, links, 2, 35, 48);
 }
 
 /// Makes the dual of a map that has one by its edit, and answers how many links changed.
-fn apply_dual(rt: &impl Abort, alloc: Global, links: &mut Links<Alpha, 2>) -> usize
-    requires { Laws alpha (links_of links.old.rows) }
-    ensures { Laws alpha (links_of links.new.rows) }
+fn apply_dual<K: Kind, const DIM: usize>(
+    rt: &impl Abort,
+    alloc: Global,
+    links: &mut Links<K, DIM>,
+) -> usize
+    requires { Laws K.kind (links_of links.old.rows) }
+    ensures { Laws K.kind (links_of links.new.rows) }
 {
     let made = links.made();
     match dual_plan(alloc, links) {
@@ -183,5 +201,70 @@ fn dead_darts_are_not_looked_at(rt: HostRuntime) -> Result<(), Fail> {
         changes: Vec::new(alloc),
     });
     assert!(&rt; dualable(&links));
+    Ok(())
+}
+
+/// Two volumes of two triangles each, which share both faces.
+fn two_volumes(rt: &impl Abort, alloc: Global, links: &mut Links<Beta, 3>)
+    requires { Laws beta (links_of links.old.rows) }
+    ensures { Laws beta (links_of links.new.rows) }
+{
+    for _triangle in 0..4 {
+        polygon(rt, alloc, links, 3);
+    }
+    sew(rt, alloc, links, 2, 1, 4);
+    sew(rt, alloc, links, 2, 2, 6);
+    sew(rt, alloc, links, 2, 3, 5);
+    sew(rt, alloc, links, 2, 7, 10);
+    sew(rt, alloc, links, 2, 8, 12);
+    sew(rt, alloc, links, 2, 9, 11);
+    sew(rt, alloc, links, 3, 1, 7);
+    sew(rt, alloc, links, 3, 4, 10);
+}
+
+/// The numbers of the darts at the links of a dart of a combinatorial map, 0 for none.
+fn directed_row(rt: &impl Abort, links: &Links<Beta, 3>, number: u32) -> [u32; 4] {
+    let dart = dart(rt, number);
+    [
+        links.number_at(dart, 0),
+        links.number_at(dart, 1),
+        links.number_at(dart, 2),
+        links.number_at(dart, 3),
+    ]
+}
+
+// The last link alone stays. Two faces meet at each edge of the volumes, so each face of the dual has two sides.
+#[test]
+fn dual_of_a_combinatorial_map(rt: HostRuntime) -> Result<(), Fail> {
+    let alloc = rt.alloc();
+    let mut links = Links::<Beta, 3>::new(alloc);
+    two_volumes(&rt, alloc, &mut links);
+    assert!(&rt; dualable(&links));
+    assert_eq!(&rt; apply_dual(&rt, alloc, &mut links), 36);
+    assert_eq!(&rt; directed_row(&rt, &links, 1), [10, 10, 8, 7]);
+    assert_eq!(&rt; directed_row(&rt, &links, 6), [9, 9, 12, 11]);
+    assert_eq!(&rt; apply_dual(&rt, alloc, &mut links), 36);
+    assert_eq!(&rt; directed_row(&rt, &links, 1), [3, 2, 4, 7]);
+    Ok(())
+}
+
+// All links of a square are there, and it is sewn to itself by link 3: in the dual, link 2 would join each dart to itself.
+#[test]
+fn a_combinatorial_map_without_free_links_may_have_no_dual(rt: HostRuntime) -> Result<(), Fail> {
+    let alloc = rt.alloc();
+    let mut links = Links::<Beta, 3>::new(alloc);
+    polygon(&rt, alloc, &mut links, 4);
+    sew(&rt, alloc, &mut links, 2, 1, 2);
+    sew(&rt, alloc, &mut links, 2, 3, 4);
+    sew(&rt, alloc, &mut links, 3, 1, 4);
+    assert_eq!(&rt; directed_row(&rt, &links, 1), [4, 2, 2, 4]);
+    assert_eq!(&rt; directed_row(&rt, &links, 3), [2, 4, 4, 2]);
+    assert!(&rt; !dualable(&links));
+    assert!(&rt;
+        matches!(
+            dual_plan(alloc, &links),
+            Err(Refused::Line(Refusal::Boundary))
+        )
+    );
     Ok(())
 }
