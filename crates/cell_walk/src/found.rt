@@ -9,41 +9,30 @@ use std::marker::Model;
 
 /// The darts that a walk has found, each once, in the order in which they were found.
 #[derive(Drop)]
-pub(crate) struct Found {
+pub(crate) struct Found<S: Seen> {
     darts: Vec<Dart>,
-    seen: Seen,
+    seen: S,
 }
 
-impl Model for Found {
+impl<S: Seen> Model for Found<S> {
     ghost use Rattle.std.specs.Prelude.{ℕ, List};
     ghost use Rattle.cell_walk.specs.Visits.{ListsOnce};
-    ghost use Rattle.cell_walk.specs.Marks.{HasSeen};
 
     ghost Value = { List ℕ };
 
     ghost view = { λ found. found.darts.items };
 
-    ghost invariant = { λ found. ListsOnce (HasSeen found.seen) found.darts.items };
+    ghost invariant = { λ found. ListsOnce (S.has found.seen) found.darts.items };
 }
 
-impl Found {
-    /// Nothing found yet, for a walk that costs what it finds, whatever the size of the map.
+impl<S: Seen> Found<S> {
+    /// Nothing found yet.
     pub(crate) fn new(alloc: Global) -> Self
         ensures { result ≡ [] }
     {
         Found {
             darts: Vec::new(alloc),
-            seen: Seen::new(alloc),
-        }
-    }
-
-    /// Nothing found yet, for walks over the whole map. Each begins with `restart`.
-    pub(crate) fn with_marks(alloc: Global) -> Self
-        ensures { result ≡ [] }
-    {
-        Found {
-            darts: Vec::new(alloc),
-            seen: Seen::with_marks(alloc),
+            seen: S::new(alloc),
         }
     }
 
@@ -88,6 +77,7 @@ impl Found {
     }
 
     /// Adds a dart that was not found before.
+    #[inline(always)]
     pub(crate) fn put(&mut self, dart: Dart) -> Result<(), AllocError>
         requires { Contains self.old dart → ⊥ }
         ensures { OnOk result (self.new ≡ self.old ++ dart ∷ []) }

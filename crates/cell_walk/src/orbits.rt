@@ -7,6 +7,7 @@ ghost use Rattle.cell_walk.specs.Visits.{IsVisited, IsClosed};
 ghost use Rattle.cell_walk.specs.CellLists.{AreOrbitsOf, lists_of};
 
 use crate::found::Found;
+use crate::seen::{Few, Seen};
 use link_rows::Links;
 use map_kind::{Dart, Kind, LinkWord};
 use std::alloc::{AllocError, Global};
@@ -26,7 +27,7 @@ pub fn orbit<K: Kind, const DIM: usize>(
         → Contains orbit.items y ↔ InOrbit (Leads (links_of links.now.rows) (Contains words.now)) dart y) }
     ensures ascending { IfOk result (λ orbit. IsStrictlyIncreasing orbit.items) }
 {
-    let mut found = Found::new(alloc);
+    let mut found = Found::<Few>::new(alloc);
     walk(links, words, dart, &mut found)?;
     Ok(found.into_ascending())
 }
@@ -46,7 +47,7 @@ pub fn orbits_of<K: Kind, const DIM: usize>(
         ↔ ((d : ℕ) × Contains darts.now d × InOrbit (Leads (links_of links.now.rows) (Contains words.now)) d y)) }
     ensures ascending { IfOk result (λ orbits. IsStrictlyIncreasing orbits.items) }
 {
-    let mut found = Found::new(alloc);
+    let mut found = Found::<Few>::new(alloc);
     for dart in darts {
         walk(links, words, *dart, &mut found)?;
     }
@@ -63,7 +64,7 @@ pub(crate) fn each_orbit<K: Kind, const DIM: usize>(
     requires { All (IsWithin DIM) words.now }
     ensures { IfOk result (λ orbits. AreOrbitsOf (Leads (links_of links.now.rows) (Contains words.now)) darts.now (lists_of orbits.items)) }
 {
-    let mut found = Found::new(alloc);
+    let mut found = Found::<Few>::new(alloc);
     let mut orbits = Vec::with_capacity(alloc, darts.len())?;
     for first in darts {
         found.restart(0)?;
@@ -74,11 +75,11 @@ pub(crate) fn each_orbit<K: Kind, const DIM: usize>(
 }
 
 /// Finds the orbit of a dart, besides what was found before. Where a word leads from a dart found before, it led to one.
-pub(crate) fn walk<K: Kind, const DIM: usize>(
+pub(crate) fn walk<S: Seen, K: Kind, const DIM: usize>(
     links: &Links<K, DIM>,
     words: &[LinkWord],
     dart: Dart,
-    found: &mut Found,
+    found: &mut Found<S>,
 ) -> Result<(), AllocError>
     requires within { All (IsWithin DIM) words.now }
     requires closed { IsClosed (Leads (links_of links.now.rows) (Contains words.now)) found.old }
@@ -96,11 +97,11 @@ pub(crate) fn walk<K: Kind, const DIM: usize>(
 }
 
 /// Finds the darts to which the words lead from a dart.
-pub(crate) fn visit<K: Kind, const DIM: usize>(
+pub(crate) fn visit<S: Seen, K: Kind, const DIM: usize>(
     links: &Links<K, DIM>,
     words: &[LinkWord],
     dart: Dart,
-    found: &mut Found,
+    found: &mut Found<S>,
 ) -> Result<(), AllocError>
     requires { All (IsWithin DIM) words.now }
     ensures { OnOk result (IsVisited (links_of links.now.rows) (Contains words.now) dart found.old found.new) }
@@ -112,11 +113,12 @@ pub(crate) fn visit<K: Kind, const DIM: usize>(
 }
 
 /// Finds the dart to which a word leads, if it leads to one.
-fn step<K: Kind, const DIM: usize>(
+#[inline(always)]
+fn step<S: Seen, K: Kind, const DIM: usize>(
     links: &Links<K, DIM>,
     word: LinkWord,
     dart: Dart,
-    found: &mut Found,
+    found: &mut Found<S>,
 ) -> Result<(), AllocError>
     requires { IsWithin DIM word }
     ensures { OnOk result (IsVisited (links_of links.now.rows) (λ w. w ≡ word) dart found.old found.new) }
@@ -131,6 +133,7 @@ fn step<K: Kind, const DIM: usize>(
 }
 
 /// The dart to which a word leads; none exactly where a link on its way is free.
+#[inline(always)]
 fn follow<K: Kind, const DIM: usize>(
     links: &Links<K, DIM>,
     word: LinkWord,

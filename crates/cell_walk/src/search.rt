@@ -5,6 +5,7 @@ ghost use Rattle.map_defs.specs.Cells.{InOrbit, Leads};
 
 use crate::found::Found;
 use crate::orbits::visit;
+use crate::seen::Few;
 use link_rows::Links;
 use map_kind::{Dart, Kind, LinkWord};
 use std::alloc::{AllocError, Global};
@@ -25,7 +26,7 @@ pub fn reaches<K: Kind, const DIM: usize>(
     ensures { IfOk result (λ reaches. IsTrue reaches
         ↔ InOrbit (Leads (links_of links.now.rows) (Contains words.now)) one other) }
 {
-    let mut found = Found::new(alloc);
+    let mut found = Found::<Few>::new(alloc);
     found.add(one)?;
     let mut next = 0;
     while next < found.len() {

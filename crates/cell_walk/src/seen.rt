@@ -1,5 +1,5 @@
-ghost use Rattle.std.specs.Prelude.{◌≡◌, ℕ, ◌+◌, ◌<◌, ◌≤◌, ◌^◌, ◌↔◌, ◌⊎◌, Contains, IsTrue, IfOk, OnOk, OnErr, vec_len, vec_capacity};
-ghost use Rattle.cell_walk.specs.Marks.{IsMarked, HasSeen};
+ghost use Rattle.std.specs.Prelude.{◌≡◌, ℕ, ◌+◌, ◌<◌, ◌≤◌, ◌↔◌, ◌⊎◌, Contains, IsTrue, IfOk, OnOk, OnErr, vec_len, vec_capacity};
+ghost use Rattle.cell_walk.specs.Marks.{IsMarked};
 
 use map_kind::Dart;
 use std::alloc::{AllocError, Global};
@@ -8,89 +8,66 @@ use std::collections::BTreeSet;
 /// How many darts a walk may find before it keeps a set.
 const FEW: usize = 16;
 
-/// Which darts were found.
-#[derive(Drop)]
-pub(crate) enum Seen {
-    /// The first few in a list, which is quickly looked through, and the others in a set, which costs what it holds.
-    Set {
-        few: Vec<Dart>,
-        more: BTreeSet<Dart>,
-    },
-    /// A mark at the place of each dart's number, which is faster where a walk goes over the whole map.
-    Marks(Vec<bool>),
+/// What knows which darts were found.
+pub(crate) trait Seen: Drop {
+    /// The dart was found.
+    ghost has: { Self → ℕ → Type 0 };
+
+    /// No dart found yet. It takes no memory.
+    fn new(alloc: Global) -> Self
+        ensures { (d : ℕ) → has result d → ⊥ };
+
+    /// Forgets all darts, for another walk over a map whose darts are numbered up to `made`.
+    fn restart(&mut self, made: u32) -> Result<(), AllocError>
+        ensures { (d : ℕ) → has self.new d → ⊥ };
+
+    /// Whether a dart was found.
+    fn contains(&self, dart: Dart) -> bool
+        ensures { IsTrue result ↔ has self.now dart };
+
+    /// Adds a dart.
+    fn insert(&mut self, dart: Dart) -> Result<(), AllocError>
+        ensures after { OnOk result ((d : ℕ) → has self.new d ↔ (has self.old d ⊎ (dart ≡ d))) }
+        ensures err { OnErr result ((d : ℕ) → has self.new d ↔ has self.old d) };
 }
 
-impl Seen {
-    /// No dart found yet, with a set. It takes no memory.
-    pub(crate) fn new(alloc: Global) -> Self
-        ensures { (d : ℕ) → HasSeen result d → ⊥ }
-    {
-        Seen::Set {
-            few: Vec::new(alloc),
+/// For a walk that costs what it finds, whatever the size of the map: the first few darts in a list, which is quickly
+/// looked through, and the others in a set.
+#[derive(Drop)]
+pub(crate) struct Few {
+    first: Vec<Dart>,
+    more: BTreeSet<Dart>,
+}
+
+impl Seen for Few {
+    ghost has = { λ seen d. Contains seen.first.items d ⊎ Contains seen.more.keys d };
+
+    fn new(alloc: Global) -> Self {
+        Few {
+            first: Vec::new(alloc),
             more: BTreeSet::new(alloc),
         }
     }
 
-    /// No dart found yet, with marks, for which memory is taken later. It takes none.
-    pub(crate) fn with_marks(alloc: Global) -> Self
-        ensures { (d : ℕ) → HasSeen result d → ⊥ }
-    {
-        Seen::Marks(Vec::new(alloc))
+    fn restart(&mut self, _made: u32) -> Result<(), AllocError> {
+        self.first.clear();
+        self.more.clear();
+        Ok(())
     }
 
-    /// Forgets all darts; where it keeps marks, it takes the memory for the numbers up to `made`.
-    pub(crate) fn restart(&mut self, made: u32) -> Result<(), AllocError>
-        ensures { (d : ℕ) → HasSeen self.new d → ⊥ }
-    {
-        match self {
-            Seen::Set { few, more } => {
-                few.clear();
-                more.clear();
-                Ok(())
-            }
-            Seen::Marks(marks) => {
-                marks.clear();
-                make_place(marks, made)
-            }
+    fn contains(&self, dart: Dart) -> bool {
+        self.first.contains(&dart) || self.more.contains(&dart)
+    }
+
+    fn insert(&mut self, dart: Dart) -> Result<(), AllocError> {
+        if self.first.len() < FEW {
+            make_room(&mut self.first)?;
+            self.first.push_reserved(dart);
+        } else {
+            self.more.insert(dart)?;
         }
+        Ok(())
     }
-
-    /// Whether a dart was found.
-    pub(crate) fn contains(&self, dart: Dart) -> bool
-        ensures { IsTrue result ↔ HasSeen self.now dart }
-    {
-        match self {
-            Seen::Set { few, more } => few.contains(&dart) || more.contains(&dart),
-            Seen::Marks(marks) => marks.get(dart.number() as usize).copied().unwrap_or(false),
-        }
-    }
-
-    /// Adds a dart.
-    pub(crate) fn insert(&mut self, dart: Dart) -> Result<(), AllocError>
-        ensures after { OnOk result ((d : ℕ) → HasSeen self.new d ↔ (HasSeen self.old d ⊎ (dart ≡ d))) }
-        ensures err { OnErr result ((d : ℕ) → HasSeen self.new d ↔ HasSeen self.old d) }
-    {
-        match self {
-            Seen::Set { few, more } => put(few, more, dart),
-            Seen::Marks(marks) => mark(marks, dart.number()),
-        }
-    }
-}
-
-/// Adds a dart to the list, or to the set once the list is full.
-fn put(few: &mut Vec<Dart>, more: &mut BTreeSet<Dart>, dart: Dart) -> Result<(), AllocError>
-    ensures after { OnOk result ((d : ℕ) → (Contains few.new.items d ⊎ Contains more.new.keys d)
-        ↔ ((Contains few.old.items d ⊎ Contains more.old.keys d) ⊎ (dart ≡ d))) }
-    ensures err { OnErr result ((d : ℕ) → (Contains few.new.items d ⊎ Contains more.new.keys d)
-        ↔ (Contains few.old.items d ⊎ Contains more.old.keys d)) }
-{
-    if few.len() < FEW {
-        make_room(few)?;
-        few.push_reserved(dart);
-    } else {
-        more.insert(dart)?;
-    }
-    Ok(())
 }
 
 /// Makes room for one more dart, and for a few at first.
@@ -102,14 +79,39 @@ pub(crate) fn make_room(darts: &mut Vec<Dart>) -> Result<(), AllocError>
     darts.reserve(more)
 }
 
-/// Sets a mark.
-fn mark(marks: &mut Vec<bool>, place: u32) -> Result<(), AllocError>
-    ensures after { OnOk result ((d : ℕ) → IsMarked marks.new.items d ↔ (IsMarked marks.old.items d ⊎ (place ≡ d))) }
-    ensures err { OnErr result ((d : ℕ) → IsMarked marks.new.items d ↔ IsMarked marks.old.items d) }
-{
-    make_place(marks, place)?;
-    marks[place as usize] = true;
-    Ok(())
+/// For walks over the whole map: a mark at the place of each dart's number. The memory for it is taken when a walk begins.
+#[derive(Drop)]
+pub(crate) struct Marks {
+    marks: Vec<bool>,
+}
+
+impl Seen for Marks {
+    ghost has = { λ seen d. IsMarked seen.marks.items d };
+
+    fn new(alloc: Global) -> Self {
+        Marks {
+            marks: Vec::new(alloc),
+        }
+    }
+
+    fn restart(&mut self, made: u32) -> Result<(), AllocError> {
+        self.marks.clear();
+        make_place(&mut self.marks, made)
+    }
+
+    fn contains(&self, dart: Dart) -> bool {
+        let place = dart.number() as usize;
+        place < self.marks.len() && self.marks[place]
+    }
+
+    fn insert(&mut self, dart: Dart) -> Result<(), AllocError> {
+        let place = dart.number();
+        if place as usize >= self.marks.len() {
+            make_place(&mut self.marks, place)?;
+        }
+        self.marks[place as usize] = true;
+        Ok(())
+    }
 }
 
 /// Lengthens the marks, where they end before a place.

@@ -10,6 +10,7 @@ ghost use Rattle.cell_walk.specs.CellLists.{AreCellsOf, AreOrbitsOf, lists_of};
 
 use crate::found::Found;
 use crate::orbits::walk;
+use crate::seen::Marks;
 use link_rows::Links;
 use map_kind::{Dart, Kind, LinkWord};
 use std::alloc::{AllocError, Global};
@@ -25,7 +26,7 @@ pub fn cells<K: Kind, const DIM: usize>(
         → Contains cells.items d ↔ (IsLive links.now.rows d × NamesCell K.kind (links_of links.now.rows) dim d)) }
     ensures ascending { IfOk result (λ cells. IsStrictlyIncreasing cells.items) }
 {
-    let mut found = Found::with_marks(alloc);
+    let mut found = Found::<Marks>::new(alloc);
     cells_with(alloc, links, dim, &mut found)
 }
 
@@ -60,7 +61,7 @@ fn cells_with<K: Kind, const DIM: usize>(
     alloc: Global,
     links: &Links<K, DIM>,
     dim: usize,
-    found: &mut Found,
+    found: &mut Found<Marks>,
 ) -> Result<Vec<Dart>, AllocError>
     requires { dim ≤ DIM }
     ensures members { IfOk result (λ cells. (d : ℕ)
@@ -80,7 +81,7 @@ pub fn components<K: Kind, const DIM: usize>(
         → Contains components.items d ↔ (IsLive links.now.rows d × NamesComponent (links_of links.now.rows) d)) }
     ensures ascending { IfOk result (λ components. IsStrictlyIncreasing components.items) }
 {
-    let mut found = Found::with_marks(alloc);
+    let mut found = Found::<Marks>::new(alloc);
     components_with(alloc, links, &mut found)
 }
 
@@ -88,7 +89,7 @@ pub fn components<K: Kind, const DIM: usize>(
 fn components_with<K: Kind, const DIM: usize>(
     alloc: Global,
     links: &Links<K, DIM>,
-    found: &mut Found,
+    found: &mut Found<Marks>,
 ) -> Result<Vec<Dart>, AllocError>
     ensures members { IfOk result (λ components. (d : ℕ)
         → Contains components.items d ↔ (IsLive links.now.rows d × NamesComponent (links_of links.now.rows) d)) }
@@ -105,7 +106,7 @@ pub fn counts<K: Kind, const DIM: usize>(
 ) -> Result<Vec<u64>, AllocError>
     ensures { IfOk result (λ counts. AreCounts K.kind DIM links.now.rows counts.items) }
 {
-    let mut found = Found::with_marks(alloc);
+    let mut found = Found::<Marks>::new(alloc);
     let mut counts = Vec::new(alloc);
     counts.push(u64::from(links.live_count()))?;
     for dim in 0..links.dimension() + 1 {
@@ -128,7 +129,7 @@ fn least_darts<K: Kind, const DIM: usize>(
     alloc: Global,
     links: &Links<K, DIM>,
     words: &[LinkWord],
-    found: &mut Found,
+    found: &mut Found<Marks>,
 ) -> Result<Vec<Dart>, AllocError>
     requires within { All (IsWithin DIM) words.now }
     requires turns { TurnsBack (Leads (links_of links.now.rows) (Contains words.now)) }
@@ -149,7 +150,7 @@ fn take_least<K: Kind, const DIM: usize>(
     links: &Links<K, DIM>,
     words: &[LinkWord],
     dart: Dart,
-    found: &mut Found,
+    found: &mut Found<Marks>,
     least: &mut Vec<Dart>,
 ) -> Result<(), AllocError>
     requires sound { IsSound K.kind DIM links.now.rows }
@@ -183,7 +184,7 @@ fn orbit_lists<K: Kind, const DIM: usize>(
     ensures ascending { IfOk result (λ orbits. IsStrictlyIncreasing orbits.least.items) }
     ensures darts { IfOk result (λ orbits. AreOrbitsOf (Leads (links_of links.now.rows) (Contains words.now)) orbits.least.items (lists_of orbits.darts.items)) }
 {
-    let mut found = Found::with_marks(alloc);
+    let mut found = Found::<Marks>::new(alloc);
     let made = links.made();
     found.restart(made)?;
     let mut orbits = CellLists {
@@ -209,7 +210,7 @@ fn take_orbit<K: Kind, const DIM: usize>(
     links: &Links<K, DIM>,
     words: &[LinkWord],
     dart: Dart,
-    found: &mut Found,
+    found: &mut Found<Marks>,
     orbits: &mut CellLists,
 ) -> Result<(), AllocError>
     requires sound { IsSound K.kind DIM links.now.rows }
