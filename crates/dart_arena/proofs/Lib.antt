@@ -1,4 +1,8 @@
 pub mod RowLemmas
-pub mod TableLemmas
-pub mod TableSteps
-pub mod ReversedRows
+pub mod KeyLemmas
+pub mod SlotLemmas
+pub mod Arranged
+pub mod RowSize
+pub mod Freed
+pub mod Stages
+pub mod Gathering

@@ -1,7 +1,8 @@
 -- Lists of optional rows: a place behind place 0, and the count of those that are there.
-use Rattle.std.proofs.Common.{◌≡◌, ℕ, zero, suc, ◌+◌, ◌<◌, ◌≤◌, List, [], ◌∷◌, length, get_or, set, take, Option, None, Some, is_some, IsSome, cond, refl, arith}
-use Rattle.std.specs.Prelude.{filter}
-use Rattle.std.proofs.lemmas.Bool.{false≢true}
+use Rattle.std.proofs.Common.{◌≡◌, ℕ, zero, suc, ◌+◌, ◌<◌, ◌≤◌, List, [], ◌∷◌, ◌++◌, length, get_or, set, take, Option, None, Some, is_some, IsSome, Bool, cond, refl, sym, ap, ◌∙◌, inl, inr, arith}
+use Rattle.std.specs.Prelude.{filter, option_map}
+use Rattle.std.proofs.lemmas.Bool.{cases_lt, false≢true}
+use Rattle.std.proofs.lemmas.List.{take_all, take_more}
 use Rattle.std.proofs.lemmas.List.Sums.{length-filter, count_by-le-length, sum_by-set}
 use Rattle.dart_arena.specs.Stock.{Stock}
 
@@ -14,6 +15,11 @@ module _ {R : Type 0} where
   pub set_behind : (xs : List (Option R)) (d p : ℕ) (o : Option R) → p + 1 ≡ d → set (None ∷ xs) d o ≡ None ∷ set xs p o
   set_behind xs zero p o h = absurd (omega arith)
   set_behind xs (suc d) p o h = let e : p ≡ d = omega arith in rw e refl
+
+  pub set-behind-mapped : (xs : List (Option R)) (d p : ℕ) (f : R → R) → p + 1 ≡ d
+      → set (None ∷ xs) d (option_map f (get_or (None ∷ xs) d None)) ≡ None ∷ set xs p (option_map f (get_or xs p None))
+  set-behind-mapped xs zero p f h = absurd (omega arith)
+  set-behind-mapped xs (suc d) p f h = let e : p ≡ d = omega arith in rw e refl
 
   pub take_behind : (xs : List (Option R)) (n m : ℕ) → n ≡ m + 1 → take n (None ∷ xs) ≡ None ∷ take m xs
   take_behind xs zero m h = absurd (omega arith)
@@ -49,6 +55,46 @@ module _ {R : Type 0} where
   pub count-replaced : (xs : List (Option R)) (p : ℕ) (row : R) → IsSome (get_or xs p None)
       → length (filter is_some (set xs p (Some row))) ≡ length (filter is_some xs)
   count-replaced xs p row h = let e = count-set xs p (Some row) (some-within xs p h) in let f = rw h at e in omega arith
+
+  count-mapped-if : (f : R → R) (xs : List (Option R)) (p : ℕ) → is_some (option_map f (get_or xs p None)) ≡ is_some (get_or xs p None)
+  count-mapped-if f [] p = refl
+  count-mapped-if f (None ∷ xs) zero = refl
+  count-mapped-if f (Some x ∷ xs) zero = refl
+  count-mapped-if f (x ∷ xs) (suc p) = count-mapped-if f xs p
+
+  set-past : (xs : List (Option R)) (p : ℕ) (o : Option R) → length xs ≤ p → set xs p o ≡ xs
+  set-past [] p o h = refl
+  set-past (x ∷ xs) zero o h = absurd (omega arith)
+  set-past (x ∷ xs) (suc p) o h = ap (λ (ys : List (Option R)). x ∷ ys) (set-past xs p o (omega arith))
+
+  pub count-kept : (xs : List (Option R)) (p : ℕ) (f : R → R)
+      → length (filter is_some (set xs p (option_map f (get_or xs p None)))) ≡ length (filter is_some xs)
+  count-kept xs p f = elim (cases_lt p (length xs)) [
+    | inl within ↦
+        let o : Option R = option_map f (get_or xs p None) in
+        let e = count-set xs p o within in
+        let same : (let m : ℕ = cond (is_some o) 1 0 in m) ≡ cond (is_some (get_or xs p None)) 1 0 = ap (λ (b : Bool). let m : ℕ = cond b 1 0 in m) (count-mapped-if f xs p) in
+        omega (arith, e, same)
+    | inr past ↦ ap (λ (ys : List (Option R)). length (filter is_some ys)) (set-past xs p (option_map f (get_or xs p None)) past)
+  ]
+
+  pub count-pushed : (xs : List (Option R)) (row : R) → length (filter is_some (xs ++ Some row ∷ [])) ≡ length (filter is_some xs) + 1
+  count-pushed [] row = refl
+  count-pushed (None ∷ xs) row = count-pushed xs row
+  count-pushed (Some x ∷ xs) row = omega (arith, count-pushed xs row)
+
+  some-is : (o : Option R) → IsSome o → (row : R) × (o ≡ Some row)
+  some-is None h = absurd (false≢true h)
+  some-is (Some row) h = (row, refl)
+
+  -- the last one apart
+  pub count-last : (xs : List (Option R)) (m : ℕ) → length xs ≡ m + 1 → IsSome (get_or xs m None)
+      → length (filter is_some xs) ≡ length (filter is_some (take m xs)) + 1
+  count-last xs m is h =
+      let row = some-is (get_or xs m None) h in
+      let whole : xs ≡ take m xs ++ Some row.0 ∷ [] =
+      sym (take_all (m + 1) xs (omega arith)) ∙ take_more xs m None (omega arith) ∙ ap (λ (o : Option R). take m xs ++ o ∷ []) row.1 in
+      ap (λ (ys : List (Option R)). length (filter is_some ys)) whole ∙ count-pushed (take m xs) row.0
 
   -- stocks are the same whose parts are
   pub same-stock : (xs ys : List (Option R)) (a b m n : ℕ) → xs ≡ ys → a ≡ b → m ≡ n

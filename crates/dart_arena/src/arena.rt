@@ -1,11 +1,16 @@
-ghost use Rattle.std.specs.Prelude.{◌≡◌, ℕ, ◌+◌, ◌*◌, ◌^◌, ◌≤◌, ◌<◌, ◌↔◌, ◌++◌, [], ◌∷◌, None, length, replicate, take, drop, reverse, map, option_map, slice_index_or, false, vec_len, vec_capacity, IsTrue, IfSome, IfNone, IsOk, OnOk, OnErr, IsErrOf};
+ghost use Rattle.std.specs.Prelude.{◌≡◌, ℕ, ◌+◌, ◌^◌, ◌≤◌, ◌<◌, ◌↔◌, [], ◌∷◌, None, reverse, map, option_map, IsTrue, IfSome, IfNone, IsOk, OnOk, OnErr, IsErrOf};
 ghost use Rattle.map_defs.specs.Rows.{links_of};
 ghost use Rattle.map_defs.specs.Edits.{free_row, with_entry};
 ghost use Rattle.dart_arena.specs.Stock.{made, row_at, IsLive, live_count, IsStock, born, unborn, buried, revived, IsNextLive};
-ghost use Rattle.dart_arena.specs.Table.{zeroed, rows_reversed};
 
+use crate::places::Places;
+use crate::row::Row;
+use crate::slots::{
+    entry_in, fill_rows, give_row, remove_dead, set_in_row, take_row, turn_row, widen,
+};
 use map_kind::Dart;
-use std::alloc::Global;
+use slab::Slab;
+use std::alloc::{AllocError, Global};
 use std::marker::Model;
 use thiserror::Error;
 
@@ -14,6 +19,9 @@ pub const MADE_MAX: u32 = 4_194_304;
 
 /// The greatest dimension of a map.
 pub const DIM_MAX: usize = 8;
+
+/// Keys of rows are kept once more darts are dead than this, and than live.
+const DEAD_MIN: usize = 4_096;
 
 /// Why no room is made.
 #[derive(Clone, Copy, Debug, PartialEq, Eq, Error)]
@@ -29,40 +37,39 @@ pub enum ReserveFault {
 /// A row for each live dart of a map of dimension `DIM`, under the dart's number: its entries 0 to `DIM`, each a number,
 /// 0 where nothing stands. A dart dies when its row is taken away, and its number is not given again; only the last
 /// birth can be taken back with its number.
-///
-/// A dart takes 4 bytes for each entry and one more.
 #[derive(Drop)]
 pub struct Arena<const DIM: usize> {
-    // Entry i of dart d is at place (d - 1) * (DIM + 1) + i. All entries of a dart that is not live are 0.
-    entries: Vec<u32>,
-    // Whether dart d is live stands at place d - 1.
-    live: Vec<bool>,
+    rows: Slab<Row<DIM>>,
+    places: Places,
     // How many darts are live.
     count: usize,
-    // So many births need no further memory.
+    // So many new numbers can be given without memory.
     spare: usize,
+    // So many more rows can live without memory.
+    room: usize,
 }
 
 impl<const DIM: usize> Model for Arena<DIM> {
-    ghost use Rattle.std.specs.Prelude.{ℕ, ◌≤◌, ◌+◌, ◌-◌, ◌*◌, List, ◌∷◌, None, length, vec_len, vec_capacity};
+    ghost use Rattle.std.specs.Prelude.{ℕ, ◌≤◌, ◌+◌, List, ◌∷◌, None, length};
     ghost use Rattle.std.specs.Coded.{coded_ℕ, coded_list};
     ghost use Rattle.dart_arena.specs.Stock.{Stock, stock_code};
-    ghost use Rattle.dart_arena.specs.Table.{rows_of, IsTable};
+    ghost use Rattle.map_defs.specs.Rows.{made_max};
+    ghost use Rattle.dart_arena.specs.Layout.{keys_of, places_capacity, rows_under, IsArranged, is_in_order};
 
     ghost Value = { Stock (List ℕ) };
 
     ghost coded = { stock_code (coded_list coded_ℕ) };
 
     ghost view = { λ arena. record {
-      rows = None ∷ rows_of (DIM + 1) arena.entries.items arena.live.items;
+      rows = None ∷ rows_under arena.rows (keys_of arena.places);
       spare = arena.spare;
-      room = arena.spare + (vec_len arena.live - arena.count);
+      room = arena.room;
     } };
 
     ghost invariant = { λ arena.
-        (DIM ≤ 8) × IsTable (DIM + 1) arena.entries.items arena.live.items arena.count
-        × (vec_len arena.live + arena.spare ≤ vec_capacity arena.live)
-        × (vec_len arena.entries + arena.spare * (DIM + 1) ≤ vec_capacity arena.entries) };
+        (DIM ≤ 8) × IsArranged (is_in_order arena.places) DIM arena.rows (keys_of arena.places) arena.count arena.spare arena.room
+        × (length (keys_of arena.places) + arena.spare ≤ places_capacity arena.places)
+        × (length (keys_of arena.places) + arena.spare ≤ made_max) };
 }
 
 impl<const DIM: usize> Arena<DIM> {
@@ -74,10 +81,11 @@ impl<const DIM: usize> Arena<DIM> {
         ensures room { result.room ≡ 0 }
     {
         Arena {
-            entries: Vec::new(alloc),
-            live: Vec::new(alloc),
+            rows: Slab::new(alloc),
+            places: Places::new(alloc),
             count: 0,
             spare: 0,
+            room: 0,
         }
     }
 
@@ -86,13 +94,12 @@ impl<const DIM: usize> Arena<DIM> {
         ensures made { result ≡ made self.now }
         ensures kept { IsStock MADE_MAX self.now }
     {
-        self.live.len() as u32
+        self.places.made() as u32
     }
 
-    /// How many darts are live. Those that ended can all live again without further memory.
+    /// How many darts are live.
     pub fn live_count(&self) -> u32
         ensures count { result ≡ live_count self.now }
-        ensures room { made self.now ≤ result + self.now.room }
     {
         self.count as u32
     }
@@ -101,7 +108,7 @@ impl<const DIM: usize> Arena<DIM> {
     pub fn is_live(&self, dart: Dart) -> bool
         ensures { IsTrue result ↔ IsLive self.now dart }
     {
-        flag_at(&self.live, place(dart))
+        self.places.key(place(dart)) != 0
     }
 
     /// The entry at a link of a dart, 0 also where the dart is not live.
@@ -109,9 +116,7 @@ impl<const DIM: usize> Arena<DIM> {
         requires { link ≤ DIM }
         ensures { result ≡ links_of self.now.rows link dart }
     {
-        let entries = &self.entries;
-        let at = entries_of::<DIM>(place(dart)) + link;
-        entry_at(entries, at)
+        entry_in(&self.rows, self.places.key_to_read(place(dart)), link)
     }
 
     /// The least live dart above a number; none exactly where no dart above it is live. It costs the darts that it
@@ -120,8 +125,8 @@ impl<const DIM: usize> Arena<DIM> {
         ensures next { IfSome result (λ dart. IsNextLive self.now after dart) }
         ensures none { IfNone result ((e : ℕ) → after < e → IsLive self.now e → ⊥) }
     {
-        for place in after as usize..self.live.len() {
-            if self.live[place] {
+        for place in after as usize..self.places.made() {
+            if self.places.key(place) != 0 {
                 return Dart::new(place as u32 + 1);
             }
         }
@@ -148,31 +153,75 @@ impl<const DIM: usize> Arena<DIM> {
             return Err(ReserveFault::Full);
         }
         let births = births as usize;
-        if births <= self.spare {
+        if births <= self.spare && births <= self.room {
             return Ok(());
         }
-        if self.live.reserve(births).is_err() {
+        if self.keep_keys().is_err() {
             return Err(ReserveFault::NoMemory);
         }
-        if self.entries.reserve(entries_of::<DIM>(births)).is_err() {
-            return Err(ReserveFault::NoMemory);
+        match self.grow(births) {
+            Ok(()) => Ok(()),
+            Err(_) => Err(ReserveFault::NoMemory),
         }
-        self.spare = births;
+    }
+
+    /// Keeps the keys of rows from now on where that pays, so that the rows of dead darts are used again; but not where a key
+    /// might not fit into 32 bits. An error leaves the arena as it was.
+    fn keep_keys(&mut self) -> Result<(), AllocError>
+        ensures { self.new ≡ self.old }
+    {
+        let dead = self.places.made() - self.count;
+        let narrow = self.rows.capacity() <= u32::MAX as usize;
+        if narrow && pays(dead, self.count) && self.places.is_in_order() {
+            self.places.keep_keys(self.spare)?;
+            remove_dead(&mut self.rows, &self.places);
+        }
+        Ok(())
+    }
+
+    /// Makes room for so many births, and for so many more live darts. An error leaves the arena as it was.
+    fn grow(&mut self, births: usize) -> Result<(), AllocError>
+        requires { made self.old + births ≤ MADE_MAX }
+        ensures rows { self.new.rows ≡ self.old.rows }
+        ensures spare { OnOk result (births ≤ self.new.spare) }
+        ensures room { OnOk result (births ≤ self.new.room) }
+        ensures spare_stays { self.old.spare ≤ self.new.spare }
+        ensures room_stays { self.old.room ≤ self.new.room }
+        ensures err { OnErr result (self.new ≡ self.old) }
+    {
+        let spare = births.max(self.spare);
+        if !self.places.is_in_order() {
+            let room = births.max(self.room);
+            widen(&mut self.rows, &mut self.places, spare, room)?;
+            self.spare = spare;
+            self.room = room;
+            return Ok(());
+        }
+        self.places.reserve(spare)?;
+        fill_rows(&mut self.rows, self.places.made() + spare)?;
+        self.room += spare - self.spare;
+        self.spare = spare;
         Ok(())
     }
 
     /// Makes a dart whose entries are all 0. Its number is one more than that of the dart made before it.
     pub fn birth(&mut self) -> Dart
         requires spare { 1 ≤ self.old.spare }
+        requires room { 1 ≤ self.old.room }
         requires few { made self.old < MADE_MAX }
         ensures dart { result ≡ made self.old + 1 }
         ensures born { self.new ≡ born self.old (free_row DIM) }
     {
-        push_zeros(&mut self.entries, DIM + 1);
-        self.live.push_reserved(true);
+        let key = take_row(
+            &mut self.rows,
+            self.places.is_in_order(),
+            self.places.made(),
+        );
+        self.places.push(key);
         self.count += 1;
         self.spare -= 1;
-        Dart::new(self.live.len() as u32).unwrap()
+        self.room -= 1;
+        Dart::new(self.places.made() as u32).unwrap()
     }
 
     /// Takes the last birth back: the number of dart `made`, which must live, can be given again.
@@ -180,11 +229,12 @@ impl<const DIM: usize> Arena<DIM> {
         requires { IsLive self.old (made self.old) }
         ensures { self.new ≡ unborn self.old }
     {
-        let made = self.live.len() - 1;
-        self.live.truncate(made);
-        self.entries.truncate(entries_of::<DIM>(made));
+        let key = self.places.key(self.places.made() - 1);
+        give_row(&mut self.rows, self.places.is_in_order(), key);
+        self.places.pop();
         self.count -= 1;
         self.spare += 1;
+        self.room += 1;
     }
 
     /// Ends a live dart. Its number is not given again.
@@ -193,19 +243,25 @@ impl<const DIM: usize> Arena<DIM> {
         ensures { self.new ≡ buried self.old dart }
     {
         let place = place(dart);
-        self.live[place] = false;
-        put_zeros(&mut self.entries, entries_of::<DIM>(place), DIM + 1);
+        let key = self.places.key(place);
+        give_row(&mut self.rows, self.places.is_in_order(), key);
+        self.places.clear(place);
         self.count -= 1;
+        self.room += 1;
     }
 
     /// Brings a dart that was made and is not live back. Its entries are all 0.
     pub fn revive(&mut self, dart: Dart)
         requires made { dart ≤ made self.old }
         requires dead { row_at self.old dart ≡ None }
+        requires room { 1 ≤ self.old.room }
         ensures { self.new ≡ revived self.old dart (free_row DIM) }
     {
-        self.live[place(dart)] = true;
+        let place = place(dart);
+        let key = take_row(&mut self.rows, self.places.is_in_order(), place);
+        self.places.fill(place, key);
         self.count += 1;
+        self.room -= 1;
     }
 
     /// Puts an entry at a link of a dart, if the dart is live: one that is not has no row.
@@ -215,10 +271,8 @@ impl<const DIM: usize> Arena<DIM> {
         ensures spare { self.new.spare ≡ self.old.spare }
         ensures room { self.new.room ≡ self.old.room }
     {
-        if self.is_live(dart) {
-            let at = entries_of::<DIM>(place(dart)) + link;
-            self.entries[at] = to;
-        }
+        let key = self.places.key(place(dart));
+        set_in_row(&mut self.rows, key, link, to);
     }
 
     /// Turns each row round: entry i of each live dart becomes its entry `DIM` - i. It takes no memory, and costs a few
@@ -228,11 +282,21 @@ impl<const DIM: usize> Arena<DIM> {
         ensures spare { self.new.spare ≡ self.old.spare }
         ensures room { self.new.room ≡ self.old.room }
     {
-        reverse_all::<DIM>(&mut self.entries, self.live.len());
+        for place in 0..self.places.made() {
+            let key = self.places.key(place);
+            turn_row(&mut self.rows, key);
+        }
+    }
+
+    /// For how many rows the arena holds memory, those of live darts among them.
+    pub fn row_capacity(&self) -> usize
+        ensures { live_count self.now + self.now.room ≤ result }
+    {
+        self.rows.capacity()
     }
 }
 
-/// Where it stands whether a dart is live.
+/// The place of a dart.
 fn place(dart: Dart) -> usize
     ensures place { result + 1 ≡ dart }
     ensures within { result < 2 ^ 32 }
@@ -240,68 +304,9 @@ fn place(dart: Dart) -> usize
     dart.number() as usize - 1
 }
 
-/// How many entries so many darts have.
-fn entries_of<const DIM: usize>(darts: usize) -> usize
-    requires dimension { DIM ≤ DIM_MAX }
-    requires darts { darts < 2 ^ 32 }
-    ensures entries { result ≡ darts * (DIM + 1) }
-    ensures within { result < 2 ^ 36 }
+/// Whether it pays to keep the keys of rows, so that those of dead darts are used again.
+fn pays(dead: usize, live: usize) -> bool
+    ensures { IsTrue result ↔ (DEAD_MIN < dead) × (live < dead) }
 {
-    darts * (DIM + 1)
-}
-
-/// Whether a flag stands at a place; past the end none does.
-fn flag_at(flags: &[bool], at: usize) -> bool
-    ensures { result ≡ slice_index_or flags.now at false }
-{
-    if at < flags.len() { flags[at] } else { false }
-}
-
-/// The entry at a place, 0 past the end.
-fn entry_at(entries: &[u32], at: usize) -> u32
-    ensures { result ≡ slice_index_or entries.now at 0 }
-{
-    if at < entries.len() { entries[at] } else { 0 }
-}
-
-/// Appends so many zeros. It takes no memory: room for them was reserved.
-fn push_zeros(entries: &mut Vec<u32>, count: usize)
-    requires { vec_len entries.old + count ≤ vec_capacity entries.old }
-    ensures items { entries.new.items ≡ entries.old.items ++ replicate count 0 }
-    ensures capacity { vec_capacity entries.new ≡ vec_capacity entries.old }
-{
-    for _pushed in 0..count {
-        entries.push_reserved(0);
-    }
-}
-
-/// Puts so many zeros from a place on.
-fn put_zeros(entries: &mut Vec<u32>, from: usize, count: usize)
-    requires { from + count ≤ length entries.old.items }
-    ensures items { entries.new.items ≡ zeroed entries.old.items from count }
-    ensures capacity { vec_capacity entries.new ≡ vec_capacity entries.old }
-{
-    for offset in 0..count {
-        entries[from + offset] = 0;
-    }
-}
-
-/// Turns the first rows round, so many of them, each by itself.
-fn reverse_all<const DIM: usize>(entries: &mut [u32], rows: usize)
-    requires { length entries.old ≡ rows * (DIM + 1) }
-    ensures { entries.new ≡ rows_reversed (DIM + 1) rows entries.old }
-{
-    for row in 0..rows {
-        reverse_row::<DIM>(entries, row * (DIM + 1));
-    }
-}
-
-/// Turns the row round whose entries stand from a place on.
-fn reverse_row<const DIM: usize>(entries: &mut [u32], from: usize)
-    requires { from + (DIM + 1) ≤ length entries.old }
-    ensures { entries.new ≡ take from entries.old ++ reverse (take (DIM + 1) (drop from entries.old)) ++ drop (from + (DIM + 1)) entries.old }
-{
-    let (_, rest) = entries.split_at_mut(from);
-    let (row, _) = rest.split_at_mut(DIM + 1);
-    row.reverse();
+    dead > DEAD_MIN && dead > live
 }

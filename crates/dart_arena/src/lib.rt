@@ -3,6 +3,10 @@
 #![tactic(auto)]
 
 mod arena;
+mod gather;
+mod places;
+mod row;
+mod slots;
 #[cfg(test)]
 mod tests;
 

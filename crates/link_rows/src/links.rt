@@ -80,10 +80,9 @@ impl<K: Kind, const DIM: usize> Links<K, DIM> {
         self.rows.made()
     }
 
-    /// How many darts are live. Those that ended can all live again without further memory.
+    /// How many darts are live.
     pub fn live_count(&self) -> u32
         ensures count { result ≡ live_count self.now.rows }
-        ensures room { made self.now.rows ≤ result + self.now.room }
     {
         self.rows.live_count()
     }

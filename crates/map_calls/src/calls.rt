@@ -1,7 +1,7 @@
 //! What no clause says: that calls are obeyed where memory is there. Each test is a table of lines and their answers.
-ghost use Rattle.std.specs.Prelude.{◌≡◌, map, IfOk};
+ghost use Rattle.std.specs.Prelude.{◌≡◌, ◌≤◌, map, IfOk};
 
-use crate::lines::{Line, obey};
+use crate::lines::{Line, Wanted, check_lines};
 use attr_rules::FirstCopy;
 use cell_walk::cell_lists;
 use link_rows::{Links, polygon_edit};
@@ -11,29 +11,148 @@ use std::alloc::{AllocError, Global};
 use std::process::Abort;
 use std::test::Fail;
 
-/// The answer of a line that makes no dart.
-const DONE: Result<Done, Refused> = Ok(Done { first: 0, count: 0 });
+/// Darts, polygons, sewing and unsewing.
+#[rattlefmt::skip]
+const DARTS: [(Line, Wanted); 10] = [
+    (Line::Polygon { sides: 3 }, Wanted::Made { first: 1, count: 6 }),
+    (Line::Polygon { sides: 3 }, Wanted::Made { first: 7, count: 6 }),
+    (Line::Dart, Wanted::Made { first: 13, count: 1 }),
+    (Line::Del { dart: 1 }, Wanted::No(Refusal::Linked)),
+    (Line::Del { dart: 13 }, Wanted::Done),
+    (Line::Sew { link: 2, dart: 1, other: 8 }, Wanted::Done),
+    (Line::Sew { link: 2, dart: 1, other: 8 }, Wanted::No(Refusal::NotFree)),
+    (Line::Unsew { link: 2, dart: 7 }, Wanted::Done),
+    (Line::Unsew { link: 2, dart: 1 }, Wanted::No(Refusal::AlreadyFree)),
+    (Line::Sew { link: 3, dart: 1, other: 8 }, Wanted::No(Refusal::BadDim)),
+];
 
-/// The answer of a line that makes darts.
-fn made(first: u32, count: u32) -> Result<Done, Refused> {
-    Ok(Done { first, count })
-}
+/// A square that is folded.
+#[rattlefmt::skip]
+const FOLDED: [(Line, Wanted); 2] = [
+    (Line::Polygon { sides: 4 }, Wanted::Made { first: 1, count: 8 }),
+    (Line::Sew { link: 3, dart: 1, other: 2 }, Wanted::Done),
+];
 
-/// The answer of a line that is refused.
-fn no(refusal: Refusal) -> Result<Done, Refused> {
-    Err(Refused::Line(refusal))
-}
+/// A vertex and an edge in the folded square; the vertex is removed, and an edge contracted.
+#[rattlefmt::skip]
+const CELLS: [(Line, Wanted); 10] = [
+    (Line::Vertex { dart: 9 }, Wanted::No(Refusal::NoDart)),
+    (Line::Edge { dart: 1, other: 4 }, Wanted::Made { first: 9, count: 8 }),
+    (Line::Edge { dart: 1, other: 1 }, Wanted::No(Refusal::SameCorner)),
+    (Line::Face { dart: 1, other: 3 }, Wanted::No(Refusal::NotClosed)),
+    (Line::Vertex { dart: 1 }, Wanted::Made { first: 17, count: 2 }),
+    (Line::Remove { dim: 0, dart: 17 }, Wanted::Done),
+    (Line::Remove { dim: 0, dart: 17 }, Wanted::No(Refusal::NoDart)),
+    (Line::Contract { dim: 0, dart: 1 }, Wanted::No(Refusal::NotContractible)),
+    (Line::Contract { dim: 1, dart: 1 }, Wanted::Done),
+    (Line::Dual, Wanted::No(Refusal::Boundary)),
+];
 
-/// Obeys lines one after another, and compares their answers.
-fn check_lines<const DIM: usize>(
+/// Two triangles that are one sphere, and their dual; a face that is removed is taken back.
+#[rattlefmt::skip]
+const SPHERE: [(Line, Wanted); 12] = [
+    (Line::Polygon { sides: 3 }, Wanted::Made { first: 1, count: 6 }),
+    (Line::Polygon { sides: 3 }, Wanted::Made { first: 7, count: 6 }),
+    (Line::Sew { link: 2, dart: 1, other: 7 }, Wanted::Done),
+    (Line::Sew { link: 2, dart: 3, other: 9 }, Wanted::Done),
+    (Line::Sew { link: 2, dart: 5, other: 11 }, Wanted::Done),
+    (Line::Mark { name: "begin" }, Wanted::Done),
+    (Line::Dual, Wanted::Done),
+    (Line::Mark { name: "begin" }, Wanted::No(Refusal::MarkTaken)),
+    (Line::Remove { dim: 2, dart: 1 }, Wanted::Done),
+    (Line::Undo { name: "end" }, Wanted::No(Refusal::NoMark)),
+    (Line::Undo { name: "begin" }, Wanted::Done),
+    (Line::Dual, Wanted::Done),
+];
+
+/// Two marks are set, and the first is gone back to.
+#[rattlefmt::skip]
+const MARKS: [(Line, Wanted); 4] = [
+    (Line::Mark { name: "begin" }, Wanted::Done),
+    (Line::Dart, Wanted::Made { first: 1, count: 1 }),
+    (Line::Mark { name: "end" }, Wanted::Done),
+    (Line::Undo { name: "begin" }, Wanted::Done),
+];
+
+/// A triangle.
+#[rattlefmt::skip]
+const TRIANGLE: [(Line, Wanted); 1] = [
+    (Line::Polygon { sides: 3 }, Wanted::Made { first: 1, count: 6 }),
+];
+
+/// Values are set, replaced and cleared.
+#[rattlefmt::skip]
+const VALUES: [(Line, Wanted); 9] = [
+    (Line::Polygon { sides: 3 }, Wanted::Made { first: 1, count: 6 }),
+    (Line::Set { dim: 0, dart: 1, value: FIVE }, Wanted::No(Refusal::NoRule)),
+    (Line::Rule { dim: 0, merge: "last", split: "host" }, Wanted::No(Refusal::NoRule)),
+    (Line::Rule { dim: 3, merge: "last", split: "copy" }, Wanted::No(Refusal::BadDim)),
+    (Line::Rule { dim: 0, merge: "last", split: "copy" }, Wanted::Done),
+    (Line::Set { dim: 0, dart: 2, value: FIVE }, Wanted::Done),
+    (Line::Set { dim: 0, dart: 3, value: SEVEN }, Wanted::Done),
+    (Line::Set { dim: 0, dart: 4, value: TWO }, Wanted::Done),
+    (Line::Clear { dim: 0, dart: 5 }, Wanted::Done),
+];
+
+/// Two triangles with values, that are sewn: the values of the joined cells are merged.
+#[rattlefmt::skip]
+const MERGED: [(Line, Wanted); 9] = [
+    (Line::Polygon { sides: 3 }, Wanted::Made { first: 1, count: 6 }),
+    (Line::Polygon { sides: 3 }, Wanted::Made { first: 7, count: 6 }),
+    (Line::Rule { dim: 0, merge: "last", split: "copy" }, Wanted::Done),
+    (Line::Rule { dim: 1, merge: "sum", split: "share" }, Wanted::Done),
+    (Line::Set { dim: 0, dart: 1, value: FIVE }, Wanted::Done),
+    (Line::Set { dim: 0, dart: 8, value: TWO }, Wanted::Done),
+    (Line::Set { dim: 1, dart: 1, value: FIVE }, Wanted::Done),
+    (Line::Set { dim: 1, dart: 8, value: TWO }, Wanted::Done),
+    (Line::Sew { link: 2, dart: 1, other: 8 }, Wanted::Done),
+];
+
+/// The values of darts then, by dimension.
+#[rattlefmt::skip]
+const MERGED_VALUES: [(u64, u64, Option<Value>); 3] = [
+    (0, 6, Some(TWO)),
+    (1, 7, Some(SEVEN)),
+    (2, 7, None),
+];
+
+/// The triangles are unsewn: the values of cells that part go to the pieces.
+#[rattlefmt::skip]
+const SPLIT: [(Line, Wanted); 1] = [
+    (Line::Unsew { link: 2, dart: 1 }, Wanted::Done),
+];
+
+/// The values of darts then, by dimension.
+#[rattlefmt::skip]
+const SPLIT_VALUES: [(u64, u64, Option<Value>); 4] = [
+    (0, 1, Some(TWO)),
+    (0, 9, Some(TWO)),
+    (1, 2, Some(FOUR)),
+    (1, 7, Some(THREE)),
+];
+
+const TWO: Value = Value { a: 2, b: 2, c: 2 };
+
+const THREE: Value = Value { a: 3, b: 3, c: 3 };
+
+const FOUR: Value = Value { a: 4, b: 4, c: 4 };
+
+const FIVE: Value = Value { a: 5, b: 5, c: 5 };
+
+const SEVEN: Value = Value { a: 7, b: 7, c: 7 };
+
+/// The map after lines, whose answers are compared.
+fn map_after<const DIM: usize>(
     rt: &impl Abort,
     alloc: Global,
-    map: &mut Map<'_, Alpha, FirstCopy, DIM>,
-    rows: &[(Line, Result<Done, Refused>)],
-) {
-    for (line, wanted) in rows {
-        assert_eq!(rt; obey(alloc, map, line), *wanted, "{line:?}");
-    }
+    rows: &[(Line, Wanted)],
+) -> Map<'static, Alpha, FirstCopy, DIM>
+    requires low { 2 ≤ DIM }
+    requires high { DIM ≤ 8 }
+{
+    let mut map = Map::<'_, Alpha, FirstCopy, DIM>::new(alloc, &FirstCopy);
+    check_lines(rt, alloc, &mut map, rows);
+    map
 }
 
 /// Compares the counts of a map.
@@ -48,190 +167,45 @@ fn check_counts<const DIM: usize>(
     Ok(())
 }
 
-/// Darts, polygons, sewing and unsewing.
 #[test]
 fn makes_and_sews_darts(rt: HostRuntime) -> Result<(), Fail> {
-    let alloc = rt.alloc();
-    let mut map = Map::<'_, Alpha, FirstCopy, 2>::new(alloc, &FirstCopy);
-    let (link, dart, other) = (2, 1, 8);
-    check_lines(
-        &rt,
-        alloc,
-        &mut map,
-        &[
-            (Line::Polygon { sides: 3 }, made(1, 6)),
-            (Line::Polygon { sides: 3 }, made(7, 6)),
-            (Line::Dart, made(13, 1)),
-            (Line::Del { dart: 1 }, no(Refusal::Linked)),
-            (Line::Del { dart: 13 }, DONE),
-            (Line::Sew { link, dart, other }, DONE),
-            (Line::Sew { link, dart, other }, no(Refusal::NotFree)),
-            (Line::Unsew { link, dart: 7 }, DONE),
-            (Line::Unsew { link, dart }, no(Refusal::AlreadyFree)),
-            (
-                Line::Sew {
-                    link: 3,
-                    dart,
-                    other,
-                },
-                no(Refusal::BadDim),
-            ),
-        ],
-    );
-    check_counts(&rt, alloc, &map, &[12, 6, 6, 2, 2])?;
-    Ok(())
+    let map = map_after::<2>(&rt, rt.alloc(), &DARTS);
+    Ok(check_counts(&rt, rt.alloc(), &map, &[12, 6, 6, 2, 2])?)
 }
 
-/// A vertex and an edge in a square that is folded; the vertex is removed, and an edge contracted.
 #[test]
-fn inserts_and_removes_cells(rt: HostRuntime) -> Result<(), Fail> {
-    let alloc = rt.alloc();
-    let mut map = Map::<'_, Alpha, FirstCopy, 3>::new(alloc, &FirstCopy);
-    let (dart, other) = (1, 4);
-    check_lines(
-        &rt,
-        alloc,
-        &mut map,
-        &[
-            (Line::Polygon { sides: 4 }, made(1, 8)),
-            (
-                Line::Sew {
-                    link: 3,
-                    dart,
-                    other: 2,
-                },
-                DONE,
-            ),
-            (Line::Vertex { dart: 9 }, no(Refusal::NoDart)),
-            (Line::Edge { dart, other }, made(9, 8)),
-            (Line::Edge { dart, other: dart }, no(Refusal::SameCorner)),
-            (Line::Face { dart, other: 3 }, no(Refusal::NotClosed)),
-            (Line::Vertex { dart }, made(17, 2)),
-            (Line::Remove { dim: 0, dart: 17 }, DONE),
-            (Line::Remove { dim: 0, dart: 17 }, no(Refusal::NoDart)),
-            (
-                Line::Contract { dim: 0, dart },
-                no(Refusal::NotContractible),
-            ),
-            (Line::Contract { dim: 1, dart }, DONE),
-            (Line::Dual, no(Refusal::Boundary)),
-        ],
-    );
-    Ok(())
+fn inserts_and_removes_cells(rt: HostRuntime) {
+    let mut map = map_after::<3>(&rt, rt.alloc(), &FOLDED);
+    check_lines(&rt, rt.alloc(), &mut map, &CELLS);
 }
 
-/// A face along a square that is folded.
 #[test]
-fn inserts_a_face(rt: HostRuntime) -> Result<(), Fail> {
-    let alloc = rt.alloc();
-    let mut map = Map::<'_, Alpha, FirstCopy, 3>::new(alloc, &FirstCopy);
-    check_lines(
-        &rt,
-        alloc,
-        &mut map,
-        &[
-            (Line::Polygon { sides: 4 }, made(1, 8)),
-            (
-                Line::Sew {
-                    link: 3,
-                    dart: 1,
-                    other: 2,
-                },
-                DONE,
-            ),
-        ],
-    );
-    assert_eq!(&rt; map.face(alloc, &[1, 3, 5, 7]), made(9, 8));
-    Ok(())
+fn inserts_a_face(rt: HostRuntime) {
+    let mut map = map_after::<3>(&rt, rt.alloc(), &FOLDED);
+    let made = map.face(rt.alloc(), &[1, 3, 5, 7]);
+    assert_eq!(&rt; made, Ok(Done { first: 9, count: 8 }));
 }
 
-/// Two triangles that are one sphere, and their dual; a face that is removed is taken back.
 #[test]
 fn turns_a_map_and_goes_back(rt: HostRuntime) -> Result<(), Fail> {
-    let alloc = rt.alloc();
-    let mut map = Map::<'_, Alpha, FirstCopy, 2>::new(alloc, &FirstCopy);
-    let name = "begin";
-    check_lines(
-        &rt,
-        alloc,
-        &mut map,
-        &[
-            (Line::Polygon { sides: 3 }, made(1, 6)),
-            (Line::Polygon { sides: 3 }, made(7, 6)),
-            (
-                Line::Sew {
-                    link: 2,
-                    dart: 1,
-                    other: 7,
-                },
-                DONE,
-            ),
-            (
-                Line::Sew {
-                    link: 2,
-                    dart: 3,
-                    other: 9,
-                },
-                DONE,
-            ),
-            (
-                Line::Sew {
-                    link: 2,
-                    dart: 5,
-                    other: 11,
-                },
-                DONE,
-            ),
-            (Line::Mark { name }, DONE),
-            (Line::Dual, DONE),
-            (Line::Mark { name }, no(Refusal::MarkTaken)),
-            (Line::Remove { dim: 2, dart: 1 }, DONE),
-            (Line::Undo { name: "end" }, no(Refusal::NoMark)),
-            (Line::Undo { name }, DONE),
-            (Line::Dual, DONE),
-        ],
-    );
-    check_counts(&rt, alloc, &map, &[12, 2, 3, 3, 1])?;
-    Ok(())
+    let map = map_after::<2>(&rt, rt.alloc(), &SPHERE);
+    Ok(check_counts(&rt, rt.alloc(), &map, &[12, 2, 3, 3, 1])?)
 }
 
-/// Two marks are set, and the first is gone back to.
 #[test]
-fn counts_standing_marks(rt: HostRuntime) -> Result<(), Fail> {
-    let alloc = rt.alloc();
-    let mut map = Map::<'_, Alpha, FirstCopy, 2>::new(alloc, &FirstCopy);
-    let name = "begin";
-    check_lines(
-        &rt,
-        alloc,
-        &mut map,
-        &[
-            (Line::Mark { name }, DONE),
-            (Line::Dart, made(1, 1)),
-            (Line::Mark { name: "end" }, DONE),
-            (Line::Undo { name }, DONE),
-        ],
-    );
+fn counts_standing_marks(rt: HostRuntime) {
+    let map = map_after::<2>(&rt, rt.alloc(), &MARKS);
     assert_eq!(&rt; map.mark_count(), 1);
-    Ok(())
 }
 
 #[test]
 fn a_polygon_in_dimension_eight(rt: HostRuntime) -> Result<(), Fail> {
-    let alloc = rt.alloc();
-    let mut map = Map::<'_, Alpha, FirstCopy, 8>::new(alloc, &FirstCopy);
-    check_lines(
-        &rt,
-        alloc,
-        &mut map,
-        &[(Line::Polygon { sides: 3 }, made(1, 6))],
-    );
-    check_counts(&rt, alloc, &map, &[6, 3, 3, 1, 1, 1, 1, 1, 1, 1, 1])?;
-    Ok(())
+    let map = map_after::<8>(&rt, rt.alloc(), &TRIANGLE);
+    Ok(check_counts(&rt, rt.alloc(), &map, &[6, 3, 3, 1, 1, 1, 1, 1, 1, 1, 1])?)
 }
 
-/// Asks a triangle, made of darts 1 to 6.
-fn check_questions(
+/// Asks a triangle, made of darts 1 to 6, of a cell.
+fn check_cell(
     rt: &impl Abort,
     alloc: Global,
     map: &Map<'_, Alpha, FirstCopy, 2>,
@@ -239,9 +213,26 @@ fn check_questions(
     assert_eq!(rt; map.cell(alloc, 2, 1)?.len(), 6);
     assert!(rt; map.same(alloc, 0, 2, 3)?);
     assert!(rt; map.free(2, 5) == Ok(true));
+    Ok(())
+}
+
+/// Asks the triangle what can be done to it.
+fn check_offers(
+    rt: &impl Abort,
+    alloc: Global,
+    map: &Map<'_, Alpha, FirstCopy, 2>,
+) -> Result<(), Refused> {
     assert!(rt; map.sewable(alloc, 2, 1, 3)?);
     assert!(rt; map.removable(alloc, 2, 1)?);
     assert!(rt; map.contractible(alloc, 1, 1)?);
+    Ok(())
+}
+
+#[test]
+fn answers_questions(rt: HostRuntime) -> Result<(), Fail> {
+    let map = map_after::<2>(&rt, rt.alloc(), &TRIANGLE);
+    check_cell(&rt, rt.alloc(), &map)?;
+    check_offers(&rt, rt.alloc(), &map)?;
     Ok(())
 }
 
@@ -261,128 +252,39 @@ fn check_listing(
     Ok(())
 }
 
-/// The cells and the rows of a triangle.
 #[test]
-fn answers_questions(rt: HostRuntime) -> Result<(), Fail> {
-    let alloc = rt.alloc();
-    let mut map = Map::<'_, Alpha, FirstCopy, 2>::new(alloc, &FirstCopy);
-    check_lines(
-        &rt,
-        alloc,
-        &mut map,
-        &[(Line::Polygon { sides: 3 }, made(1, 6))],
-    );
-    check_questions(&rt, alloc, &map)?;
-    check_listing(&rt, alloc, &map)?;
-    Ok(())
-}
-
-/// The value with three numbers alike.
-fn value(number: i64) -> Value {
-    Value {
-        a: number,
-        b: number,
-        c: number,
-    }
-}
-
-/// A line that gives a cell the value with three numbers alike.
-fn set(dim: u64, dart: u64, number: i64) -> Line {
-    Line::Set {
-        dim,
-        dart,
-        value: value(number),
-    }
-}
-
-/// A line that gives a dimension a rule.
-fn rule(dim: u64, merge: &'static str, split: &'static str) -> Line {
-    Line::Rule { dim, merge, split }
+fn lists_a_triangle(rt: HostRuntime) -> Result<(), Fail> {
+    let map = map_after::<2>(&rt, rt.alloc(), &TRIANGLE);
+    check_listing(&rt, rt.alloc(), &map)
 }
 
 /// Compares the value of each dimension and dart.
 fn check_values(
     rt: &impl Abort,
     map: &Map<'_, Alpha, FirstCopy, 2>,
-    rows: &[(u64, u64, Option<i64>)],
+    rows: &[(u64, u64, Option<Value>)],
 ) {
-    for (dim, dart, number) in rows {
-        assert_eq!(rt; map.value(*dim, *dart), Ok(number.map(value)), "{dart}");
+    for (dim, dart, value) in rows {
+        assert_eq!(rt; map.value(*dim, *dart), Ok(*value), "{dart}");
     }
 }
 
-/// Values are set, replaced and cleared.
 #[test]
-fn keeps_values_of_cells(rt: HostRuntime) -> Result<(), Fail> {
-    let alloc = rt.alloc();
-    let mut map = Map::<'_, Alpha, FirstCopy, 2>::new(alloc, &FirstCopy);
-    check_lines(
-        &rt,
-        alloc,
-        &mut map,
-        &[
-            (Line::Polygon { sides: 3 }, made(1, 6)),
-            (set(0, 1, 1), no(Refusal::NoRule)),
-            (rule(0, "last", "host"), no(Refusal::NoRule)),
-            (rule(3, "last", "copy"), no(Refusal::BadDim)),
-            (rule(0, "last", "copy"), DONE),
-            (set(0, 2, 5), DONE),
-            (set(0, 3, 7), DONE),
-            (set(0, 4, 6), DONE),
-            (Line::Clear { dim: 0, dart: 5 }, DONE),
-        ],
-    );
-    check_values(&rt, &map, &[(0, 2, Some(7)), (0, 4, None), (0, 1, None)]);
-    Ok(())
-}
-
-/// Triangles are sewn and unsewn: the values of the joined cells are merged, and those of cells that part go to the
-/// pieces.
-#[test]
-fn carries_values(rt: HostRuntime) -> Result<(), Fail> {
-    let alloc = rt.alloc();
-    let mut map = Map::<'_, Alpha, FirstCopy, 2>::new(alloc, &FirstCopy);
-    check_lines(
-        &rt,
-        alloc,
-        &mut map,
-        &[
-            (Line::Polygon { sides: 3 }, made(1, 6)),
-            (Line::Polygon { sides: 3 }, made(7, 6)),
-            (rule(0, "last", "copy"), DONE),
-            (rule(1, "sum", "share"), DONE),
-            (set(0, 1, 5), DONE),
-            (set(0, 8, 2), DONE),
-            (set(1, 1, 5), DONE),
-            (set(1, 8, 2), DONE),
-            (
-                Line::Sew {
-                    link: 2,
-                    dart: 1,
-                    other: 8,
-                },
-                DONE,
-            ),
-        ],
-    );
-    check_values(&rt, &map, &[(0, 6, Some(2)), (1, 7, Some(7)), (2, 7, None)]);
-    check_lines(
-        &rt,
-        alloc,
-        &mut map,
-        &[(Line::Unsew { link: 2, dart: 1 }, DONE)],
-    );
+fn keeps_values_of_cells(rt: HostRuntime) {
+    let map = map_after::<2>(&rt, rt.alloc(), &VALUES);
     check_values(
         &rt,
         &map,
-        &[
-            (0, 1, Some(2)),
-            (0, 9, Some(2)),
-            (1, 2, Some(4)),
-            (1, 7, Some(3)),
-        ],
+        &[(0, 2, Some(SEVEN)), (0, 4, None), (0, 1, None)],
     );
-    Ok(())
+}
+
+#[test]
+fn carries_values(rt: HostRuntime) {
+    let mut map = map_after::<2>(&rt, rt.alloc(), &MERGED);
+    check_values(&rt, &map, &MERGED_VALUES);
+    check_lines(&rt, rt.alloc(), &mut map, &SPLIT);
+    check_values(&rt, &map, &SPLIT_VALUES);
 }
 
 /// These darts, each with the same value.
@@ -401,7 +303,7 @@ fn places_at(alloc: Global, darts: &[Dart], value: Value) -> Result<Vec<Place>, 
 fn loads_a_map(rt: HostRuntime) -> Result<(), Fail> {
     let alloc = rt.alloc();
     let hook = FirstCopy;
-    let point = value(5);
+    let point = FIVE;
     let mut links = Links::<Alpha, 2>::new(alloc);
     assert!(&rt; links.reserve(6).is_ok());
     let triangle = polygon_edit(alloc, &links, 3)?;

@@ -7,4 +7,6 @@ mod calls;
 #[cfg(test)]
 mod lines;
 #[cfg(test)]
+mod rows;
+#[cfg(test)]
 mod whole_map;

@@ -1,11 +1,12 @@
-//! Lines as data, each obeyed by its call of the map.
+//! Lines and their answers as data. Each line is obeyed by its call of the map.
 use attr_rules::FirstCopy;
 use map_core::{Done, Edits, Map};
-use map_kind::{Refused, Value};
+use map_kind::{Refusal, Refused, Value};
 use std::alloc::Global;
+use std::process::Abort;
 
 /// A changing line, and what it names.
-#[derive(Clone, Copy, Debug)]
+#[derive(Clone, Copy)]
 pub enum Line {
     Polygon {
         sides: u64,
@@ -88,5 +89,34 @@ pub fn obey<K: Edits<DIM>, const DIM: usize>(
         Line::Clear { dim, dart } => map.clear(alloc, dim, dart),
         Line::Mark { name } => map.mark(name),
         Line::Undo { name } => map.undo(alloc, name),
+    }
+}
+
+/// The answer that is wanted of a line.
+#[derive(Clone, Copy)]
+pub enum Wanted {
+    Done,
+    Made { first: u32, count: u32 },
+    No(Refusal),
+}
+
+/// The answer, as a call of the map gives it.
+fn answer(wanted: Wanted) -> Result<Done, Refused> {
+    match wanted {
+        Wanted::Done => Ok(Done { first: 0, count: 0 }),
+        Wanted::Made { first, count } => Ok(Done { first, count }),
+        Wanted::No(refusal) => Err(Refused::Line(refusal)),
+    }
+}
+
+/// Obeys lines one after another, and compares their answers.
+pub fn check_lines<K: Edits<DIM>, const DIM: usize>(
+    rt: &impl Abort,
+    alloc: Global,
+    map: &mut Map<'_, K, FirstCopy, DIM>,
+    rows: &[(Line, Wanted)],
+) {
+    for (index, (line, wanted)) in rows.iter().enumerate() {
+        assert_eq!(rt; obey(alloc, map, line), answer(*wanted), "line {index}");
     }
 }

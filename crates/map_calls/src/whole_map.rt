@@ -11,14 +11,14 @@ use std::process::Abort;
 use std::test::Fail;
 
 /// A cell, by its dimension and its least dart.
-#[derive(Clone, Copy, Debug, PartialEq, Eq)]
+#[derive(Clone, Copy, PartialEq, Eq)]
 struct Cell {
     dim: u64,
     least: u64,
 }
 
 /// A cell of a live dart, and the cell's value.
-#[derive(Clone, Copy, Debug, PartialEq, Eq)]
+#[derive(Clone, Copy, PartialEq, Eq)]
 struct Standing {
     dart: u64,
     cell: Cell,
@@ -66,27 +66,53 @@ impl Random {
         let dart = self.below(darts.wrapping_add(2));
         let other = self.below(darts.wrapping_add(2));
         let value = self.value();
-        match self.below(24) {
-            0..=3 => Line::Set { dim, dart, value },
-            4 => Line::Clear { dim, dart },
-            5 => Line::Del { dart },
-            6..=9 => Line::Unsew { link: dim, dart },
-            10..=11 => Line::Sew {
-                link: dimension,
-                dart,
-                other,
-            },
-            12 => Line::Vertex { dart },
-            13..=15 => Line::Edge { dart, other },
-            16 => Line::Face { dart, other },
-            17 => Line::Remove { dim, dart },
-            18 => Line::Contract { dim, dart },
-            _ => Line::Sew {
-                link: dim,
-                dart,
-                other,
-            },
-        }
+        let named = Named {
+            dim,
+            dart,
+            other,
+            value,
+        };
+        line_of(self.below(24), dimension, named)
+    }
+}
+
+/// What a random line may name.
+#[derive(Clone, Copy)]
+struct Named {
+    dim: u64,
+    dart: u64,
+    other: u64,
+    value: Value,
+}
+
+/// The line of this choice for a map of this dimension.
+fn line_of(choice: u64, dimension: u64, named: Named) -> Line {
+    let Named {
+        dim,
+        dart,
+        other,
+        value,
+    } = named;
+    match choice {
+        0..=3 => Line::Set { dim, dart, value },
+        4 => Line::Clear { dim, dart },
+        5 => Line::Del { dart },
+        6..=9 => Line::Unsew { link: dim, dart },
+        10..=11 => Line::Sew {
+            link: dimension,
+            dart,
+            other,
+        },
+        12 => Line::Vertex { dart },
+        13..=15 => Line::Edge { dart, other },
+        16 => Line::Face { dart, other },
+        17 => Line::Remove { dim, dart },
+        18 => Line::Contract { dim, dart },
+        _ => Line::Sew {
+            link: dim,
+            dart,
+            other,
+        },
     }
 }
 
@@ -279,12 +305,24 @@ fn check_line<K: Edits<DIM>, const DIM: usize>(
     let answer = obey(alloc, map, line);
     let after = standings(alloc, map)?;
     if answer.is_err() {
-        assert_eq!(rt; after.as_slice(), before.as_slice(), "{line:?}");
+        assert!(rt; after.as_slice() == before.as_slice());
         return Ok(false);
     }
-    let pieces = pieces(alloc, line, &before, &after)?;
-    let wanted = wanted(alloc, first_rule, &pieces, &after)?;
-    assert_eq!(rt; after.as_slice(), wanted.as_slice(), "{line:?}");
+    Ok(check_obeyed(rt, alloc, first_rule, line, &before, &after)?)
+}
+
+/// Compares all values after a line that was obeyed.
+fn check_obeyed(
+    rt: &impl Abort,
+    alloc: Global,
+    first_rule: u64,
+    line: &Line,
+    before: &[Standing],
+    after: &[Standing],
+) -> Result<bool, AllocError> {
+    let pieces = pieces(alloc, line, before, after)?;
+    let wanted = wanted(alloc, first_rule, &pieces, after)?;
+    assert!(rt; after == wanted.as_slice());
     Ok(pieces.iter().any(|piece| piece.old != piece.new))
 }
 
@@ -332,19 +370,15 @@ fn set_values<K: Edits<DIM>, const DIM: usize>(
     Ok(())
 }
 
-/// Checks a random script, takes it back, and answers how many of its lines joined or parted cells with values.
-fn check_script<K: Edits<DIM>, const DIM: usize>(
+/// Checks random lines, and answers how many of them joined or parted cells with values.
+fn check_random_lines<K: Edits<DIM>, const DIM: usize>(
     rt: &impl Abort,
     alloc: Global,
     map: &mut Map<'_, K, FirstCopy, DIM>,
     first_rule: u64,
+    random: &mut Random,
 ) -> Result<u32, Refused> {
-    make_darts(alloc, map)?;
-    let mut random = Random { state: first_rule };
-    set_rules(alloc, map, first_rule, &mut random)?;
     let mut carrying: u32 = 0;
-    obey(alloc, map, &Line::Mark { name: "begin" })?;
-    let begin = standings(alloc, map)?;
     for _ in 0..200 {
         let darts = u64::from(map.links().made());
         let line = random.line(map.links().dimension() as u64, darts);
@@ -352,9 +386,46 @@ fn check_script<K: Edits<DIM>, const DIM: usize>(
             carrying = carrying.wrapping_add(1);
         }
     }
+    Ok(carrying)
+}
+
+/// Makes darts with values, sets a mark, and answers what stands there.
+fn begin_script<K: Edits<DIM>, const DIM: usize>(
+    alloc: Global,
+    map: &mut Map<'_, K, FirstCopy, DIM>,
+    first_rule: u64,
+    random: &mut Random,
+) -> Result<Vec<Standing>, Refused> {
+    make_darts(alloc, map)?;
+    set_rules(alloc, map, first_rule, random)?;
+    obey(alloc, map, &Line::Mark { name: "begin" })?;
+    standings(alloc, map)
+}
+
+/// Goes back to the mark, and compares what stands there.
+fn check_return<K: Edits<DIM>, const DIM: usize>(
+    rt: &impl Abort,
+    alloc: Global,
+    map: &mut Map<'_, K, FirstCopy, DIM>,
+    begin: &[Standing],
+) -> Result<(), Refused> {
     obey(alloc, map, &Line::Undo { name: "begin" })?;
     let end = standings(alloc, map)?;
-    assert_eq!(rt; end.as_slice(), begin.as_slice());
+    assert!(rt; end.as_slice() == begin);
+    Ok(())
+}
+
+/// Checks a random script, takes it back, and answers how many of its lines joined or parted cells with values.
+fn check_script<K: Edits<DIM>, const DIM: usize>(
+    rt: &impl Abort,
+    alloc: Global,
+    map: &mut Map<'_, K, FirstCopy, DIM>,
+    first_rule: u64,
+) -> Result<u32, Refused> {
+    let mut random = Random { state: first_rule };
+    let begin = begin_script(alloc, map, first_rule, &mut random)?;
+    let carrying = check_random_lines(rt, alloc, map, first_rule, &mut random)?;
+    check_return(rt, alloc, map, &begin)?;
     Ok(carrying)
 }
 

@@ -6,3 +6,4 @@ pub mod Stepped
 pub mod Marks
 pub mod GoingBack
 pub mod DualSteps
+pub mod Holdings

@@ -4,3 +4,4 @@ pub mod Calls
 pub mod Growing
 pub mod Numbers
 pub mod Noted
+pub mod Held

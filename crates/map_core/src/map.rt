@@ -28,13 +28,14 @@ pub struct Map<'h, K: Kind, H: Hook, const DIM: usize> {
 
 impl<'h, K: Kind, H: Hook, const DIM: usize> Model for Map<'h, K, H, DIM> {
     ghost use Rattle.map_core.specs.Views.{MapView};
-    ghost use Rattle.trail_laws.specs.Told.{told, IsTraced};
+    ghost use Rattle.map_core.specs.Held.{IsHeld};
+    ghost use Rattle.trail_laws.specs.Told.{told};
 
     ghost Value = { MapView H };
 
-    ghost view = { λ map. record { state = told map.present map.journal.trail; hook = map.hook.now } };
+    ghost view = { λ map. record { state = told map.present.content map.journal.trail; hook = map.hook.now } };
 
-    ghost invariant = { λ map. IsTraced map.present map.journal.trail };
+    ghost invariant = { λ map. IsHeld map.present map.journal.trail };
 }
 
 impl<'h, K: Kind, H: Hook, const DIM: usize> Map<'h, K, H, DIM> {

@@ -8,10 +8,10 @@ pub mod Earlier
 pub mod RowCounts
 pub mod Heads
 pub mod Reversing
+pub mod Places
 pub mod RestoredGroups
 pub mod RulesBack
 pub mod TakenBack
-pub mod Roomed
 pub mod Parts
 pub mod SortedEdit
 pub mod ListedValues

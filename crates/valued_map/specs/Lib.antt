@@ -4,3 +4,4 @@ pub mod Undoing
 pub mod Made
 pub mod Told
 pub mod TakingDual
+pub mod Holding

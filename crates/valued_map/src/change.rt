@@ -1,6 +1,6 @@
 //! How an edit of the links is made, and the values with it.
-ghost use Rattle.std.specs.Prelude.{◌≡◌, ℕ, ◌+◌, ◌≤◌, ◌++◌, ◌<◌, List, Some, map, length, OnOk, OnErr, IfOk, IsTrue};
-ghost use Rattle.map_defs.specs.Rows.{Rows, IsLive, links_of, made};
+ghost use Rattle.std.specs.Prelude.{◌≡◌, ℕ, ◌+◌, ◌-◌, ◌≤◌, ◌++◌, ◌<◌, List, Some, map, length, OnOk, OnErr, IfOk, IsTrue};
+ghost use Rattle.map_defs.specs.Rows.{Rows, IsLive, links_of, made, live_count};
 ghost use Rattle.map_defs.specs.Laws.{Laws};
 ghost use Rattle.map_defs.specs.Edits.{Fits, after_edit, IsLed};
 ghost use Rattle.machine_defs.specs.State.{with_born, without_dart};
@@ -33,14 +33,16 @@ impl<K: Kind, const DIM: usize> ValuedMap<K, DIM> {
         edit: &Edit,
         asked: bool,
     ) -> Result<Option<Step>, AllocError>
-        requires fits { Fits K.kind DIM self.old.rows edit.now }
-        requires laws { Laws K.kind (links_of (after_edit DIM edit.now self.old.rows)) }
-        requires few { made self.old.rows + edit.now.births ≤ MADE_MAX }
-        requires born { (born : List (List ℕ)) × (after_edit DIM edit.now self.old.rows ≡ self.old.rows ++ map Some born) }
-        ensures made { (born : List (List ℕ)) → after_edit DIM edit.now self.old.rows ≡ self.old.rows ++ map Some born
-            → OnOk result (self.new ≡ with_born self.old born) }
-        ensures step { IfOk result (λ step. IsStep asked self.old self.new step) }
-        ensures err { OnErr result (self.new ≡ self.old) }
+        requires fits { Fits K.kind DIM self.old.content.rows edit.now }
+        requires laws { Laws K.kind (links_of (after_edit DIM edit.now self.old.content.rows)) }
+        requires few { made self.old.content.rows + edit.now.births ≤ MADE_MAX }
+        requires born { (born : List (List ℕ)) × (after_edit DIM edit.now self.old.content.rows ≡ self.old.content.rows ++ map Some born) }
+        ensures made { (born : List (List ℕ)) → after_edit DIM edit.now self.old.content.rows ≡ self.old.content.rows ++ map Some born
+            → OnOk result (self.new.content ≡ with_born self.old.content born) }
+        ensures step { IfOk result (λ step. IsStep asked self.old.content self.new.content step) }
+        ensures err { OnErr result (self.new.content ≡ self.old.content) }
+        ensures places_stay { self.old.places ≤ self.new.places }
+        ensures room { OnOk result (live_count self.old.content.rows + (made self.new.content.rows - made self.old.content.rows) ≤ self.new.places) }
     {
         let made = self.links.made();
         let draft = begin_step(alloc, made, edit, asked)?;
@@ -62,12 +64,14 @@ impl<K: Kind, const DIM: usize> ValuedMap<K, DIM> {
         asked: bool,
     ) -> Result<Option<Step>, AllocError>
         requires ready { H.ready hook.now }
-        requires fits { Fits K.kind DIM self.old.rows edit.now }
-        requires laws { Laws K.kind (links_of (after_edit DIM edit.now self.old.rows)) }
-        requires few { made self.old.rows + edit.now.births ≤ MADE_MAX }
-        ensures carried { OnOk result (IsCarriedOn (H.meaning hook.now) self.old (after_edit DIM edit.now self.old.rows) self.new) }
-        ensures step { IfOk result (λ step. IsStep asked self.old self.new step) }
-        ensures err { OnErr result (self.new ≡ self.old) }
+        requires fits { Fits K.kind DIM self.old.content.rows edit.now }
+        requires laws { Laws K.kind (links_of (after_edit DIM edit.now self.old.content.rows)) }
+        requires few { made self.old.content.rows + edit.now.births ≤ MADE_MAX }
+        ensures carried { OnOk result (IsCarriedOn (H.meaning hook.now) self.old.content (after_edit DIM edit.now self.old.content.rows) self.new.content) }
+        ensures step { IfOk result (λ step. IsStep asked self.old.content self.new.content step) }
+        ensures err { OnErr result (self.new.content ≡ self.old.content) }
+        ensures places_stay { self.old.places ≤ self.new.places }
+        ensures room { OnOk result (live_count self.old.content.rows + (made self.new.content.rows - made self.old.content.rows) ≤ self.new.places) }
     {
         let made = self.links.made();
         let draft = begin_step(alloc, made, edit, asked)?;
@@ -106,11 +110,13 @@ impl<K: Kind, const DIM: usize> ValuedMap<K, DIM> {
         dart: Dart,
         asked: bool,
     ) -> Result<Option<Step>, AllocError>
-        requires live { IsLive self.old.rows dart }
-        requires alone { (i : ℕ) → links_of self.old.rows i dart ≡ 0 }
-        ensures buried { OnOk result (self.new ≡ without_dart self.old dart) }
-        ensures step { IfOk result (λ step. IsStep asked self.old self.new step) }
-        ensures err { OnErr result (self.new ≡ self.old) }
+        requires live { IsLive self.old.content.rows dart }
+        requires alone { (i : ℕ) → links_of self.old.content.rows i dart ≡ 0 }
+        ensures buried { OnOk result (self.new.content ≡ without_dart self.old.content dart) }
+        ensures step { IfOk result (λ step. IsStep asked self.old.content self.new.content step) }
+        ensures err { OnErr result (self.new.content ≡ self.old.content) }
+        ensures places_stay { self.old.places ≤ self.new.places }
+        ensures room { OnOk result (live_count self.old.content.rows + (made self.new.content.rows - made self.old.content.rows) ≤ self.new.places) }
     {
         let edit = Edit {
             births: 0,

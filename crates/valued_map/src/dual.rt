@@ -1,6 +1,6 @@
 //! The dual of a map, in which the values and rules go with their cells.
 ghost use Rattle.std.specs.Prelude.{◌≡◌, ◌+◌, ◌-◌, ◌≤◌, ◌<◌, ◌↔◌, [], false, None, length, reverse, IfOk, IfErr, OnOk, OnErr, IsErrOf, IsTrue};
-ghost use Rattle.map_defs.specs.Rows.{IsLive, links_of};
+ghost use Rattle.map_defs.specs.Rows.{IsLive, links_of, made, live_count};
 ghost use Rattle.map_defs.specs.Laws.{Laws};
 ghost use Rattle.map_defs.specs.Edits.{Fits, after_edit};
 ghost use Rattle.map_defs.specs.Dual.{IsDual, IsDualable};
@@ -28,7 +28,7 @@ impl<K: Edits<DIM>, const DIM: usize> ValuedMap<K, DIM> {
     /// map has no dual, memory aside. It takes the memory that the kind's own `take_dual` takes, none in a generalized map,
     /// and costs a few steps for each link of the darts that were made. A refusal leaves the map as it was.
     pub fn take_dual(&mut self, alloc: Global) -> Result<(), Refused>
-        ensures { BecomesDual self.old self.new result }
+        ensures { BecomesDual self.old.content self.new.content result }
     {
         K::take_dual(alloc, &mut self.links)?;
         turn_labels(&mut self.labels);
@@ -48,13 +48,15 @@ impl<K: Kind, const DIM: usize> ValuedMap<K, DIM> {
     ) -> Result<Option<Step>, AllocError>
         requires births { edit.now.births ≡ 0 }
         requires deaths { edit.now.deaths ≡ [] }
-        requires fits { Fits K.kind DIM self.old.rows edit.now }
-        requires laws { Laws K.kind (links_of (after_edit DIM edit.now self.old.rows)) }
-        requires dualable { IsDualable K.kind DIM (links_of self.old.rows) (IsLive self.old.rows) }
-        requires dual { IsDual K.kind DIM (links_of self.old.rows) (links_of (after_edit DIM edit.now self.old.rows)) }
-        ensures dual { OnOk result (IsDualOf self.old self.new) }
-        ensures step { IfOk result (λ step. IsStep asked self.old self.new step) }
-        ensures err { OnErr result (self.new ≡ self.old) }
+        requires fits { Fits K.kind DIM self.old.content.rows edit.now }
+        requires laws { Laws K.kind (links_of (after_edit DIM edit.now self.old.content.rows)) }
+        requires dualable { IsDualable K.kind DIM (links_of self.old.content.rows) (IsLive self.old.content.rows) }
+        requires dual { IsDual K.kind DIM (links_of self.old.content.rows) (links_of (after_edit DIM edit.now self.old.content.rows)) }
+        ensures dual { OnOk result (IsDualOf self.old.content self.new.content) }
+        ensures step { IfOk result (λ step. IsStep asked self.old.content self.new.content step) }
+        ensures err { OnErr result (self.new.content ≡ self.old.content) }
+        ensures places_stay { self.old.places ≤ self.new.places }
+        ensures room { OnOk result (live_count self.old.content.rows + (made self.new.content.rows - made self.old.content.rows) ≤ self.new.places) }
     {
         let made = self.links.made();
         let draft = begin_step(alloc, made, edit, asked)?;

@@ -3,12 +3,12 @@ ghost use Rattle.std.specs.Prelude.{◌≡◌, ℕ, ◌+◌, ◌≤◌, ◌<◌,
 ghost use Rattle.store_defs.specs.Labelings.{HasPlaces, KeepsPlaces};
 ghost use Rattle.store_defs.specs.Groups.{group_at};
 ghost use Rattle.label_laws.specs.Stored.{stored_value};
-ghost use Rattle.label_laws.specs.Changing.{AreTaken, AreGiven, HaveId, AreRelabelled, IsGroupedBelow, IsGroupGiven, AreGroupsGiven};
+ghost use Rattle.label_laws.specs.Changing.{AreTaken, AreGiven, AreRelabelled, IsGroupedBelow, IsGroupGiven, AreGroupsGiven};
 ghost use Rattle.label_laws.specs.Touching.{CanLabel};
 ghost use Rattle.cell_walk.specs.CellLists.{lists_of};
 ghost use Rattle.valued_map.specs.Placed.{placed_group, placed_groups};
 
-use attr_pool::{AttrId, Labels, Pool};
+use attr_pool::{Labels, Pool};
 use map_kind::{Dart, Place, Value};
 use transport::Group;
 
@@ -148,16 +148,6 @@ pub(crate) fn give_id<const DIM: usize>(
     ensures spare { pool.old.spare ≤ pool.new.spare + 1 }
 {
     let id = pool.make(value);
-    put_id(labels, dim, darts, id);
-}
-
-/// Gives darts an id in a dimension.
-fn put_id<const DIM: usize>(labels: &mut Labels<DIM>, dim: usize, darts: &[Dart], id: AttrId)
-    requires dim { dim ≤ DIM }
-    requires darts { (d : ℕ) → Contains darts.now d → d ≤ labels.old.made }
-    requires places { HasPlaces labels.old dim }
-    ensures { HaveId dim (Contains darts.now) id labels.old labels.new }
-{
     for dart in darts {
         labels.put(dim, *dart, Some(id));
     }

@@ -104,25 +104,6 @@ fn list_dimension<K: Kind, const DIM: usize>(
     if !has_rule(rules, dim) {
         return Ok(());
     }
-    list_cells(alloc, links, labels, pool, dim, values)
-}
-
-/// Lists the cells of a dimension with a value.
-fn list_cells<K: Kind, const DIM: usize>(
-    alloc: Global,
-    links: &Links<K, DIM>,
-    labels: &Labels<DIM>,
-    pool: &Pool,
-    dim: usize,
-    values: &mut Vec<ListValue>,
-) -> Result<(), AllocError>
-    requires high { DIM ≤ 8 }
-    requires dim { dim ≤ DIM }
-    requires listed { AreListed labels.now pool.now
-        (λ i d. (i < dim) × IsNamed K.kind links.now.rows i d) values.old.items }
-    ensures { OnOk result (AreListed labels.now pool.now
-        (λ i d. (i < dim + 1) × IsNamed K.kind links.now.rows i d) values.new.items) }
-{
     let cells = cell_walk::cells(alloc, links, dim)?;
     for dart in &cells {
         list_value(labels, pool, dim, *dart, values)?;

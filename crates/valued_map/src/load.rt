@@ -31,14 +31,15 @@ impl<K: Kind, const DIM: usize> ValuedMap<K, DIM> {
         places: &[Place],
         cells: &[Vec<Dart>],
     ) -> Result<(), AllocError>
-        requires new { self.old ≡ empty_content K.kind DIM }
+        requires new { self.old.content ≡ empty_content K.kind DIM }
         requires laws { Laws K.kind (links_of links.rows) }
         requires members { (d : ℕ) → Contains (map (λ place. place.dart) places.now) d
             ↔ (IsLive links.rows d × NamesCell K.kind (links_of links.rows) 0 d) }
         requires ascending { IsStrictlyIncreasing (map (λ place. place.dart) places.now) }
         requires cells { AreCellsOf K.kind (links_of links.rows) 0 (map (λ place. place.dart) places.now) (lists_of cells.now) }
-        ensures loaded { OnOk result (IsMadeOf K.kind DIM links.rows places.now self.new) }
-        ensures err { OnErr result (self.new ≡ self.old) }
+        ensures loaded { OnOk result (IsMadeOf K.kind DIM links.rows places.now self.new.content) }
+        ensures err { OnErr result (self.new.content ≡ self.old.content) }
+        ensures places { OnErr result (self.new.places ≡ self.old.places) }
     {
         let made = links.made();
         prepare::<DIM>(

@@ -1,7 +1,7 @@
 //! The map with values, and what is read of it.
-ghost use Rattle.std.specs.Prelude.{◌≡◌, ◌≤◌, List, IfOk};
+ghost use Rattle.std.specs.Prelude.{◌≡◌, ◌+◌, ◌≤◌, List, IfOk};
 ghost use Rattle.map_defs.specs.Laws.{Laws};
-ghost use Rattle.map_defs.specs.Rows.{IsSound, links_of};
+ghost use Rattle.map_defs.specs.Rows.{IsSound, links_of, live_count};
 ghost use Rattle.machine_defs.specs.State.{empty_content, rule_at, value_at};
 ghost use Rattle.machine_defs.specs.Listing.{ListValue, ListsValues, listing_with};
 ghost use Rattle.machine_defs.specs.Kept.{IsLawfulContent};
@@ -19,8 +19,9 @@ use std::marker::Model;
 use transport::RuleRow;
 
 /// The links of a map of a kind and a dimension from 2 to 8, with the values of its cells and the rules by which they are
-/// carried, seen as a content of the plain map machine. Its type keeps that this is a lawful one: the links obey the laws
-/// of a map, and the darts of a cell have one value or none.
+/// carried, seen as a content of the plain map machine, beside the number of darts that can live without further memory. Its
+/// type keeps that the content is a lawful one: the links obey the laws of a map, and the darts of a cell have one value or
+/// none.
 #[derive(Drop)]
 pub struct ValuedMap<K: Kind, const DIM: usize> {
     pub(crate) links: Links<K, DIM>,
@@ -32,13 +33,18 @@ pub struct ValuedMap<K: Kind, const DIM: usize> {
 }
 
 impl<K: Kind, const DIM: usize> Model for ValuedMap<K, DIM> {
-    ghost use Rattle.machine_defs.specs.State.{Content};
+    ghost use Rattle.std.specs.Prelude.{◌+◌};
+    ghost use Rattle.map_defs.specs.Rows.{live_count};
+    ghost use Rattle.valued_map.specs.Holding.{Holding};
     ghost use Rattle.label_laws.specs.Contents.{content_of};
     ghost use Rattle.label_laws.specs.Maps.{IsStoredMap};
 
-    ghost Value = { Content };
+    ghost Value = { Holding };
 
-    ghost view = { λ map. content_of K.kind DIM map.links.rows map.labels map.pool map.rules };
+    ghost view = { λ map. record {
+      content = content_of K.kind DIM map.links.rows map.labels map.pool map.rules;
+      places = live_count map.links.rows + map.links.room;
+    } };
 
     ghost invariant = { λ map. IsStoredMap K.kind DIM map.links.rows map.labels map.pool map.rules };
 }
@@ -48,8 +54,8 @@ impl<K: Kind, const DIM: usize> ValuedMap<K, DIM> {
     pub fn new(alloc: Global) -> Self
         requires low { 2 ≤ DIM }
         requires high { DIM ≤ 8 }
-        ensures empty { result ≡ empty_content K.kind DIM }
-        ensures lawful { IsLawfulContent result }
+        ensures empty { result.content ≡ empty_content K.kind DIM }
+        ensures lawful { IsLawfulContent result.content }
     {
         ValuedMap {
             links: Links::new(alloc),
@@ -63,26 +69,27 @@ impl<K: Kind, const DIM: usize> ValuedMap<K, DIM> {
 
     /// The links, to be read. Here can be read what the type keeps.
     pub fn links(&self) -> &Links<K, DIM>
-        ensures rows { result.now.rows ≡ self.now.rows }
-        ensures kind { self.now.kind ≡ K.kind }
-        ensures dim { self.now.dim ≡ DIM }
-        ensures sound { IsSound K.kind DIM self.now.rows }
+        ensures rows { result.now.rows ≡ self.now.content.rows }
+        ensures places { self.now.places ≡ live_count result.now.rows + result.now.room }
+        ensures kind { self.now.content.kind ≡ K.kind }
+        ensures dim { self.now.content.dim ≡ DIM }
+        ensures sound { IsSound K.kind DIM self.now.content.rows }
         ensures laws { Laws K.kind (links_of result.now.rows) }
-        ensures lawful { IsLawfulContent self.now }
+        ensures lawful { IsLawfulContent self.now.content }
     {
         &self.links
     }
 
     /// The value of the cell of a dart in a dimension, if it has one.
     pub fn value(&self, dim: usize, dart: Dart) -> Option<Value>
-        ensures { result ≡ value_at self.now dim dart }
+        ensures { result ≡ value_at self.now.content dim dart }
     {
         stored_value(&self.labels, &self.pool, dim, dart)
     }
 
     /// The rule of a dimension, if it has one.
     pub fn rule(&self, dim: usize) -> Option<TableRule>
-        ensures { result ≡ rule_at self.now dim }
+        ensures { result ≡ rule_at self.now.content dim }
     {
         rule_of(&self.rules, dim)
     }
@@ -90,8 +97,8 @@ impl<K: Kind, const DIM: usize> ValuedMap<K, DIM> {
     /// The listing of the map: its live darts, ascending, with their links, and its cells with a value, each by its
     /// least dart, ascending by dimension, then by dart. It costs the size of the map times a logarithm.
     pub fn listing(&self, alloc: Global) -> Result<Listing, AllocError>
-        ensures { IfOk result (λ listing. (values : List ListValue) × ListsValues self.now values
-            × (listing ≡ listing_with self.now values)) }
+        ensures { IfOk result (λ listing. (values : List ListValue) × ListsValues self.now.content values
+            × (listing ≡ listing_with self.now.content values)) }
     {
         Ok(Listing {
             letter: K::letter(),

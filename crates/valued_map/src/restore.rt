@@ -35,11 +35,12 @@ impl<K: Kind, const DIM: usize> ValuedMap<K, DIM> {
     /// Takes steps back that led to the map, the last first. All memory is taken before a value changes. It costs the cells
     /// that the steps touched times a logarithm, whatever the size of the map.
     pub fn take_back(&mut self, alloc: Global, steps: &[Step]) -> Result<(), AllocError>
-        requires steps { AreStepsTo self.old steps.now }
-        ensures back { OnOk result (self.new ≡ all_taken_back steps.now self.old) }
-        ensures err { OnErr result (self.new ≡ self.old) }
+        requires steps { AreStepsTo self.old.content steps.now }
+        requires room { HasRoomFor self.old.content steps.now self.old.places }
+        ensures back { OnOk result (self.new.content ≡ all_taken_back steps.now self.old.content) }
+        ensures err { OnErr result (self.new.content ≡ self.old.content) }
+        ensures places { self.new.places ≡ self.old.places }
     {
-        see_room_for_the_dead(&self.links);
         take_back(
             alloc,
             &mut self.links,
@@ -49,13 +50,6 @@ impl<K: Kind, const DIM: usize> ValuedMap<K, DIM> {
             steps,
         )
     }
-}
-
-/// Darts that ended have room to live again: there is room for all that were made.
-fn see_room_for_the_dead<K: Kind, const DIM: usize>(links: &Links<K, DIM>)
-    ensures { made links.now.rows ≤ live_count links.now.rows + links.now.room }
-{
-    let _ = links.live_count();
 }
 
 /// Takes steps back, the last first, so that the parts are those of the map before the steps. All memory is taken before

@@ -1,5 +1,6 @@
 //! The rules of the dimensions.
-ghost use Rattle.std.specs.Prelude.{◌≡◌, ◌==◌, ◌≤◌, ◌<◌, ◌↔◌, cond, length, replicate, slice_set, Some, None, IsSome, IsTrue, IfOk, OnOk, OnErr};
+ghost use Rattle.std.specs.Prelude.{◌≡◌, ◌==◌, ◌+◌, ◌-◌, ◌≤◌, ◌<◌, ◌↔◌, cond, length, replicate, slice_set, Some, None, IsSome, IsTrue, IfOk, OnOk, OnErr};
+ghost use Rattle.map_defs.specs.Rows.{made, live_count};
 ghost use Rattle.store_defs.specs.Groups.{rule_at as rule_of};
 ghost use Rattle.machine_defs.specs.Machine.{with_rule};
 ghost use Rattle.valued_map.specs.Told.{IsOneRule, IsStep};
@@ -23,9 +24,11 @@ impl<K: Kind, const DIM: usize> ValuedMap<K, DIM> {
         asked: bool,
     ) -> Result<Option<Step>, AllocError>
         requires { dim ≤ DIM }
-        ensures set { OnOk result (self.new ≡ with_rule self.old dim rule) }
-        ensures step { IfOk result (λ step. IsStep asked self.old self.new step) }
-        ensures err { OnErr result (self.new ≡ self.old) }
+        ensures set { OnOk result (self.new.content ≡ with_rule self.old.content dim rule) }
+        ensures step { IfOk result (λ step. IsStep asked self.old.content self.new.content step) }
+        ensures err { OnErr result (self.new.content ≡ self.old.content) }
+        ensures places_stay { self.old.places ≤ self.new.places }
+        ensures room { OnOk result (live_count self.old.content.rows + (made self.new.content.rows - made self.old.content.rows) ≤ self.new.places) }
     {
         let dimension = self.links.dimension();
         let draft = begin_step(alloc, self.links.made(), &no_edit(alloc), asked)?;

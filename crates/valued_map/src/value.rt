@@ -1,6 +1,6 @@
 //! The value of one cell.
-ghost use Rattle.std.specs.Prelude.{◌≡◌, ◌≤◌, Some, None, IsSome, IfOk, OnOk, OnErr};
-ghost use Rattle.map_defs.specs.Rows.{IsLive};
+ghost use Rattle.std.specs.Prelude.{◌≡◌, ◌+◌, ◌-◌, ◌≤◌, Some, None, IsSome, IfOk, OnOk, OnErr};
+ghost use Rattle.map_defs.specs.Rows.{IsLive, made, live_count};
 ghost use Rattle.machine_defs.specs.State.{rule_at};
 ghost use Rattle.machine_defs.specs.Valuing.{IsValued};
 ghost use Rattle.valued_map.specs.Told.{IsStep};
@@ -27,11 +27,13 @@ impl<K: Kind, const DIM: usize> ValuedMap<K, DIM> {
         asked: bool,
     ) -> Result<Option<Step>, AllocError>
         requires dim { dim ≤ DIM }
-        requires live { IsLive self.old.rows dart }
-        requires ruled { IsSome (rule_at self.old dim) }
-        ensures valued { OnOk result (IsValued self.old dim dart value self.new) }
-        ensures step { IfOk result (λ step. IsStep asked self.old self.new step) }
-        ensures err { OnErr result (self.new ≡ self.old) }
+        requires live { IsLive self.old.content.rows dart }
+        requires ruled { IsSome (rule_at self.old.content dim) }
+        ensures valued { OnOk result (IsValued self.old.content dim dart value self.new.content) }
+        ensures step { IfOk result (λ step. IsStep asked self.old.content self.new.content step) }
+        ensures err { OnErr result (self.new.content ≡ self.old.content) }
+        ensures places_stay { self.old.places ≤ self.new.places }
+        ensures room { OnOk result (live_count self.old.content.rows + (made self.new.content.rows - made self.old.content.rows) ≤ self.new.places) }
     {
         let draft = begin_step(alloc, self.links.made(), &no_edit(alloc), asked)?;
         let olds = cell_values(
@@ -58,10 +60,12 @@ impl<K: Kind, const DIM: usize> ValuedMap<K, DIM> {
         value: Option<Value>,
     ) -> Result<(), AllocError>
         requires dim { dim ≤ DIM }
-        requires live { IsLive self.old.rows dart }
-        requires ruled { IsSome (rule_at self.old dim) }
-        ensures valued { OnOk result (IsValued self.old dim dart value self.new) }
-        ensures err { OnErr result (self.new ≡ self.old) }
+        requires live { IsLive self.old.content.rows dart }
+        requires ruled { IsSome (rule_at self.old.content dim) }
+        ensures valued { OnOk result (IsValued self.old.content dim dart value self.new.content) }
+        ensures err { OnErr result (self.new.content ≡ self.old.content) }
+        ensures rows { self.new.content.rows ≡ self.old.content.rows }
+        ensures places { self.new.places ≡ self.old.places }
     {
         match value {
             Some(value) => self.give_value(alloc, dim, dart, value),
@@ -78,10 +82,12 @@ impl<K: Kind, const DIM: usize> ValuedMap<K, DIM> {
         value: Value,
     ) -> Result<(), AllocError>
         requires dim { dim ≤ DIM }
-        requires live { IsLive self.old.rows dart }
-        requires ruled { IsSome (rule_at self.old dim) }
-        ensures valued { OnOk result (IsValued self.old dim dart (Some value) self.new) }
-        ensures err { OnErr result (self.new ≡ self.old) }
+        requires live { IsLive self.old.content.rows dart }
+        requires ruled { IsSome (rule_at self.old.content dim) }
+        ensures valued { OnOk result (IsValued self.old.content dim dart (Some value) self.new.content) }
+        ensures err { OnErr result (self.new.content ≡ self.old.content) }
+        ensures rows { self.new.content.rows ≡ self.old.content.rows }
+        ensures places { self.new.places ≡ self.old.places }
     {
         if let Some(id) = self.labels.id(dim, dart) {
             self.pool.replace(id, value);
@@ -96,9 +102,11 @@ impl<K: Kind, const DIM: usize> ValuedMap<K, DIM> {
     /// Takes the ids of the darts of the cell of a live dart away, if they have some.
     fn drop_value(&mut self, alloc: Global, dim: usize, dart: Dart) -> Result<(), AllocError>
         requires dim { dim ≤ DIM }
-        requires live { IsLive self.old.rows dart }
-        ensures valued { OnOk result (IsValued self.old dim dart None self.new) }
-        ensures err { OnErr result (self.new ≡ self.old) }
+        requires live { IsLive self.old.content.rows dart }
+        ensures valued { OnOk result (IsValued self.old.content dim dart None self.new.content) }
+        ensures err { OnErr result (self.new.content ≡ self.old.content) }
+        ensures rows { self.new.content.rows ≡ self.old.content.rows }
+        ensures places { self.new.places ≡ self.old.places }
     {
         if self.labels.id(dim, dart).is_none() {
             return Ok(());

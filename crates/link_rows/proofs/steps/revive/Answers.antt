@@ -18,7 +18,10 @@ revive-requires g c =
     ap length c.loop-index.invariant.0 ∙ revived-length g.row.DIM (drop c.loop-index.index ds) c.args.rows.now.rows in
     let below : x ≤ length rows - 1 = omega arith in
     let dead : row_at rows x ≡ None = ap (row_at rows) c.index-darts-index.is ∙ c.loop-index.invariant.3 j x (omega arith) (omega arith) in
-    (lit< tt, (below, dead))
+    let kept = c.loop-index.invariant.2 in
+    let some = c.requires.room in
+    let more : 1 ≤ c.loop-index.rows.room = omega arith in
+    (lit< tt, (below, (dead, more)))
 
 pub loop-index-preserved : goal.loop-index-preserved
 loop-index-preserved g c =

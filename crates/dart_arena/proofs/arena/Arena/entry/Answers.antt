@@ -1,19 +1,14 @@
-use Rattle.std.proofs.Common.{◌≡◌, ℕ, ◌+◌, ◌*◌, ◌<◌, Bool, List, Option, get_or, sym, ap, ◌∙◌, arith}
+use Rattle.std.proofs.Common.{ℕ, List, Option, sym, ap, ◌∙◌}
 use Rattle.map_defs.specs.Rows.{entry_of}
-use Rattle.dart_arena.specs.Table.{rows_of}
+use Rattle.dart_arena.specs.Layout.{keys_of, row_under, rows_under}
 use Rattle.dart_arena.proofs.RowLemmas.{row_behind}
-use Rattle.dart_arena.proofs.TableLemmas.{row-entry}
+use Rattle.dart_arena.proofs.Stages.{entry-read}
 use Rattle.dart_arena.proofs.arena.Arena.entry.Goals as goal
 
 pub returns : goal.returns
 returns g c =
-    let w : ℕ = g.row.DIM + 1 in
-    let es : List ℕ = c.self.inside.entries.items in
-    let bs : List Bool = c.self.inside.live.items in
-    let table = c.self.invariant.1 in
-    let within : c.args.link < w = omega (arith, c.requires) in
-    let read : c.entry_at.result ≡ get_or es (c.place.result * w + c.args.link) 0 =
-    c.entry_at.ensures ∙ ap (λ (xs : List ℕ). get_or xs (c.entries_of.result + c.args.link) 0) c.deref.ensures.value
-    ∙ ap (λ (n : ℕ). get_or es (n + c.args.link) 0) c.entries_of.ensures.entries in
-    rw (← c.self.view_is) (read ∙ sym (row-entry w es bs c.place.result c.args.link table.clear within)
-    ∙ sym (ap (λ (o : Option (List ℕ)). entry_of o c.args.link) (row_behind (rows_of w es bs) c.args.dart c.place.result c.place.ensures.place)))
+    let p : ℕ = c.place.result in
+    rw (← c.self.view_is)
+    (c.entry_in.ensures ∙ ap (λ (key : ℕ). entry_of (row_under c.self.inside.rows key) c.args.link) c.key_to_read.ensures
+    ∙ entry-read c.self.inside.places g.row.DIM c.self.inside.rows c.self.inside.count c.self.inside.spare c.self.inside.room c.self.invariant.1 p c.args.link
+    ∙ sym (ap (λ (o : Option (List ℕ)). entry_of o c.args.link) (row_behind (rows_under c.self.inside.rows (keys_of c.self.inside.places)) c.args.dart p c.place.ensures.place)))

@@ -1,26 +1,22 @@
-use Rattle.std.proofs.Common.{◌≡◌, ℕ, ◌+◌, ◌-◌, ◌≤◌, Bool, true, false, List, length, get_or, ◌∙◌, sym, arith}
-use Rattle.std.specs.Prelude.{vec_len}
-use Rattle.std.proofs.lemmas.List.{get_or_read}
+use Rattle.std.proofs.Common.{◌≢◌, ℕ, ◌≤◌, List, length, arith}
 use Rattle.std.proofs.lemmas.Option.{IfSome_then}
-use Rattle.dart_arena.proofs.TableSteps.{next-seen, none-above}
+use Rattle.dart_arena.specs.Layout.{keys_of, key_at}
+use Rattle.dart_arena.proofs.Arranged.{next-seen, none-above}
+use Rattle.dart_arena.proofs.Stages.{row-seen}
 use Rattle.dart_arena.proofs.arena.Arena.next_live.Goals as goal
 
-pub returns-then-index-clause-next : goal.returns-then-index-clause-next
-returns-then-index-clause-next g c =
-    let w : ℕ = g.row.DIM + 1 in
-    let bs : List Bool = c.self.inside.live.items in
-    let len = c.self.inside.live.ok.0 in
+pub returns-then-key-ne0-clause-next : goal.returns-then-key-ne0-clause-next
+returns-then-key-ne0-clause-next g c =
+    let keys : List ℕ = keys_of c.self.inside.places in
     let p : ℕ = c.loop-place.place in
-    let live : get_or bs p false ≡ true =
-    sym (get_or_read bs p c.index.result.now (omega arith) c.index.ensures false) ∙ c.if-index.true in
     let above : c.args.after ≤ p = omega arith in
+    let key : key_at keys p ≢ 0 = λ none. absurd (omega (arith, none, c.key.ensures)) in
+    let live = row-seen c.self.inside.places g.row.DIM c.self.inside.rows c.self.inside.count c.self.inside.spare c.self.inside.room c.self.invariant.1 p key in
     IfSome_then c.new.result c.new.ensures.same
-    (λ d is. rw (← c.self.view_is)
-    (next-seen w c.self.inside.entries.items bs c.self.inside.spare (c.self.inside.spare + (vec_len c.self.inside.live - c.self.inside.count)) c.args.after p d is above c.loop-place.invariant live))
+    (λ d is. rw (← c.self.view_is) (next-seen c.self.inside.rows keys c.self.inside.spare c.self.inside.room c.args.after p d is above c.loop-place.invariant live))
 
 pub returns-clause-none : goal.returns-clause-none
 returns-clause-none g c =
-    let bs : List Bool = c.self.inside.live.items in
-    let len = c.self.inside.live.ok.0 in
-    let end : length bs ≤ c.loop-place.place = omega arith in
-    rw (← c.self.view_is) (none-above (g.row.DIM + 1) c.self.inside.entries.items bs c.args.after c.loop-place.place c.loop-place.invariant end)
+    let keys : List ℕ = keys_of c.self.inside.places in
+    let end : length keys ≤ c.loop-place.place = omega (arith, c.made-place-end.ensures) in
+    rw (← c.self.view_is) (none-above c.self.inside.rows keys c.args.after c.loop-place.place c.loop-place.invariant end)

@@ -1,48 +1,40 @@
-use Rattle.std.proofs.Common.{◌≡◌, ℕ, ◌+◌, ◌<◌, Bool, true, false, List, ◌∷◌, length, get_or, set, replicate, Option, Some, None, is_some, refl, sym, ap, ◌∙◌, arith, length-set}
-use Rattle.dart_arena.specs.Table.{rows_of}
-use Rattle.dart_arena.proofs.RowLemmas.{set_behind, same-stock}
-use Rattle.dart_arena.proofs.TableLemmas.{rows-length}
-use Rattle.dart_arena.proofs.TableSteps.{live-most, live-seen, rows-revived, table-again}
+use Rattle.std.proofs.Common.{◌≡◌, ℕ, ◌<◌, ◌≤◌, List, ◌∷◌, length, Option, Some, None, refl, sym, ap, ◌∙◌, arith, length-set}
+use Rattle.map_defs.specs.Edits.{free_row}
+use Rattle.dart_arena.specs.Layout.{keys_of, key_at, rows_under}
+use Rattle.dart_arena.proofs.RowLemmas.{row_behind, set_behind, same-stock}
+use Rattle.dart_arena.proofs.SlotLemmas.{rows-length}
+use Rattle.dart_arena.proofs.Stages.{no-key, after-revival}
 use Rattle.dart_arena.proofs.arena.Arena.revive.Goals as goal
-
-pub index_mut-requires : goal.index_mut-requires
-index_mut-requires g c =
-    let made = rw (← c.self.view_is) at c.requires.made in
-    let long = rows-length (g.row.DIM + 1) c.self.inside.entries.items c.self.inside.live.items in
-    omega (arith, c.place.ensures.place, c.self.inside.live.ok.0)
-
-pub overflow_add-self : goal.overflow_add-self
-overflow_add-self g c =
-    let table = c.self.invariant.1 in
-    omega (arith, table.few, live-most (g.row.DIM + 1) c.self.inside.entries.items c.self.inside.live.items c.self.inside.count table)
 
 pub invariant_of-self : goal.invariant_of-self
 invariant_of-self g c =
-    let w : ℕ = g.row.DIM + 1 in
-    let es : List ℕ = c.self.inside.entries.items in
-    let bs : List Bool = c.self.inside.live.items in
-    let p : ℕ = c.place.result in
+    let keys : List ℕ = keys_of c.self.inside.places in
+    let p : ℕ = c.place-place.result in
     let made = rw (← c.self.view_is) at c.requires.made in
     let dead = rw (← c.self.view_is) at c.requires.dead in
-    let within : p < length bs = omega (arith, rows-length w es bs, c.place.ensures.place) in
-    let flag : get_or bs p false ≡ false = sym (live-seen w es bs c.args.dart p c.place.ensures.place) ∙ ap is_some dead in
-    (c.self.invariant.0, table-again w es bs c.self.inside.count c.self.invariant.1 p flag within, c.self.invariant.2, c.self.invariant.3)
+    let more : 1 ≤ c.self.inside.room = rw (← c.self.view_is) at c.requires.room in
+    let taken = rw c.is_in_order.ensures at c.take_row-key.ensures in
+    let within : p < length keys = omega (arith, made, rows-length c.self.inside.rows keys, c.place-place.ensures.place) in
+    let none : key_at keys p ≡ 0 = no-key c.self.inside.places g.row.DIM c.self.inside.rows c.self.inside.count c.self.inside.spare c.self.inside.room c.self.invariant.1 p (sym (row_behind (rows_under c.self.inside.rows keys) c.args.dart p c.place-place.ensures.place) ∙ dead) in
+    rw (c.fill.ensures.keys, c.fill.ensures.capacity, c.fill.ensures.order) (
+      c.self.invariant.0,
+      (after-revival c.self.inside.places g.row.DIM c.self.inside.rows c.self.inside.count c.self.inside.spare c.self.inside.room c.self.invariant.1 c.take_row-key.new.rows c.take_row-key.result p none within more taken).0,
+      omega (arith, length-set keys p c.take_row-key.result, c.self.invariant.2),
+      omega (arith, length-set keys p c.take_row-key.result, c.self.invariant.3),
+    )
 
 pub returns : goal.returns
 returns g c =
-    let w : ℕ = g.row.DIM + 1 in
-    let es : List ℕ = c.self.inside.entries.items in
-    let bs : List Bool = c.self.inside.live.items in
-    let p : ℕ = c.place.result in
-    let n : ℕ = c.self.inside.count in
+    let keys : List ℕ = keys_of c.self.inside.places in
+    let p : ℕ = c.place-place.result in
     let made = rw (← c.self.view_is) at c.requires.made in
     let dead = rw (← c.self.view_is) at c.requires.dead in
-    let within : p < length bs = omega (arith, rows-length w es bs, c.place.ensures.place) in
-    let flag : get_or bs p false ≡ false = sym (live-seen w es bs c.args.dart p c.place.ensures.place) ∙ ap is_some dead in
-    let most = live-most w es (set bs p true) (n + 1) (table-again w es bs n c.self.invariant.1 p flag within) in
-    let same = length-set bs p true in
-    let len = c.self.inside.live.ok.0 in
-    rw (← c.self.view_is)
+    let more : 1 ≤ c.self.inside.room = rw (← c.self.view_is) at c.requires.room in
+    let taken = rw c.is_in_order.ensures at c.take_row-key.ensures in
+    let within : p < length keys = omega (arith, made, rows-length c.self.inside.rows keys, c.place-place.ensures.place) in
+    let none : key_at keys p ≡ 0 = no-key c.self.inside.places g.row.DIM c.self.inside.rows c.self.inside.count c.self.inside.spare c.self.inside.room c.self.invariant.1 p (sym (row_behind (rows_under c.self.inside.rows keys) c.args.dart p c.place-place.ensures.place) ∙ dead) in
+    rw (← c.self.view_is, c.fill.ensures.keys)
     (same-stock _ _ _ _ _ _
-    (ap (λ (rest : List (Option (List ℕ))). let one : List (Option (List ℕ)) = None ∷ rest in one) (rows-revived w es bs n c.self.invariant.1 p flag within)
-    ∙ sym (set_behind (rows_of w es bs) c.args.dart p (Some (replicate w 0)) c.place.ensures.place)) refl (omega arith))
+    (ap (λ (rest : List (Option (List ℕ))). let one : List (Option (List ℕ)) = None ∷ rest in one)
+    (after-revival c.self.inside.places g.row.DIM c.self.inside.rows c.self.inside.count c.self.inside.spare c.self.inside.room c.self.invariant.1 c.take_row-key.new.rows c.take_row-key.result p none within more taken).1
+    ∙ sym (set_behind (rows_under c.self.inside.rows keys) c.args.dart p (Some (free_row g.row.DIM)) c.place-place.ensures.place)) refl refl)

@@ -1,35 +1,32 @@
-use Rattle.std.proofs.Common.{◌≡◌, ℕ, ◌+◌, ◌<◌, Bool, true, false, List, get_or, sym, ◌∙◌, arith}
-use Rattle.dart_arena.proofs.TableSteps.{live-seen, live-within, row-within, table-written, written-seen}
+use Rattle.std.proofs.Common.{ℕ, List, ◌∷◌, set, Option, None, sym, ap, ◌∙◌}
+use Rattle.dart_arena.specs.Layout.{keys_of, rows_under}
+use Rattle.dart_arena.proofs.RowSize.{row-fits}
+use Rattle.dart_arena.proofs.RowLemmas.{set-behind-mapped}
+use Rattle.dart_arena.proofs.Stages.{has-row, after-write}
 use Rattle.dart_arena.proofs.arena.Arena.set_entry.Goals as goal
 
-pub index_mut-requires : goal.index_mut-requires
-index_mut-requires g c =
-    let w : ℕ = g.row.DIM + 1 in
-    let es : List ℕ = c.self.inside.entries.items in
-    let bs : List Bool = c.self.inside.live.items in
-    let p : ℕ = c.place.result in
-    let lives = c.is_live.ensures.0 c.if-is_live.true in
-    let there = rw (← c.self.view_is) at lives in
-    let live : get_or bs p false ≡ true = sym (live-seen w es bs c.args.dart p c.place.ensures.place) ∙ there in
-    let len = c.self.inside.entries.ok.0 in
-    omega (arith, row-within w es bs c.self.inside.count c.self.invariant.1 p (live-within bs p live), c.entries_of.ensures.entries)
+pub set_in_row-requires : goal.set_in_row-requires
+set_in_row-requires g c =
+    let keys : List ℕ = keys_of c.self.inside.places in
+    rw c.key-key.ensures (
+      row-fits g.row.DIM c.self.invariant.0,
+      (has-row c.self.inside.places g.row.DIM c.self.inside.rows c.self.inside.count c.self.inside.spare c.self.inside.room c.self.invariant.1 c.place.result, c.requires),
+    )
 
 pub invariant_of-self : goal.invariant_of-self
 invariant_of-self g c =
-    let w : ℕ = g.row.DIM + 1 in
-    let es : List ℕ = c.self.inside.entries.items in
-    let bs : List Bool = c.self.inside.live.items in
-    let p : ℕ = c.place.result in
-    let within : c.args.link < w = omega (arith, c.requires) in
-    let lives = c.is_live.ensures.0 c.if-is_live.true in
-    let there = rw (← c.self.view_is) at lives in
-    let live : get_or bs p false ≡ true = sym (live-seen w es bs c.args.dart p c.place.ensures.place) ∙ there in
-    rw c.entries_of.ensures.entries
-    (c.self.invariant.0, table-written w es bs c.self.inside.count c.self.invariant.1 p c.args.link c.args.to live within, c.self.invariant.2, c.self.invariant.3)
+    let keys : List ℕ = keys_of c.self.inside.places in
+    rw (c.set_in_row.ensures, c.key-key.ensures) (
+      c.self.invariant.0,
+      (after-write c.self.inside.places g.row.DIM c.self.inside.rows c.self.inside.count c.self.inside.spare c.self.inside.room c.self.invariant.1 c.place.result (λ (row : List ℕ). set row c.args.link c.args.to)).0,
+      c.self.invariant.2,
+      c.self.invariant.3,
+    )
 
-pub returns-then-is_live-clause-rows : goal.returns-then-is_live-clause-rows
-returns-then-is_live-clause-rows g c =
-    let w : ℕ = g.row.DIM + 1 in
-    let within : c.args.link < w = omega (arith, c.requires) in
-    rw (← c.self.view_is, c.entries_of.ensures.entries)
-    (written-seen w c.self.inside.entries.items c.self.inside.live.items c.args.dart c.place.result c.args.link c.args.to c.place.ensures.place within)
+pub returns-clause-rows : goal.returns-clause-rows
+returns-clause-rows g c =
+    let keys : List ℕ = keys_of c.self.inside.places in
+    rw (← c.self.view_is, c.set_in_row.ensures, c.key-key.ensures)
+    (ap (λ (rest : List (Option (List ℕ))). let one : List (Option (List ℕ)) = None ∷ rest in one)
+    ((after-write c.self.inside.places g.row.DIM c.self.inside.rows c.self.inside.count c.self.inside.spare c.self.inside.room c.self.invariant.1 c.place.result (λ (row : List ℕ). set row c.args.link c.args.to)).1)
+    ∙ sym (set-behind-mapped (rows_under c.self.inside.rows keys) c.args.dart c.place.result (λ (row : List ℕ). set row c.args.link c.args.to) c.place.ensures.place))

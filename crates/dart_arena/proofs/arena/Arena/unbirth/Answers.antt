@@ -1,55 +1,79 @@
-use Rattle.std.proofs.Common.{◌≡◌, ℕ, ◌+◌, ◌-◌, ◌*◌, ◌<◌, Bool, true, false, List, ◌∷◌, length, get_or, take, Option, None, refl, sym, ap, ◌∙◌, arith}
-use Rattle.std.specs.Prelude.{vec_len}
+use Rattle.std.proofs.Common.{◌≡◌, ◌≢◌, ℕ, ◌+◌, ◌-◌, ◌<◌, List, ◌∷◌, length, get_or, Option, None, is_some, IsSome, refl, sym, ap, ◌∙◌, arith}
 use Rattle.std.proofs.lemmas.List.{length-take-le}
-use Rattle.dart_arena.specs.Table.{rows_of}
-use Rattle.dart_arena.proofs.RowLemmas.{take_behind, same-stock}
-use Rattle.dart_arena.proofs.TableLemmas.{rows-length, rows-taken}
-use Rattle.dart_arena.proofs.TableSteps.{live-most, some-live, last-seen, live-seen, table-taken}
+use Rattle.dart_arena.specs.Layout.{keys_of, key_at, rows_under}
+use Rattle.dart_arena.proofs.RowLemmas.{row_behind, take_behind, same-stock}
+use Rattle.dart_arena.proofs.RowSize.{row-fits}
+use Rattle.dart_arena.proofs.SlotLemmas.{rows-length}
+use Rattle.dart_arena.proofs.Arranged.{last-seen}
+use Rattle.dart_arena.proofs.Stages.{seen-key, has-row, one-lives, after-unbirth}
 use Rattle.dart_arena.proofs.arena.Arena.unbirth.Goals as goal
+
+pub give_row-requires : goal.give_row-requires
+give_row-requires g c =
+    let keys : List ℕ = keys_of c.self.inside.places in
+    let rows : List (Option (List ℕ)) = rows_under c.self.inside.rows keys in
+    let p : ℕ = c.made.result - 1 in
+    let last : length c.args.self.now.rows - 1 ≡ length keys = rw (← c.self.view_is) (omega (arith, rows-length c.self.inside.rows keys)) in
+    let live = rw last at c.requires in
+    let there = rw (← c.self.view_is) at live in
+    let some : 0 < length keys = last-seen c.self.inside.rows keys there in
+    let is : length keys ≡ p + 1 = omega (arith, some, c.made.ensures) in
+    let seen : IsSome (get_or rows p None) = sym (ap is_some (row_behind rows (length keys) p (sym is))) ∙ there in
+    let key : key_at keys p ≢ 0 = seen-key c.self.inside.rows keys p seen in
+    rw c.key-key.ensures (row-fits g.row.DIM c.self.invariant.0, (key, has-row c.self.inside.places g.row.DIM c.self.inside.rows c.self.inside.count c.self.inside.spare c.self.inside.room c.self.invariant.1 p key))
+
+pub overflow_sub-self : goal.overflow_sub-self
+overflow_sub-self g c =
+    let keys : List ℕ = keys_of c.self.inside.places in
+    let rows : List (Option (List ℕ)) = rows_under c.self.inside.rows keys in
+    let p : ℕ = c.made.result - 1 in
+    let last : length c.args.self.now.rows - 1 ≡ length keys = rw (← c.self.view_is) (omega (arith, rows-length c.self.inside.rows keys)) in
+    let live = rw last at c.requires in
+    let there = rw (← c.self.view_is) at live in
+    let some : 0 < length keys = last-seen c.self.inside.rows keys there in
+    let is : length keys ≡ p + 1 = omega (arith, some, c.made.ensures) in
+    let seen : IsSome (get_or rows p None) = sym (ap is_some (row_behind rows (length keys) p (sym is))) ∙ there in
+    let key : key_at keys p ≢ 0 = seen-key c.self.inside.rows keys p seen in
+    one-lives c.self.inside.places g.row.DIM c.self.inside.rows c.self.inside.count c.self.inside.spare c.self.inside.room c.self.invariant.1 p key
 
 pub invariant_of-self : goal.invariant_of-self
 invariant_of-self g c =
-    let w : ℕ = g.row.DIM + 1 in
-    let es : List ℕ = c.self.inside.entries.items in
-    let bs : List Bool = c.self.inside.live.items in
-    let m : ℕ = c.len-made.result - 1 in
-    let table = c.self.invariant.1 in
-    let len = c.self.inside.live.ok.0 in
-    let last : length c.args.self.now.rows - 1 ≡ length bs = rw (← c.self.view_is) (omega (arith, rows-length w es bs)) in
+    let keys : List ℕ = keys_of c.self.inside.places in
+    let rows : List (Option (List ℕ)) = rows_under c.self.inside.rows keys in
+    let p : ℕ = c.made.result - 1 in
+    let last : length c.args.self.now.rows - 1 ≡ length keys = rw (← c.self.view_is) (omega (arith, rows-length c.self.inside.rows keys)) in
     let live = rw last at c.requires in
     let there = rw (← c.self.view_is) at live in
-    let some : 0 < length bs = last-seen w es bs there in
-    let is : length bs ≡ m + 1 = omega (arith, c.len-made.ensures) in
-    let flag : get_or bs m false ≡ true = sym (live-seen w es bs (length bs) m (sym is)) ∙ there in
-    let long : length es ≡ (m + 1) * w = table.long ∙ ap (λ (k : ℕ). k * w) is in
-    let fewer : c.truncate-2.new.self.items ≡ take (m * w) es = c.truncate-2.ensures.items ∙ ap (λ (k : ℕ). take k es) c.entries_of.ensures.entries in
-    let rows : vec_len c.truncate.new.self ≡ m = c.truncate.new.self.ok.0 ∙ ap length c.truncate.ensures.items ∙ length-take-le m bs (omega arith) in
-    let entries : vec_len c.truncate-2.new.self ≡ m * w = c.truncate-2.new.self.ok.0 ∙ ap length fewer ∙ length-take-le (m * w) es (omega arith) in (
+    let some : 0 < length keys = last-seen c.self.inside.rows keys there in
+    let is : length keys ≡ p + 1 = omega (arith, some, c.made.ensures) in
+    let seen : IsSome (get_or rows p None) = sym (ap is_some (row_behind rows (length keys) p (sym is))) ∙ there in
+    let key : key_at keys p ≢ 0 = seen-key c.self.inside.rows keys p seen in
+    let shorter : length keys - 1 ≡ p = omega (arith, is) in
+    let given = rw c.is_in_order.ensures at c.give_row.ensures in
+    let short = length-take-le p keys (omega (arith, is)) in
+    rw (c.pop.ensures.keys, c.pop.ensures.capacity, c.pop.ensures.order, shorter) (
       c.self.invariant.0,
-      rw (fewer, c.truncate.ensures.items) (table-taken w es bs c.self.inside.count table m is flag),
-      omega (arith, rows, c.truncate.ensures.capacity, c.self.invariant.2),
-      omega (arith, entries, c.truncate-2.ensures.capacity, c.self.invariant.3, long, c.self.inside.entries.ok.0),
+      (after-unbirth c.self.inside.places g.row.DIM c.self.inside.rows c.self.inside.count c.self.inside.spare c.self.inside.room c.self.invariant.1 c.give_row.new.rows c.key-key.result p key c.key-key.ensures is given).0,
+      omega (arith, short, is, c.self.invariant.2),
+      omega (arith, short, is, c.self.invariant.3),
     )
 
 pub returns : goal.returns
 returns g c =
-    let w : ℕ = g.row.DIM + 1 in
-    let es : List ℕ = c.self.inside.entries.items in
-    let bs : List Bool = c.self.inside.live.items in
-    let m : ℕ = c.len-made.result - 1 in
-    let table = c.self.invariant.1 in
-    let len = c.self.inside.live.ok.0 in
-    let last : length c.args.self.now.rows - 1 ≡ length bs = rw (← c.self.view_is) (omega (arith, rows-length w es bs)) in
+    let keys : List ℕ = keys_of c.self.inside.places in
+    let rows : List (Option (List ℕ)) = rows_under c.self.inside.rows keys in
+    let p : ℕ = c.made.result - 1 in
+    let last : length c.args.self.now.rows - 1 ≡ length keys = rw (← c.self.view_is) (omega (arith, rows-length c.self.inside.rows keys)) in
     let live = rw last at c.requires in
     let there = rw (← c.self.view_is) at live in
-    let some : 0 < length bs = last-seen w es bs there in
-    let is : length bs ≡ m + 1 = omega (arith, c.len-made.ensures) in
-    let flag : get_or bs m false ≡ true = sym (live-seen w es bs (length bs) m (sym is)) ∙ there in
-    let fewer : c.truncate-2.new.self.items ≡ take (m * w) es = c.truncate-2.ensures.items ∙ ap (λ (k : ℕ). take k es) c.entries_of.ensures.entries in
-    let rows : vec_len c.truncate.new.self ≡ m = c.truncate.new.self.ok.0 ∙ ap length c.truncate.ensures.items ∙ length-take-le m bs (omega arith) in
-    let most = live-most w es bs c.self.inside.count table in
-    let one = some-live w es bs c.self.inside.count table m flag in
-    rw (← c.self.view_is, fewer, c.truncate.ensures.items)
+    let some : 0 < length keys = last-seen c.self.inside.rows keys there in
+    let is : length keys ≡ p + 1 = omega (arith, some, c.made.ensures) in
+    let seen : IsSome (get_or rows p None) = sym (ap is_some (row_behind rows (length keys) p (sym is))) ∙ there in
+    let key : key_at keys p ≢ 0 = seen-key c.self.inside.rows keys p seen in
+    let shorter : length keys - 1 ≡ p = omega (arith, is) in
+    let given = rw c.is_in_order.ensures at c.give_row.ensures in
+    rw (← c.self.view_is, c.pop.ensures.keys, shorter)
     (same-stock _ _ _ _ _ _
-    (ap (λ (rest : List (Option (List ℕ))). let one : List (Option (List ℕ)) = None ∷ rest in one) (rows-taken w m es bs)
-    ∙ sym (take_behind (rows_of w es bs) _ m (omega (arith, rows-length w es bs)))) refl (omega arith))
+    (ap (λ (rest : List (Option (List ℕ))). let one : List (Option (List ℕ)) = None ∷ rest in one)
+    (after-unbirth c.self.inside.places g.row.DIM c.self.inside.rows c.self.inside.count c.self.inside.spare c.self.inside.room c.self.invariant.1 c.give_row.new.rows c.key-key.result p key c.key-key.ensures is given).1
+    ∙ sym (take_behind rows _ p (omega (arith, is, rows-length c.self.inside.rows keys)))) refl refl)

@@ -1,7 +1,7 @@
-use Rattle.std.proofs.Common.{◌≡◌, ℕ, ◌+◌, [], max, refl, ap, sym, subst, ◌∙◌, arith}
+use Rattle.std.proofs.Common.{◌≡◌, ℕ, ◌+◌, ◌≤◌, [], max, refl, ap, sym, subst, ◌∙◌, arith}
 use Rattle.std.proofs.lemmas.Result.{err_from_is_err_and}
-use Rattle.map_defs.specs.Rows.{Rows, made}
-use Rattle.map_defs.specs.Edits.{Edit, after_edit}
+use Rattle.map_defs.specs.Rows.{Rows, made, live_count}
+use Rattle.map_defs.specs.Edits.{Edit, after_edit, IsLed}
 use Rattle.label_laws.specs.Contents.{content_of}
 use Rattle.label_laws.specs.Maps.{IsStoredMap}
 use Rattle.label_laws.proofs.Making.{bear-stored, bear-content}
@@ -9,6 +9,7 @@ use Rattle.label_laws.proofs.Same.{content-alike}
 use Rattle.label_laws.proofs.LineSteps.{stored-grown}
 use Rattle.valued_map.specs.Told.{IsStep, finished}
 use Rattle.valued_map.proofs.Edited.{bear-step}
+use Rattle.valued_map.proofs.Places.{places-after, room-after}
 use Rattle.valued_map.proofs.map.ValuedMap.bear.Goals as goal
 
 pub invariant_of-self-in_err-grow : goal.invariant_of-self-in_err-grow
@@ -80,3 +81,29 @@ returns-clause-step g c =
     rw (← c.self.view_is, c.finish_step.ensures, c.new.ensures.items, c.new-2.ensures.items)
     (subst (λ (r : Rows). IsStep c.args.asked (content_of k n rows c.self.inside.labels c.self.inside.pool c.self.inside.rules) (content_of k n r c.grow.new.self c.self.inside.pool c.self.inside.rules) (finished c.in_ok-draft.draft [] [])) (sym is)
     (bear-step k n rows e c.self.inside.labels c.self.inside.pool c.self.inside.rules c.self.invariant fits few laws c.args.asked c.in_ok-draft.draft begun c.grow.new.self c.grow.ensures.ids c.grow.ensures.places grown born.0 born.1))
+
+pub returns-clause-places_stay : goal.returns-clause-places_stay
+returns-clause-places_stay g c =
+    let k = g.K.Kind.kind in
+    let n : ℕ = g.row.DIM in
+    let rows : Rows = c.self.inside.links.rows in
+    let e : Edit = c.args.edit.now in
+    let fits = rw (← c.self.view_is) at c.requires.fits in
+    let few = rw (← c.self.view_is) at c.requires.few in
+    let is : c.apply.new.self.rows ≡ after_edit n e rows = c.apply.ensures.rows ∙ ap (after_edit n e) c.reserve.ensures.rows in
+    let led : IsLed k n e rows c.apply.new.self.rows = record { begun = c.self.invariant.begun; sound = c.self.invariant.sound; fits = fits; few = few; after = sym is } in
+    let sum = places-after k n e rows c.apply.new.self.rows led c.reserve.new.self.room c.apply.new.self.room c.apply.ensures.room in
+    let more : live_count rows + c.self.inside.links.room ≤ live_count c.apply.new.self.rows + c.apply.new.self.room = omega (arith, sum, c.reserve.ensures.room_stays) in
+    rw (← c.self.view_is) more
+
+pub returns-clause-room : goal.returns-clause-room
+returns-clause-room g c =
+    let k = g.K.Kind.kind in
+    let n : ℕ = g.row.DIM in
+    let rows : Rows = c.self.inside.links.rows in
+    let e : Edit = c.args.edit.now in
+    let fits = rw (← c.self.view_is) at c.requires.fits in
+    let few = rw (← c.self.view_is) at c.requires.few in
+    let is : c.apply.new.self.rows ≡ after_edit n e rows = c.apply.ensures.rows ∙ ap (after_edit n e) c.reserve.ensures.rows in
+    let led : IsLed k n e rows c.apply.new.self.rows = record { begun = c.self.invariant.begun; sound = c.self.invariant.sound; fits = fits; few = few; after = sym is } in
+    rw (← c.self.view_is) (room-after k n e rows c.apply.new.self.rows led c.reserve.new.self.room c.apply.new.self.room c.apply.ensures.room)

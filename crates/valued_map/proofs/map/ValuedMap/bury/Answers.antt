@@ -1,12 +1,14 @@
-use Rattle.std.proofs.Common.{ℕ, List, [], ◌∷◌, IsTrue, ap, sym, subst, ◌∙◌}
-use Rattle.map_defs.specs.Rows.{Rows, IsLive, made}
+use Rattle.std.proofs.Common.{ℕ, ◌+◌, ◌≤◌, arith, List, [], ◌∷◌, IsTrue, ap, sym, subst, ◌∙◌}
+use Rattle.map_defs.specs.Rows.{Rows, IsLive, made, made_max, live_count}
+use Rattle.map_defs.specs.Edits.{Edit, IsLed}
 use Rattle.machine_defs.specs.Difference.{ValueChange}
-use Rattle.edit_laws.proofs.EditPlain.{death_edit}
+use Rattle.edit_laws.proofs.EditPlain.{death_edit, death-fits}
 use Rattle.label_laws.specs.Contents.{content_of}
 use Rattle.label_laws.specs.Maps.{IsStoredMap}
 use Rattle.label_laws.proofs.Making.{end-stored, end-content}
 use Rattle.valued_map.specs.Told.{IsStep, IsBegun, finished, AreOldValues, IsRelabelledPlace}
 use Rattle.valued_map.proofs.Edited.{end-step}
+use Rattle.valued_map.proofs.Places.{places-after, room-after}
 use Rattle.valued_map.proofs.map.ValuedMap.bury.Goals as goal
 
 pub invariant_of-self : goal.invariant_of-self
@@ -51,3 +53,35 @@ returns-clause-step g c =
     (subst (λ (r : Rows). IsStep c.args.asked (content_of k n rows c.self.inside.labels c.self.inside.pool c.self.inside.rules) (content_of k n r c.end_ids.new.labels c.end_ids.new.pool c.self.inside.rules) (finished c.in_ok-draft.draft values [])) (sym is)
     (end-step k n rows c.args.dart c.self.inside.labels c.end_ids.new.labels c.self.inside.pool c.end_ids.new.pool c.self.inside.rules c.self.invariant live alone taken
     c.args.asked c.in_ok-draft.draft begun c.in_ok-olds.olds.items values old c.new_values-values.ensures))
+
+pub returns-clause-places_stay : goal.returns-clause-places_stay
+returns-clause-places_stay g c =
+    let k = g.K.Kind.kind in
+    let n : ℕ = g.row.DIM in
+    let rows : Rows = c.self.inside.links.rows in
+    let e : Edit = death_edit c.args.dart in
+    let is = rw (c.in_ok-vec.ensures.items, c.new.ensures.items) at c.apply.ensures.rows in
+    let room = rw (c.in_ok-vec.ensures.items) at c.apply.ensures.room in
+    let live : IsLive rows c.args.dart = rw (← c.self.view_is) at c.requires.live in
+    let alone = rw (← c.self.view_is) at c.requires.alone in
+    let s = c.self.invariant in
+    let few : made rows + 0 ≤ made_max = let small = s.sound.few in omega arith in
+    let led : IsLed k n e rows c.apply.new.self.rows = record { begun = s.begun; sound = s.sound; fits = death-fits k n rows c.args.dart s.sound live alone; few = few; after = sym is } in
+    let sum = places-after k n e rows c.apply.new.self.rows led c.self.inside.links.room c.apply.new.self.room room in
+    let more : live_count rows + c.self.inside.links.room ≤ live_count c.apply.new.self.rows + c.apply.new.self.room = omega (arith, sum) in
+    rw (← c.self.view_is) more
+
+pub returns-clause-room : goal.returns-clause-room
+returns-clause-room g c =
+    let k = g.K.Kind.kind in
+    let n : ℕ = g.row.DIM in
+    let rows : Rows = c.self.inside.links.rows in
+    let e : Edit = death_edit c.args.dart in
+    let is = rw (c.in_ok-vec.ensures.items, c.new.ensures.items) at c.apply.ensures.rows in
+    let room = rw (c.in_ok-vec.ensures.items) at c.apply.ensures.room in
+    let live : IsLive rows c.args.dart = rw (← c.self.view_is) at c.requires.live in
+    let alone = rw (← c.self.view_is) at c.requires.alone in
+    let s = c.self.invariant in
+    let few : made rows + 0 ≤ made_max = let small = s.sound.few in omega arith in
+    let led : IsLed k n e rows c.apply.new.self.rows = record { begun = s.begun; sound = s.sound; fits = death-fits k n rows c.args.dart s.sound live alone; few = few; after = sym is } in
+    rw (← c.self.view_is) (room-after k n e rows c.apply.new.self.rows led c.self.inside.links.room c.apply.new.self.room room)

@@ -1,6 +1,6 @@
-use Rattle.std.proofs.Common.{ℕ, List, Option, sym, subst}
-use Rattle.map_defs.specs.Rows.{Rows}
-use Rattle.map_defs.specs.Edits.{Edit, after_edit}
+use Rattle.std.proofs.Common.{ℕ, ◌+◌, ◌≤◌, arith, List, Option, sym, subst}
+use Rattle.map_defs.specs.Rows.{Rows, live_count}
+use Rattle.map_defs.specs.Edits.{Edit, after_edit, IsLed}
 use Rattle.map_defs.specs.Values.{Rule}
 use Rattle.machine_defs.specs.Difference.{ValueChange, RuleChange}
 use Rattle.machine_defs.specs.Dualling.{IsDualOf}
@@ -8,6 +8,7 @@ use Rattle.label_laws.specs.Contents.{content_of}
 use Rattle.label_laws.specs.Maps.{IsStoredMap}
 use Rattle.valued_map.specs.Told.{IsStep, finished}
 use Rattle.valued_map.proofs.Dualled.{plain-few, plain-long, plain-live, plain-sound, dual-stored, dual-shown, dual-step}
+use Rattle.valued_map.proofs.Places.{places-after, room-after}
 use Rattle.valued_map.proofs.map.ValuedMap.dual_by.Goals as goal
 
 pub invariant_of-self : goal.invariant_of-self
@@ -76,3 +77,29 @@ returns-clause-step g c =
     (subst (λ (rs : List (Option Rule)). IsStep c.args.asked (content_of k n rows c.self.inside.labels c.self.inside.pool rules) (content_of k n (after_edit n e rows) c.turn_labels.new.labels c.self.inside.pool rs) (finished c.in_ok-draft.draft values changes)) (sym c.turn_rules.ensures)
     (dual-step k n rows e c.self.inside.labels c.turn_labels.new.labels c.self.inside.pool rules s fits few laws able dual long live sound c.turn_labels.ensures c.args.asked c.in_ok-draft.draft begun
     values differing changes c.in_ok-rules.ensures)))
+
+pub returns-clause-places_stay : goal.returns-clause-places_stay
+returns-clause-places_stay g c =
+    let k = g.K.Kind.kind in
+    let n : ℕ = g.row.DIM in
+    let rows : Rows = c.self.inside.links.rows in
+    let e : Edit = c.args.edit.now in
+    let fits = rw (← c.self.view_is) at c.requires.fits in
+    let s = c.self.invariant in
+    let few = plain-few k n rows e s.begun s.sound fits c.requires.births c.requires.deaths in
+    let led : IsLed k n e rows c.apply.new.self.rows = record { begun = s.begun; sound = s.sound; fits = fits; few = few; after = sym c.apply.ensures.rows } in
+    let sum = places-after k n e rows c.apply.new.self.rows led c.self.inside.links.room c.apply.new.self.room c.apply.ensures.room in
+    let more : live_count rows + c.self.inside.links.room ≤ live_count c.apply.new.self.rows + c.apply.new.self.room = omega (arith, sum) in
+    rw (← c.self.view_is) more
+
+pub returns-clause-room : goal.returns-clause-room
+returns-clause-room g c =
+    let k = g.K.Kind.kind in
+    let n : ℕ = g.row.DIM in
+    let rows : Rows = c.self.inside.links.rows in
+    let e : Edit = c.args.edit.now in
+    let fits = rw (← c.self.view_is) at c.requires.fits in
+    let s = c.self.invariant in
+    let few = plain-few k n rows e s.begun s.sound fits c.requires.births c.requires.deaths in
+    let led : IsLed k n e rows c.apply.new.self.rows = record { begun = s.begun; sound = s.sound; fits = fits; few = few; after = sym c.apply.ensures.rows } in
+    rw (← c.self.view_is) (room-after k n e rows c.apply.new.self.rows led c.self.inside.links.room c.apply.new.self.room c.apply.ensures.room)

@@ -1,6 +1,6 @@
-use Rattle.std.proofs.Common.{◌≡◌, ℕ, ◌+◌, ◌<◌, List, [], length, max, Option, refl, ap, sym, subst, ◌∙◌, lit<, arith}
+use Rattle.std.proofs.Common.{◌≡◌, ℕ, ◌+◌, ◌≤◌, ◌<◌, List, [], length, max, Option, refl, ap, sym, subst, ◌∙◌, lit<, arith}
 use Rattle.std.proofs.lemmas.Result.{err_from_is_err_and}
-use Rattle.map_defs.specs.Rows.{Rows, IsLive, links_of, made}
+use Rattle.map_defs.specs.Rows.{Rows, IsLive, links_of, made, live_count}
 use Rattle.map_defs.specs.Edits.{Edit, IsLed, after_edit}
 use Rattle.map_defs.specs.Values.{Rule}
 use Rattle.machine_defs.specs.Difference.{ValueChange}
@@ -15,6 +15,7 @@ use Rattle.label_laws.proofs.Same.{carried-pool, content-alike}
 use Rattle.valued_map.specs.Told.{IsStep, finished}
 use Rattle.label_laws.proofs.LineSteps.{stored-grown}
 use Rattle.valued_map.proofs.Edited.{relink-step}
+use Rattle.valued_map.proofs.Places.{places-after, room-after}
 use Rattle.valued_map.proofs.map.ValuedMap.relink.Goals as goal
 
 pub invariant_of-self-in_err-grow : goal.invariant_of-self-in_err-grow
@@ -186,3 +187,29 @@ returns-in-Err-clause-err g c =
     rw (← c.self.view_is)
     (ap (λ (r : Rows). content_of k n r c.grow.new.self c.moved.new.pool rules) (c.reverse.ensures.back rows here)
     ∙ content-alike k n rows c.self.inside.labels c.grow.new.self c.self.inside.pool c.moved.new.pool rules c.grow.ensures.ids c.moved.ensures.slots)
+
+pub returns-in-Ok-clause-places_stay : goal.returns-in-Ok-clause-places_stay
+returns-in-Ok-clause-places_stay g c =
+    let k = g.K.Kind.kind in
+    let n : ℕ = g.row.DIM in
+    let rows : Rows = c.self.inside.links.rows in
+    let e : Edit = c.args.edit.now in
+    let fits = rw (← c.self.view_is) at c.requires.fits in
+    let few = rw (← c.self.view_is) at c.requires.few in
+    let is : c.apply.new.self.rows ≡ after_edit n e rows = c.apply.ensures.rows ∙ ap (after_edit n e) c.reserve.ensures.rows in
+    let led : IsLed k n e rows c.apply.new.self.rows = record { begun = c.self.invariant.begun; sound = c.self.invariant.sound; fits = fits; few = few; after = sym is } in
+    let sum = places-after k n e rows c.apply.new.self.rows led c.reserve.new.self.room c.apply.new.self.room c.apply.ensures.room in
+    let more : live_count rows + c.self.inside.links.room ≤ live_count c.apply.new.self.rows + c.apply.new.self.room = omega (arith, sum, c.reserve.ensures.room_stays) in
+    rw (← c.self.view_is) more
+
+pub returns-in-Ok-clause-room : goal.returns-in-Ok-clause-room
+returns-in-Ok-clause-room g c =
+    let k = g.K.Kind.kind in
+    let n : ℕ = g.row.DIM in
+    let rows : Rows = c.self.inside.links.rows in
+    let e : Edit = c.args.edit.now in
+    let fits = rw (← c.self.view_is) at c.requires.fits in
+    let few = rw (← c.self.view_is) at c.requires.few in
+    let is : c.apply.new.self.rows ≡ after_edit n e rows = c.apply.ensures.rows ∙ ap (after_edit n e) c.reserve.ensures.rows in
+    let led : IsLed k n e rows c.apply.new.self.rows = record { begun = c.self.invariant.begun; sound = c.self.invariant.sound; fits = fits; few = few; after = sym is } in
+    rw (← c.self.view_is) (room-after k n e rows c.apply.new.self.rows led c.reserve.new.self.room c.apply.new.self.room c.apply.ensures.room)

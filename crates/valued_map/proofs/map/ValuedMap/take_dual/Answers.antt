@@ -1,8 +1,7 @@
-use Rattle.std.proofs.Common.{◌≡◌, Err, sym, ap, subst, ◌∙◌}
+use Rattle.std.proofs.Common.{Err, sym, ap, subst, ◌∙◌}
 use Rattle.std.proofs.lemmas.Result.{err_from_is_err_and}
 use Rattle.map_defs.specs.Rows.{Rows}
 use Rattle.label_laws.specs.Maps.{IsStoredMap}
-use Rattle.valued_map.specs.TakingDual.{BecomesDual}
 use Rattle.valued_map.proofs.Dualled.{dual-unmade, dual-untold, dual-stored, dual-shown, dual-stays}
 use Rattle.valued_map.proofs.map.ValuedMap.take_dual.Goals as goal
 

@@ -1,0 +1,6 @@
+use Rattle.std.proofs.Common.{◌≡◌, ℕ, ◌+◌, ◌-◌, ◌<◌, length, get_or}
+use Rattle.dart_arena.proofs.row.Row.reverse.Given as goal
+
+abbrev pub invariant-loop-link : goal.invariant-loop-link
+invariant-loop-link g l =
+    (length l.turned ≡ g.row.DIM + 1) × ((j : ℕ) → j < l.link → get_or l.turned j 0 ≡ get_or l.self (g.row.DIM - j) 0)

@@ -1,0 +1,75 @@
+//! Rows of darts that ended are used again, and darts that come back have rows: a map is driven over that point within
+//! marks, and taken back.
+use crate::lines::{Line, Wanted, check_lines};
+use attr_rules::FirstCopy;
+use map_core::Map;
+use map_kind::{Alpha, Value};
+use std::alloc::{AllocError, Global};
+use std::process::Abort;
+use std::test::Fail;
+
+const POINT: Value = Value { a: 1, b: 2, c: 3 };
+
+/// A triangle with a value.
+#[rattlefmt::skip]
+const SMALL: [(Line, Wanted); 3] = [
+    (Line::Polygon { sides: 3 }, Wanted::Made { first: 1, count: 6 }),
+    (Line::Rule { dim: 2, merge: "first", split: "copy" }, Wanted::Done),
+    (Line::Set { dim: 2, dart: 1, value: POINT }, Wanted::Done),
+];
+
+/// Within a mark a polygon with a value, of so many darts that their rows are used again once they end.
+#[rattlefmt::skip]
+const LARGE: [(Line, Wanted); 4] = [
+    (Line::Mark { name: "small" }, Wanted::Done),
+    (Line::Polygon { sides: 2_100 }, Wanted::Made { first: 7, count: 4_200 }),
+    (Line::Set { dim: 2, dart: 7, value: POINT }, Wanted::Done),
+    (Line::Mark { name: "large" }, Wanted::Done),
+];
+
+/// The polygon ends, and what is born then stands in its rows, until all is taken back.
+#[rattlefmt::skip]
+const AGAIN: [(Line, Wanted); 5] = [
+    (Line::Remove { dim: 2, dart: 7 }, Wanted::Done),
+    (Line::Polygon { sides: 3 }, Wanted::Made { first: 4_207, count: 6 }),
+    (Line::Sew { link: 2, dart: 1, other: 4_207 }, Wanted::Done),
+    (Line::Set { dim: 2, dart: 4_207, value: POINT }, Wanted::Done),
+    (Line::Undo { name: "large" }, Wanted::Done),
+];
+
+const BACK: [(Line, Wanted); 1] = [(Line::Undo { name: "small" }, Wanted::Done)];
+
+/// All darts, links and values, as a text.
+fn whole(alloc: Global, map: &Map<'_, Alpha, FirstCopy, 2>) -> Result<String, AllocError> {
+    let listing = map.listing(alloc)?;
+    format!(in alloc; "{listing:?}")
+}
+
+/// Obeys lines, and compares what stands then.
+fn check_whole(
+    rt: &impl Abort,
+    alloc: Global,
+    map: &mut Map<'_, Alpha, FirstCopy, 2>,
+    rows: &[(Line, Wanted)],
+    wanted: &str,
+) -> Result<(), AllocError> {
+    check_lines(rt, alloc, map, rows);
+    let found = whole(alloc, map)?;
+    assert!(rt; found.as_str() == wanted);
+    Ok(())
+}
+
+#[test]
+fn goes_back_over_rows_that_were_used_again(rt: HostRuntime) -> Result<(), Fail> {
+    let alloc = rt.alloc();
+    let mut map = Map::<'_, Alpha, FirstCopy, 2>::new(alloc, &FirstCopy);
+    check_lines(&rt, alloc, &mut map, &SMALL);
+    let small = whole(alloc, &map)?;
+    check_lines(&rt, alloc, &mut map, &LARGE);
+    let large = whole(alloc, &map)?;
+    // The second time the darts come back to rows that others had.
+    check_whole(&rt, alloc, &mut map, &AGAIN, &large)?;
+    check_whole(&rt, alloc, &mut map, &AGAIN, &large)?;
+    check_whole(&rt, alloc, &mut map, &BACK, &small)?;
+    Ok(())
+}
