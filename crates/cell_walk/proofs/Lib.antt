@@ -3,6 +3,7 @@ mod ComponentDarts
 mod Counting
 pub mod FoundDarts
 mod ListedCells
+mod OnWays
 mod RowSteps
 pub mod SeenDarts
 mod SinceDarts

@@ -15,7 +15,7 @@ through_second-none rows None h = refl
 through_second-none rows (Some j) h = ap (λ row. entry_of row j) h
 
 -- the darts of old stay where they stood
-Contains-before : (old new : List ℕ) → take (length old) new ≡ old → (y : ℕ) → Contains old y → Contains new y
+pub Contains-before : (old new : List ℕ) → take (length old) new ≡ old → (y : ℕ) → Contains old y → Contains new y
 Contains-before old new before y has =
     let longer : length old ≤ length new = omega (arith, length-take (length old) new, ap length before) in
     (has.0, omega (arith, has.1, longer), sym (get_or-take (length old) new has.0 y has.1) ∙ ap (λ xs. get_or xs has.0 y) before ∙ has.2)

@@ -2,3 +2,4 @@ pub mod Visits
 pub mod Surveys
 pub mod Marks
 pub mod CellLists
+pub mod Ways

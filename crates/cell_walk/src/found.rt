@@ -1,4 +1,4 @@
-ghost use Rattle.std.specs.Prelude.{◌≡◌, ℕ, ◌≤◌, ◌<◌, ◌↔◌, [], ◌∷◌, ◌++◌, length, take, slice_index, Contains, IsTrue, IfOk, OnOk};
+ghost use Rattle.std.specs.Prelude.{◌≡◌, ℕ, ◌≤◌, ◌<◌, ◌^◌, ◌↔◌, [], ◌∷◌, ◌++◌, length, take, slice_index, Contains, IsTrue, IfOk, OnOk};
 ghost use Rattle.std.specs.List.Sorted.{IsStrictlyIncreasing};
 ghost use Rattle.cell_walk.specs.Visits.{IsDartAdded};
 
@@ -76,11 +76,12 @@ impl<S: Seen> Found<S> {
         self.put(dart)
     }
 
-    /// Adds a dart that was not found before.
+    /// Adds a dart that was not found before. There are never more than a vector can hold.
     #[inline(always)]
     pub(crate) fn put(&mut self, dart: Dart) -> Result<(), AllocError>
         requires { Contains self.old dart → ⊥ }
-        ensures { OnOk result (self.new ≡ self.old ++ dart ∷ []) }
+        ensures added { OnOk result (self.new ≡ self.old ++ dart ∷ []) }
+        ensures few { OnOk result (length self.new < 2 ^ 64) }
     {
         make_room(&mut self.darts)?;
         self.seen.insert(dart)?;

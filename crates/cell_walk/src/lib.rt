@@ -8,6 +8,7 @@ mod search;
 mod seen;
 #[cfg(test)]
 mod tests;
+mod ways;
 mod whole_map;
 
 pub use one_cell::{cell, cells_of, least, same};

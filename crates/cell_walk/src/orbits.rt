@@ -8,6 +8,7 @@ ghost use Rattle.cell_walk.specs.CellLists.{AreOrbitsOf, lists_of};
 
 use crate::found::Found;
 use crate::seen::{Few, Seen};
+use crate::ways::{go_round, ways_along};
 use link_rows::Links;
 use map_kind::{Dart, Kind, LinkWord};
 use std::alloc::{AllocError, Global};
@@ -87,6 +88,25 @@ pub(crate) fn walk<S: Seen, K: Kind, const DIM: usize>(
         → Contains found.new y ↔ (Contains found.old y ⊎ InOrbit (Leads (links_of links.now.rows) (Contains words.now)) dart y)) }
     ensures before { OnOk result (take (length found.old) found.new ≡ found.old) }
 {
+    match ways_along::<K>(words) {
+        Some(ways) => go_round(links, ways, dart, found),
+        None => spread(links, words, dart, found),
+    }
+}
+
+/// Finds the orbit of a dart by looking where all words lead from each dart that is found.
+fn spread<S: Seen, K: Kind, const DIM: usize>(
+    links: &Links<K, DIM>,
+    words: &[LinkWord],
+    dart: Dart,
+    found: &mut Found<S>,
+) -> Result<(), AllocError>
+    requires within { All (IsWithin DIM) words.now }
+    requires closed { IsClosed (Leads (links_of links.now.rows) (Contains words.now)) found.old }
+    ensures members { OnOk result ((y : ℕ)
+        → Contains found.new y ↔ (Contains found.old y ⊎ InOrbit (Leads (links_of links.now.rows) (Contains words.now)) dart y)) }
+    ensures before { OnOk result (take (length found.old) found.new ≡ found.old) }
+{
     let mut next = found.len();
     found.add(dart)?;
     while next < found.len() {
@@ -134,7 +154,7 @@ fn step<S: Seen, K: Kind, const DIM: usize>(
 
 /// The dart to which a word leads; none exactly where a link on its way is free.
 #[inline(always)]
-fn follow<K: Kind, const DIM: usize>(
+pub(crate) fn follow<K: Kind, const DIM: usize>(
     links: &Links<K, DIM>,
     word: LinkWord,
     dart: Dart,

@@ -9,4 +9,4 @@ pub returns : goal.returns
 returns g c = on_ok_weaker c.put.result
     (λ added. visited-added (links_of c.args.links.now.rows) c.args.word c.args.dart c.in-Some.reached c.args.found.now c.put.new.self (sym c.in-Some.ensures.leads) (λ none. false≢true (sym (c.in-Some.ensures.free.1 (sym c.in-Some.ensures.leads ∙ none))))
     (inr (λ known. false≢true (sym c.if-contains.false ∙ c.contains.ensures.1 known), added)))
-    c.put.ensures
+    c.put.ensures.added

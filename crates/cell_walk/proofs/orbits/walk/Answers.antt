@@ -1,22 +1,23 @@
 use Rattle.std.proofs.Common.{Contains, arith}
+use Rattle.std.proofs.lemmas.Result.{on_ok_weaker}
 use Rattle.map_defs.specs.Rows.{links_of}
-use Rattle.cell_walk.proofs.Walks.{walked-none, walked-more, walked-all}
+use Rattle.cell_walk.specs.Ways.{IsEither}
+use Rattle.cell_walk.proofs.OnWays.{closed-alike, round-alike, within-alike}
 use Rattle.cell_walk.proofs.orbits.walk.Goals as goal
 
-pub loop-next-init : goal.loop-next-init
-loop-next-init g c =
-    rw c.len-next.ensures
-    (walked-none (links_of c.args.links.now.rows) (Contains c.args.words.now) c.args.dart c.args.found.now c.add.new.self c.in_ok-add.ensures)
+pub go_round-requires : goal.go_round-requires
+go_round-requires g c = (
+  omega arith,
+  (
+    within-alike g.row.DIM c.args.words.now (IsEither c.in-Some.ways.forth.next c.in-Some.ways.back.next) c.in-Some.ensures.same c.requires.within,
+    (
+      c.in-Some.ensures.turns,
+      closed-alike (links_of c.args.links.now.rows) (Contains c.args.words.now) (IsEither c.in-Some.ways.forth.next c.in-Some.ways.back.next) c.in-Some.ensures.same c.args.found.now c.requires.closed,
+    ),
+  ),
+)
 
-pub loop-next-preserved : goal.loop-next-preserved
-loop-next-preserved g c =
-    walked-more (links_of c.args.links.now.rows) (Contains c.args.words.now) c.args.dart c.args.found.now c.loop-next.next c.at.result c.loop-next.found c.visit.new.found
-    (omega (arith, c.len.ensures)) c.at.ensures c.requires.closed c.loop-next.invariant c.in_ok-visit.ensures
-
-pub returns-clause-members : goal.returns-clause-members
-returns-clause-members g c =
-    walked-all (links_of c.args.links.now.rows) (Contains c.args.words.now) c.args.dart c.args.found.now c.loop-next.next c.loop-next.found
-    (omega (arith, c.len.ensures)) c.requires.closed c.loop-next.invariant
-
-pub returns-clause-before : goal.returns-clause-before
-returns-clause-before g c = c.loop-next.invariant.before
+pub returns-in-Some-clause-members : goal.returns-in-Some-clause-members
+returns-in-Some-clause-members g c = on_ok_weaker c.go_round.result
+    (λ found. round-alike (links_of c.args.links.now.rows) (Contains c.args.words.now) (IsEither c.in-Some.ways.forth.next c.in-Some.ways.back.next) c.in-Some.ensures.same c.args.dart c.args.found.now c.go_round.new.found found)
+    c.go_round.ensures.members

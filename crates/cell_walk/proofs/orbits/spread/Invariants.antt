@@ -1,7 +1,7 @@
 use Rattle.std.proofs.Common.{◌-◌, Contains}
 use Rattle.map_defs.specs.Rows.{links_of}
 use Rattle.cell_walk.proofs.Walks.{IsWalked}
-use Rattle.cell_walk.proofs.orbits.walk.Given as goal
+use Rattle.cell_walk.proofs.orbits.spread.Given as goal
 
 abbrev pub invariant-loop-next : goal.invariant-loop-next
 invariant-loop-next g l = IsWalked (links_of l.links.rows) (Contains l.words) l.fn.dart l.fn.found l.next l.found

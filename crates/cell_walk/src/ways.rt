@@ -1,0 +1,156 @@
+//! Orbits that are paths or rings: walks in which two words take turns.
+ghost use Rattle.std.specs.Prelude.{◌≡◌, ◌≢◌, ℕ, ◌↔◌, ◌⊎◌, length, take, Contains, IfSome, IfNone, OnOk};
+ghost use Rattle.map_defs.specs.Rows.{links_of};
+ghost use Rattle.map_defs.specs.LinkWords.{LinkWord as MapWord, through, inverse_word, IsWithin};
+ghost use Rattle.map_defs.specs.Cells.{InOrbit, Leads};
+ghost use Rattle.cell_walk.specs.Visits.{IsClosed};
+ghost use Rattle.cell_walk.specs.Ways.{IsEither, AreWays, IsFollowed};
+
+use crate::found::Found;
+use crate::orbits::follow;
+use crate::seen::Seen;
+use link_rows::Links;
+use map_kind::{Dart, Kind, LinkWord};
+use std::alloc::AllocError;
+
+/// Two words that a walk follows in turn, `next` first.
+#[derive(Clone, Copy)]
+pub(crate) struct Way {
+    pub(crate) next: LinkWord,
+    pub(crate) after: LinkWord,
+}
+
+impl Way {
+    /// The way on from the dart to which `next` leads.
+    fn turned(self) -> Self
+        ensures { result ≡ record { next = self.after; after = self.next } }
+    {
+        Way {
+            next: self.after,
+            after: self.next,
+        }
+    }
+}
+
+/// The two ways out of a dart.
+#[derive(Clone, Copy)]
+pub(crate) struct Ways {
+    pub(crate) forth: Way,
+    pub(crate) back: Way,
+}
+
+/// The ways along two words where each dart's words are one that leads back and one that leads on: the words are inverse to
+/// each other, or each to itself. Then orbits are paths and rings, such as the cells of a surface.
+pub(crate) fn ways_along<K: Kind>(words: &[LinkWord]) -> Option<Ways>
+    ensures same { IfSome result (λ ways. (w : MapWord)
+        → Contains words.now w ↔ IsEither ways.forth.next ways.back.next w) }
+    ensures turns { IfSome result (λ ways.
+        AreWays K.kind ways.forth.next ways.forth.after ways.back.next ways.back.after) }
+{
+    let (one, other) = match words {
+        [one, other] => (*one, *other),
+        _ => return None,
+    };
+    if inverse_word::<K>(one) == other {
+        return Some(Ways {
+            forth: Way {
+                next: one,
+                after: one,
+            },
+            back: Way {
+                next: other,
+                after: other,
+            },
+        });
+    }
+    if inverse_word::<K>(one) != one || inverse_word::<K>(other) != other {
+        return None;
+    }
+    Some(Ways {
+        forth: Way {
+            next: one,
+            after: other,
+        },
+        back: Way {
+            next: other,
+            after: one,
+        },
+    })
+}
+
+/// The word that leads back along a word.
+fn inverse_word<K: Kind>(word: LinkWord) -> LinkWord
+    ensures { result ≡ inverse_word K.kind word }
+{
+    let last = K::inverse(word.first);
+    match word.second {
+        None => LinkWord::one(last),
+        Some(second) => LinkWord::two(K::inverse(second), last),
+    }
+}
+
+/// Finds the path or the ring of a dart, besides what was found before.
+pub(crate) fn go_round<S: Seen, K: Kind, const DIM: usize>(
+    links: &Links<K, DIM>,
+    ways: Ways,
+    dart: Dart,
+    found: &mut Found<S>,
+) -> Result<(), AllocError>
+    requires within { (w : MapWord) → IsEither ways.forth.next ways.back.next w → IsWithin DIM w }
+    requires turns { AreWays K.kind ways.forth.next ways.forth.after ways.back.next ways.back.after }
+    requires closed { IsClosed (Leads (links_of links.now.rows) (IsEither ways.forth.next ways.back.next)) found.old }
+    ensures members { OnOk result ((y : ℕ) → Contains found.new y ↔ (Contains found.old y
+        ⊎ InOrbit (Leads (links_of links.now.rows) (IsEither ways.forth.next ways.back.next)) dart y)) }
+    ensures before { OnOk result (take (length found.old) found.new ≡ found.old) }
+{
+    if found.contains(dart) {
+        return Ok(());
+    }
+    found.put(dart)?;
+    follow_way(links, ways.forth, dart, found)?;
+    follow_way(links, ways.back, dart, found)
+}
+
+/// Follows a way from a dart that was found, until it leads nowhere or to a dart that was found.
+fn follow_way<S: Seen, K: Kind, const DIM: usize>(
+    links: &Links<K, DIM>,
+    way: Way,
+    dart: Dart,
+    found: &mut Found<S>,
+) -> Result<(), AllocError>
+    requires next { IsWithin DIM way.next }
+    requires after { IsWithin DIM way.after }
+    requires met { Contains found.old dart }
+    ensures { OnOk result (IsFollowed K.kind (links_of links.now.rows) way.next way.after dart found.old found.new) }
+{
+    links.see_sound();
+    let mut way = way;
+    let mut at = dart;
+    while let Some(next) = unmet(links, way.next, at, found) {
+        found.put(next)?;
+        at = next;
+        way = way.turned();
+    }
+    Ok(())
+}
+
+/// The dart to which a word leads, if it was not found yet.
+#[inline(always)]
+fn unmet<S: Seen, K: Kind, const DIM: usize>(
+    links: &Links<K, DIM>,
+    word: LinkWord,
+    dart: Dart,
+    found: &Found<S>,
+) -> Option<Dart>
+    requires { IsWithin DIM word }
+    ensures some { IfSome result (λ next. (through (links_of links.now.rows) word dart ≡ next) × (next ≢ 0)
+        × (Contains found.now next → ⊥)) }
+    ensures none { IfNone result ((y : ℕ) → through (links_of links.now.rows) word dart ≡ y → y ≢ 0
+        → Contains found.now y) }
+{
+    let reached = follow(links, word, dart)?;
+    if found.contains(reached) {
+        return None;
+    }
+    Some(reached)
+}
