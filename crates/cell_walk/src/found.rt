@@ -36,12 +36,14 @@ impl<S: Seen> Found<S> {
         }
     }
 
-    /// Forgets what was found, for another walk over a map whose darts are numbered up to `made`.
+    /// Forgets what was found, for another walk over a map whose darts are numbered up to `made`. The memory for so many is
+    /// taken now.
     pub(crate) fn restart(&mut self, made: u32) -> Result<(), AllocError>
         ensures { self.new ≡ [] }
     {
         self.darts.clear();
-        self.seen.restart(made)
+        self.seen.restart(made)?;
+        self.darts.reserve(made as usize)
     }
 
     /// How many darts were found.
