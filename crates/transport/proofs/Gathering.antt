@@ -48,11 +48,11 @@ module _ (label : ℕ → Option ℕ) (cells : List Group) where
     read_label m j o (e, f) h =
         ap label (is ∙ ap (λ i. slice_index (group_at cells n).darts i) (sym f) ∙ ap (λ c. slice_index (group_at cells c).darts j) (sym e)) ∙ h
 
-    -- the dart has no id
-    added_none : (met after : ℕ → Option ℕ) (old new : List Piece) → AreGathered label cells n t met old → label d ≡ None → ((id : ℕ) → after id ≡ met id) → new ≡ old → AreGathered label cells n (t + 1) after new
-    added_none met after old new g bare same kept = subst (AreGathered label cells n (t + 1) after) (sym kept) (record {
+    -- no piece is wanted for the dart
+    added_none : (met after : ℕ → Option ℕ) (old new : List Piece) → AreGathered label cells n t met old → ((id : ℕ) → label d ≡ Some id → HasPiece old n id) → ((id : ℕ) → after id ≡ met id) → new ≡ old → AreGathered label cells n (t + 1) after new
+    added_none met after old new g there same kept = subst (AreGathered label cells n (t + 1) after) (sym kept) (record {
       sound = g.sound;
-      passed = λ m j id h w c e. elim (passed_case m j c) [ inl s ↦ g.passed m j id h w s e | inr s ↦ absurd (let f = read_label m j (Some id) s e in cc) ];
+      passed = λ m j id h w c e. elim (passed_case m j c) [ inl s ↦ g.passed m j id h w s e | inr s ↦ subst (λ i. HasPiece old i id) (sym s.0) (there id (read_label m j (Some id) s e)) ];
       last = λ id e. g.last id (sym (same id) ∙ e);
       known = λ k h e. same (piece_at old k).id ∙ g.known k h e;
       low = g.low;
@@ -166,7 +166,7 @@ module _ (label : ℕ → Option ℕ) (cells : List Group) where
             ]
 
     pub gathered_more : (met after : ℕ → Option ℕ) (old new : List Piece) → AreGathered label cells n t met old → IsPieceAdded label n d met after old new → AreGathered label cells n (t + 1) after new
-    gathered_more met after old new g (inl (bare, same, kept)) = added_none met after old new g bare same kept
+    gathered_more met after old new g (inl (there, same, kept)) = added_none met after old new g there same kept
     gathered_more met after old new g (inr (id, labelled, meets, inl (again, kept))) = added_again id labelled met after meets old new g again kept
     gathered_more met after old new g (inr (id, labelled, meets, inr (fresh, pushed))) = subst (AreGathered label cells n (t + 1) after) (sym pushed) (added_fresh id labelled met after meets old g fresh)
 

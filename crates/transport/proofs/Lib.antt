@@ -1,6 +1,8 @@
 pub mod Lists
+pub mod Marking
 pub mod Finding
 pub mod Gathering
+pub mod Tallying
 pub mod Picking
 pub mod MergeFacts
 pub mod CarryFacts

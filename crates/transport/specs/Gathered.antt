@@ -1,5 +1,5 @@
 -- What is gathered while the darts of the cells are looked at one after the other.
-use Rattle.std.specs.Prelude.{ℕ, ◌≡◌, ◌≢◌, ◌≤◌, ◌<◌, ◌⊎◌, cond, nat_eq, List, [], ◌∷◌, ◌++◌, length, Option, Some, None, slice_index, Contains}
+use Rattle.std.specs.Prelude.{ℕ, ◌≡◌, ◌≢◌, ◌≤◌, ◌<◌, ◌⊎◌, cond, nat_eq, List, [], ◌∷◌, ◌++◌, length, Option, Some, slice_index, Contains}
 use Rattle.std.specs.List.Sorted.{IsStrictlyIncreasing}
 use Rattle.store_defs.specs.Groups.{Group, group_at}
 use Rattle.transport.specs.Pieces.{piece_at, IsPiece}
@@ -25,12 +25,14 @@ pub record AreGathered (label : ℕ → Option ℕ) (cells : List Group) (n t : 
   pub bounded : (id m : ℕ) → met id ≡ Some m → m ≤ n
   pub apart : (j k : ℕ) → j < k → k < length pieces → (piece_at pieces j).dart ≢ (piece_at pieces k).dart
 
--- The dart has no id; or an id that was met last in its cell; or another, and then its piece stands at the end now.
+-- the id was met in the cell
 pub record IsMet (cell id : ℕ) (before after : ℕ → Option ℕ) : Type 0 where
   pub is : (other : ℕ) → after other ≡ cond (nat_eq id other) (Some cell) (before other)
 
+-- The dart has no id, or a piece of its cell has its id; or it has an id that was met last in its cell; or another, and then
+-- its piece stands at the end now.
 abbrev pub IsPieceAdded : (ℕ → Option ℕ) → ℕ → ℕ → (ℕ → Option ℕ) → (ℕ → Option ℕ) → List Piece → List Piece → Type 0
 IsPieceAdded label cell d before after old new =
-    ((label d ≡ None) × ((id : ℕ) → after id ≡ before id) × (new ≡ old))
+    (((id : ℕ) → label d ≡ Some id → HasPiece old cell id) × ((id : ℕ) → after id ≡ before id) × (new ≡ old))
     ⊎ ((id : ℕ) × (label d ≡ Some id) × IsMet cell id before after
     × (((before id ≡ Some cell) × (new ≡ old)) ⊎ ((before id ≡ Some cell → ⊥) × (new ≡ old ++ (record { dart = d; id = id; cell = cell }) ∷ []))))

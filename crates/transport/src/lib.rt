@@ -10,6 +10,7 @@ mod tally;
 #[cfg(test)]
 mod tests;
 mod touched;
+mod wanted;
 
 pub use carrying::carry;
 pub use group::{Group, RuleRow};

@@ -1,8 +1,8 @@
-ghost use Rattle.std.specs.Prelude.{◌≡◌, ◌+◌, ◌<◌, length, IfOk, OnOk};
+ghost use Rattle.std.specs.Prelude.{◌≡◌, ◌+◌, ◌<◌, length, IsTrue, IfOk, OnOk};
 ghost use Rattle.store_defs.specs.Labelings.{id_of};
 ghost use Rattle.transport.specs.Tallies.{met_in};
 ghost use Rattle.transport.specs.Pieces.{AreAllPieces};
-ghost use Rattle.transport.specs.Gathered.{AreApart, AreGathered, IsPieceAdded};
+ghost use Rattle.transport.specs.Gathered.{AreApart, HasPiece, AreGathered, IsPieceAdded};
 
 use crate::group::Group;
 use crate::tally::LastMet;
@@ -59,7 +59,8 @@ fn add_pieces<const DIM: usize>(
     Ok(())
 }
 
-/// Adds the piece of a dart, unless the dart has no id or its id was met last in the same cell.
+/// Adds the piece of a dart, unless the dart has no id or its id was met last in the same cell. Most often that is told by
+/// the piece that was added last.
 fn add_piece<const DIM: usize>(
     labels: &Labels<DIM>,
     dim: usize,
@@ -74,9 +75,22 @@ fn add_piece<const DIM: usize>(
     let Some(id) = labels.id(dim, dart) else {
         return Ok(());
     };
+    if is_last(pieces, cell, id) {
+        return Ok(());
+    }
     if met.meet(id, cell)? {
         return Ok(());
     }
     pieces.push(Piece { dart, id, cell })?;
     Ok(())
+}
+
+/// Whether the piece that was added last has this cell and this id.
+fn is_last(pieces: &[Piece], cell: usize, id: AttrId) -> bool
+    ensures { IsTrue result → HasPiece pieces.now cell id }
+{
+    match pieces.last() {
+        Some(piece) => piece.cell == cell && piece.id == id,
+        None => false,
+    }
 }

@@ -1,15 +1,15 @@
-ghost use Rattle.std.specs.Prelude.{◌≡◌, ℕ, ◌≤◌, ◌↔◌, ◌⊎◌, IfOk, OnOk, Contains};
+ghost use Rattle.std.specs.Prelude.{◌≡◌, ℕ, ◌≤◌, ◌<◌, length, IfOk, OnOk};
 ghost use Rattle.map_defs.specs.Rows.{links_of, IsSound};
 ghost use Rattle.map_defs.specs.Cells.{InCell};
 ghost use Rattle.transport.specs.Pieces.{AreBareCells};
 ghost use Rattle.transport.specs.Found.{IsCellAdded};
 
 use crate::group::Group;
+use crate::wanted::Wanted;
 use cell_walk::cell;
 use link_rows::Links;
 use map_kind::{Dart, Kind};
 use std::alloc::{AllocError, Global};
-use std::collections::BTreeSet;
 
 /// The cells of dimension `dim` that hold a touched dart, each once and without a value yet, ascending by their least
 /// darts. It costs these cells times a logarithm.
@@ -24,47 +24,38 @@ pub fn touched_cells<K: Kind, const DIM: usize>(
     ensures { IfOk result (λ cells.
         AreBareCells (InCell K.kind (links_of links.now.rows) dim) dim touched.now cells.items) }
 {
-    let mut seen = BTreeSet::new(alloc);
+    let mut wanted = Wanted::new(alloc, touched)?;
     let mut cells = Vec::new(alloc);
-    for dart in touched {
-        add_cell(alloc, links, dim, *dart, &mut seen, &mut cells)?;
+    for place in 0..wanted.len() {
+        add_cell(alloc, links, dim, place, &mut wanted, &mut cells)?;
     }
     cells.sort_unstable_by_key(|cell| cell.least());
     Ok(cells)
 }
 
-/// Adds the cell of a dart, unless it is there.
+/// Adds the cell of the wanted dart at a place, unless it is there.
 fn add_cell<K: Kind, const DIM: usize>(
     alloc: Global,
     links: &Links<K, DIM>,
     dim: usize,
-    dart: Dart,
-    seen: &mut BTreeSet<Dart>,
+    place: usize,
+    wanted: &mut Wanted,
     cells: &mut Vec<Group>,
 ) -> Result<(), AllocError>
-    requires { dim ≤ DIM }
-    ensures { OnOk result (IsCellAdded (InCell K.kind (links_of links.now.rows) dim) dim dart seen.old.keys seen.new.keys
+    requires dim { dim ≤ DIM }
+    requires place { place < length wanted.old.darts }
+    ensures { OnOk result (IsCellAdded (InCell K.kind (links_of links.now.rows) dim) dim place wanted.old wanted.new
         cells.old.items cells.new.items) }
 {
-    if seen.contains(&dart) {
+    if wanted.is_found(place) {
         return Ok(());
     }
-    let darts = cell(alloc, links, dim, dart)?;
-    mark(&darts, seen)?;
+    let darts = cell(alloc, links, dim, wanted.dart(place))?;
+    wanted.mark(&darts);
     cells.push(Group {
         dim,
         darts,
         value: None,
     })?;
-    Ok(())
-}
-
-/// Adds darts to a set.
-fn mark(darts: &[Dart], seen: &mut BTreeSet<Dart>) -> Result<(), AllocError>
-    ensures { OnOk result ((x : ℕ) → Contains seen.new.keys x ↔ (Contains seen.old.keys x ⊎ Contains darts.now x)) }
-{
-    for dart in darts {
-        seen.insert(*dart)?;
-    }
     Ok(())
 }

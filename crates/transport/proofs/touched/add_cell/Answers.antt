@@ -1,26 +1,22 @@
-use Rattle.std.proofs.Common.{ℕ, ◌↔◌, ◌⊎◌, inl, inr, refl, sym, subst, ◌∙◌, List, None, Contains}
+use Rattle.std.proofs.Common.{ℕ, ◌<◌, ◌↔◌, ◌⊎◌, inr, refl, sym, subst, ◌∙◌, List, length, slice_index, None, Contains}
 use Rattle.std.proofs.lemmas.Bool.{false≢true}
 use Rattle.map_defs.specs.Rows.{links_of}
 use Rattle.map_defs.specs.Cells.{InCell}
-use Rattle.cell_walk.proofs.SeenDarts.{seen-has}
 use Rattle.store_defs.specs.Groups.{Group}
+use Rattle.transport.specs.Wanted.{IsMarked}
 use Rattle.transport.specs.Found.{IsNewCell}
 use Rattle.transport.proofs.touched.add_cell.Goals as goal
 
-pub returns-then-contains : goal.returns-then-contains
-returns-then-contains g c =
-    inl ((seen-has c.args.seen.now c.args.dart).0 (sym c.contains.ensures ∙ c.if-contains.true), refl, refl)
-
 pub returns : goal.returns
 returns g c =
-    let unseen : Contains c.args.seen.now.keys c.args.dart → ⊥ = λ has. false≢true (sym c.if-contains.false ∙ c.contains.ensures ∙ (seen-has c.args.seen.now c.args.dart).1 has) in
     let cell : Group = record { dim = c.args.dim; darts = c.in_ok-darts.darts.items; value = None } in
-    let fresh : IsNewCell (InCell g.K.Kind.kind (links_of c.args.links.now.rows) c.args.dim) c.args.dim c.args.dart c.args.seen.now.keys c.mark.new.seen.keys cell = record {
-      unseen = unseen;
+    let fresh : IsNewCell (InCell g.K.Kind.kind (links_of c.args.links.now.rows) c.args.dim) c.args.dim c.args.place c.args.wanted.now c.mark.new.self cell = record {
+      unmarked = λ marked. false≢true (sym c.if-is_found.false ∙ c.is_found.ensures.1 marked);
       dim = refl;
       bare = refl;
       ascending = c.in_ok-darts.ensures.ascending;
-      darts = c.in_ok-darts.ensures.members;
-      marked = subst (λ (l : List ℕ). (x : ℕ) → Contains c.mark.new.seen.keys x ↔ (Contains c.args.seen.now.keys x ⊎ Contains l x)) c.deref.ensures.value c.in_ok-mark.ensures;
+      darts = subst (λ (d : ℕ). (x : ℕ) → Contains c.in_ok-darts.darts.items x ↔ InCell g.K.Kind.kind (links_of c.args.links.now.rows) c.args.dim d x) c.dart.ensures c.in_ok-darts.ensures.members;
+      same = c.mark.ensures.darts;
+      marks = subst (λ (l : List ℕ). (p : ℕ) → p < length c.args.wanted.now.darts → IsMarked c.mark.new.self p ↔ (IsMarked c.args.wanted.now p ⊎ Contains l (slice_index c.args.wanted.now.darts p))) c.deref.ensures.value c.mark.ensures.marks;
     } in
     inr (cell, c.in_ok-push.ensures.items, fresh)
