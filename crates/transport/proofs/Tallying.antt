@@ -1,99 +1,95 @@
--- The counts of a list, by id.
-use Rattle.std.proofs.Common.{◌≡◌, ◌≢◌, ◌⊎◌, inl, inr, ℕ, zero, suc, ◌<◌, List, [], ◌∷◌, ◌++◌, length, get_or, set, Bool, true, false, Option, Some, None, unwrap_or, nat_eq, nat_lt, cond, refl, sym, ◌∙◌, ap, subst, arith}
+-- What a list tells of ids, beside what is told elsewhere.
+use Rattle.std.proofs.Common.{◌≡◌, ◌≢◌, ◌⊎◌, inl, inr, ℕ, zero, suc, ◌<◌, List, [], ◌∷◌, ◌++◌, length, get_or, set, true, false, Option, Some, None, nat_eq, nat_lt, cond, refl, sym, ◌∙◌, ap, subst, arith}
 use Rattle.std.specs.List.{position, position_or_len}
 use Rattle.std.proofs.lemmas.Bool.{lt-ltb}
 use Rattle.std.proofs.lemmas.List.Quantifiers.{position-Some}
-use Rattle.transport.specs.Tallies.{listed_count}
-use Rattle.transport.specs.declared.tally.Count.{Count}
+use Rattle.transport.specs.Tallies.{told_in}
+use Rattle.transport.specs.declared.by_id.Entry.{Entry}
 use Rattle.transport.proofs.Gathering.{told_eq}
-
-abbrev pub no_count : Count
-no_count = record { id = 0; count = 0 }
-
--- the first count of an id stands at a place
-pub record IsPlaceOf (counts : List Count) (id place : ℕ) : Type 0 where
-  pub within : place < length counts
-  pub here : (get_or counts place no_count).id ≡ id
-  pub first : (k : ℕ) → k < place → (get_or counts k no_count).id ≢ id
 
 pub none_if_no_some : (o : Option ℕ) → ((n : ℕ) → o ≡ Some n → ⊥) → o ≡ None
 none_if_no_some None h = refl
 none_if_no_some (Some n) h = absurd (h n refl)
 
-pub place_some : (counts : List Count) (id place : ℕ) → position (λ c. nat_eq c.id id) counts ≡ Some place → IsPlaceOf counts id place
-place_some counts id place is =
-    let p = position-Some (λ (c : Count). nat_eq c.id id) counts place no_count is in record {
-      within = p.0;
-      here = elim (told_eq (get_or counts place no_count).id id) [ inl e ↦ e.0 | inr e ↦ absurd (let f = p.1 in let g = e.1 in cc) ];
-      first = λ k l e. elim (told_eq (get_or counts k no_count).id id) [ inl t ↦ absurd (let f = p.2 k l in let g = t.1 in cc) | inr t ↦ t.0 e ];
-    }
-
-pub place_none : (counts : List Count) (id : ℕ) → position (λ c. nat_eq c.id id) counts ≡ None → listed_count counts id ≡ None
-place_none counts id is = go (listed_or counts)
-  where
-    listed_or : (cs : List Count) → (position_or_len (λ c. nat_eq c.id id) cs < length cs) ⊎ (listed_count cs id ≡ None)
-    listed_or [] = inr refl
-    listed_or (c ∷ cs) = elim (told_eq c.id id) [
-      | inl e ↦ inl (rw e.1 (omega arith))
-      | inr e ↦ elim (listed_or cs) [ inl l ↦ inl (rw e.1 (omega arith)) | inr none ↦ inr (rw e.1 none) ]
-    ]
-
-    go : (position_or_len (λ c. nat_eq c.id id) counts < length counts) ⊎ (listed_count counts id ≡ None) → listed_count counts id ≡ None
-    go (inr none) = none
-    go (inl l) =
-        let test : nat_lt (position_or_len (λ c. nat_eq c.id id) counts) (length counts) ≡ true = lt-ltb _ _ l in
-        let there : Some (position_or_len (λ c. nat_eq c.id id) counts) ≡ None = sym (ap (λ t. cond t (Some (position_or_len (λ c. nat_eq c.id id) counts)) None) test) ∙ is in
-        absurd (cc (there))
-
-later : (c : Count) (counts : List Count) (id place : ℕ) → IsPlaceOf (c ∷ counts) id (suc place) → IsPlaceOf counts id place
-later c counts id place p = record { within = (let w = p.within in omega arith); here = p.here; first = λ k l. p.first (suc k) (omega arith) }
-
-pub listed_at : (counts : List Count) (id place : ℕ) → IsPlaceOf counts id place → listed_count counts id ≡ Some (get_or counts place no_count).count
-listed_at [] id place p = absurd (let w = p.within in omega arith)
-listed_at (c ∷ counts) id zero p = elim (told_eq c.id id) [ inl e ↦ rw e.1 refl | inr e ↦ absurd (e.0 p.here) ]
-listed_at (c ∷ counts) id (suc place) p = elim (told_eq c.id id) [
-  | inl e ↦ absurd (p.first 0 (omega arith) e.0)
-  | inr e ↦ rw e.1 (listed_at counts id place (later c counts id place p))
-]
-
 -- two ids are asked for one after the other
-swapped : (a b other : ℕ) (x y z : Option ℕ) → a ≢ b → cond (nat_eq a other) x (cond (nat_eq b other) y z) ≡ cond (nat_eq b other) y (cond (nat_eq a other) x z)
-swapped a b other x y z apart = elim (told_eq a other) [
-  | inl e ↦ elim (told_eq b other) [ inl f ↦ absurd (apart (e.0 ∙ sym f.0)) | inr f ↦ rw (e.1, f.1) refl ]
-  | inr e ↦ elim (told_eq b other) [ inl f ↦ rw (e.1, f.1) refl | inr f ↦ rw (e.1, f.1) refl ]
+swapped : {V : Type 0} (a b id : ℕ) (x y z : Option V) → a ≢ b → cond (nat_eq a id) x (cond (nat_eq b id) y z) ≡ cond (nat_eq b id) y (cond (nat_eq a id) x z)
+swapped a b id x y z apart = elim (told_eq a id) [
+  | inl e ↦ elim (told_eq b id) [ inl f ↦ absurd (apart (e.0 ∙ sym f.0)) | inr f ↦ rw (e.1, f.1) refl ]
+  | inr e ↦ elim (told_eq b id) [ inl f ↦ rw (e.1, f.1) refl | inr f ↦ rw (e.1, f.1) refl ]
 ]
 
-pub listed_set : (counts : List Count) (id place count : ℕ) → IsPlaceOf counts id place → (other : ℕ)
-    → listed_count (set counts place (record { id = id; count = count })) other ≡ cond (nat_eq id other) (Some count) (listed_count counts other)
-listed_set [] id place count p other = absurd (let w = p.within in omega arith)
-listed_set (c ∷ counts) id zero count p other = first (told_eq id other)
-  where
-    first : ((id ≡ other) × (nat_eq id other ≡ true)) ⊎ ((id ≢ other) × (nat_eq id other ≡ false))
-        → cond (nat_eq id other) (Some count) (listed_count counts other) ≡ cond (nat_eq id other) (Some count) (cond (nat_eq c.id other) (Some c.count) (listed_count counts other))
-    first (inl e) = rw e.1 refl
-    first (inr e) = elim (told_eq c.id other) [ inl f ↦ absurd (e.0 (sym p.here ∙ f.0)) | inr f ↦ rw (e.1, f.1) refl ]
-listed_set (c ∷ counts) id (suc place) count p other =
-    ap (cond (nat_eq c.id other) (Some c.count)) (listed_set counts id place count (later c counts id place p) other)
-    ∙ swapped c.id id other (Some c.count) (Some count) (listed_count counts other) (p.first 0 (omega arith))
+module _ {V : Type 0} (d : Entry V) where
+  -- the first entry of an id stands at a place
+  pub record IsPlaceOf (entries : List (Entry V)) (id place : ℕ) : Type 0 where
+    pub within : place < length entries
+    pub here : (get_or entries place d).id ≡ id
+    pub first : (k : ℕ) → k < place → (get_or entries k d).id ≢ id
 
-pub listed_pushed : (counts : List Count) (id count : ℕ) → listed_count counts id ≡ None → (other : ℕ)
-    → listed_count (counts ++ (record { id = id; count = count }) ∷ []) other ≡ cond (nat_eq id other) (Some count) (listed_count counts other)
-listed_pushed [] id count none other = refl
-listed_pushed (c ∷ counts) id count none other = elim (told_eq c.id id) [
-  | inl e ↦ absurd (let f : Some c.count ≡ None = rw e.1 at none in cc)
-  | inr e ↦
-      ap (cond (nat_eq c.id other) (Some c.count)) (listed_pushed counts id count (rw e.1 at none) other)
-      ∙ swapped c.id id other (Some c.count) (Some count) (listed_count counts other) e.0
-]
+  pub place_some : (entries : List (Entry V)) (id place : ℕ) → position (λ e. nat_eq e.id id) entries ≡ Some place → IsPlaceOf entries id place
+  place_some entries id place is =
+      let p = position-Some (λ (e : Entry V). nat_eq e.id id) entries place d is in record {
+        within = p.0;
+        here = elim (told_eq (get_or entries place d).id id) [ inl e ↦ e.0 | inr e ↦ absurd (let f = p.1 in let g = e.1 in cc) ];
+        first = λ k l e. elim (told_eq (get_or entries k d).id id) [ inl t ↦ absurd (let f = p.2 k l in let g = t.1 in cc) | inr t ↦ t.0 e ];
+      }
 
--- a count that is found among the first, or else among the others
-pub count_given : (here : Bool) (count more : ℕ) (listed : Option ℕ) → unwrap_or (cond here (Some count) listed) more ≡ cond here count (unwrap_or listed more)
-count_given true count more listed = refl
-count_given false count more listed = refl
+  later : (e : Entry V) (entries : List (Entry V)) (id place : ℕ) → IsPlaceOf (e ∷ entries) id (suc place) → IsPlaceOf entries id place
+  later e entries id place p = record { within = (let w = p.within in omega arith); here = p.here; first = λ k l. p.first (suc k) (omega arith) }
 
-pub count_added : (counts : List Count) (id count more after other : ℕ) → listed_count counts id ≡ None → after ≡ cond (nat_eq id other) count more
-    → unwrap_or (listed_count counts other) after ≡ cond (nat_eq id other) count (unwrap_or (listed_count counts other) more)
-count_added counts id count more after other none is = elim (told_eq id other) [
-  | inl e ↦ (let gone : listed_count counts other ≡ None = subst (λ o. listed_count counts o ≡ None) e.0 none in rw (is, e.1, gone) refl)
-  | inr e ↦ rw (is, e.1) refl
-]
+  pub told_at : (entries : List (Entry V)) (other : Option V) (id place : ℕ) → IsPlaceOf entries id place → told_in entries other id ≡ Some (get_or entries place d).told
+  told_at [] other id place p = absurd (let w = p.within in omega arith)
+  told_at (e ∷ entries) other id zero p = elim (told_eq e.id id) [ inl t ↦ rw t.1 refl | inr t ↦ absurd (t.0 p.here) ]
+  told_at (e ∷ entries) other id (suc place) p = elim (told_eq e.id id) [
+    | inl t ↦ absurd (p.first 0 (omega arith) t.0)
+    | inr t ↦ rw t.1 (told_at entries other id place (later e entries id place p))
+  ]
+
+  pub told_set : (entries : List (Entry V)) (other : Option V) (id place : ℕ) (told : V) → IsPlaceOf entries id place → (asked : ℕ)
+      → told_in (set entries place (record { id = id; told = told })) other asked ≡ cond (nat_eq id asked) (Some told) (told_in entries other asked)
+  told_set [] other id place told p asked = absurd (let w = p.within in omega arith)
+  told_set (e ∷ entries) other id zero told p asked = first (told_eq id asked)
+    where
+      first : ((id ≡ asked) × (nat_eq id asked ≡ true)) ⊎ ((id ≢ asked) × (nat_eq id asked ≡ false))
+          → cond (nat_eq id asked) (Some told) (told_in entries other asked) ≡ cond (nat_eq id asked) (Some told) (cond (nat_eq e.id asked) (Some e.told) (told_in entries other asked))
+      first (inl t) = rw t.1 refl
+      first (inr t) = elim (told_eq e.id asked) [ inl f ↦ absurd (t.0 (sym p.here ∙ f.0)) | inr f ↦ rw (t.1, f.1) refl ]
+  told_set (e ∷ entries) other id (suc place) told p asked =
+      ap (cond (nat_eq e.id asked) (Some e.told)) (told_set entries other id place told (later e entries id place p) asked)
+      ∙ swapped e.id id asked (Some e.told) (Some told) (told_in entries other asked) (p.first 0 (omega arith))
+
+module _ {V : Type 0} (id : ℕ) where
+  -- the list tells nothing of the id
+  pub place_none : (entries : List (Entry V)) → position (λ e. nat_eq e.id id) entries ≡ None → (other : Option V) → told_in entries other id ≡ other
+  place_none entries is other = go (there_or_not entries)
+    where
+      there_or_not : (es : List (Entry V)) → (position_or_len (λ e. nat_eq e.id id) es < length es) ⊎ (told_in es other id ≡ other)
+      there_or_not [] = inr refl
+      there_or_not (e ∷ es) = elim (told_eq e.id id) [
+        | inl t ↦ inl (rw t.1 (omega arith))
+        | inr t ↦ elim (there_or_not es) [ inl l ↦ inl (rw t.1 (omega arith)) | inr none ↦ inr (rw t.1 none) ]
+      ]
+
+      go : (position_or_len (λ e. nat_eq e.id id) entries < length entries) ⊎ (told_in entries other id ≡ other) → told_in entries other id ≡ other
+      go (inr none) = none
+      go (inl l) =
+          let test : nat_lt (position_or_len (λ e. nat_eq e.id id) entries) (length entries) ≡ true = lt-ltb _ _ l in
+          let there : Some (position_or_len (λ e. nat_eq e.id id) entries) ≡ None = sym (ap (λ t. cond t (Some (position_or_len (λ e. nat_eq e.id id) entries)) None) test) ∙ is in
+          absurd (cc (there))
+
+  pub told_pushed : (entries : List (Entry V)) (other : Option V) (told : V) → ((o : Option V) → told_in entries o id ≡ o) → (asked : ℕ)
+      → told_in (entries ++ (record { id = id; told = told }) ∷ []) other asked ≡ cond (nat_eq id asked) (Some told) (told_in entries other asked)
+  told_pushed [] other told none asked = refl
+  told_pushed (e ∷ entries) other told none asked = elim (told_eq e.id id) [
+    | inl t ↦ absurd (let f : Some e.told ≡ None = rw t.1 at (none None) in cc)
+    | inr t ↦
+        ap (cond (nat_eq e.id asked) (Some e.told)) (told_pushed entries other told (λ o. rw t.1 at (none o)) asked)
+        ∙ swapped e.id id asked (Some e.told) (Some told) (told_in entries other asked) t.0
+  ]
+
+  -- the id is told of elsewhere
+  pub told_elsewhere : (entries : List (Entry V)) (before after : Option V) (told : V) (asked : ℕ) → ((o : Option V) → told_in entries o id ≡ o) → after ≡ cond (nat_eq id asked) (Some told) before
+      → told_in entries after asked ≡ cond (nat_eq id asked) (Some told) (told_in entries before asked)
+  told_elsewhere entries before after told asked none is = elim (told_eq id asked) [
+    | inl t ↦ (let gone : told_in entries after asked ≡ after = subst (λ a. told_in entries after a ≡ after) t.0 (none after) in rw (gone, is, t.1) refl)
+    | inr t ↦ rw (is, t.1) refl
+  ]

@@ -1,18 +1,22 @@
--- Counts by id, and the cell in which each id was met last.
-use Rattle.std.specs.Prelude.{ℕ, nat_eq, cond, List, [], ◌∷◌, Option, Some, None, unwrap_or}
+-- What is told of ids: counts, and the cell in which each id was met last.
+use Rattle.std.specs.Prelude.{ℕ, nat_eq, cond, List, [], ◌∷◌, Option, Some, unwrap_or}
 use Rattle.std.specs.Ordering.{nat_cmp}
 use Rattle.std.specs.BTreeMap.{get}
-use Rattle.transport.specs.declared.tally.Count.{Count}
+use Rattle.transport.specs.declared.by_id.Entry.{Entry}
+use Rattle.transport.specs.declared.by_id.ById.{ById}
 use Rattle.transport.specs.declared.tally.Tally.{Tally}
 use Rattle.transport.specs.declared.tally.LastMet.{LastMet}
 
--- the count that a list has for an id, if it has one
-abbrev pub listed_count : List Count → ℕ → Option ℕ
-listed_count [] id = None
-listed_count (c ∷ counts) id = cond (nat_eq c.id id) (Some c.count) (listed_count counts id)
+-- what a list tells of an id, or else what is told elsewhere
+abbrev pub told_in : {V : Type 0} → List (Entry V) → Option V → ℕ → Option V
+told_in [] other id = other
+told_in (e ∷ entries) other id = cond (nat_eq e.id id) (Some e.told) (told_in entries other id)
+
+abbrev pub told_of : {V : Type 0} → ById V → ℕ → Option V
+told_of table id = told_in table.first.items (get nat_cmp table.more id) id
 
 abbrev pub count_of : Tally → ℕ → ℕ
-count_of tally id = unwrap_or (listed_count tally.first.items id) (unwrap_or (get nat_cmp tally.more id) 0)
+count_of tally id = unwrap_or (told_of tally.counts id) 0
 
 abbrev pub met_in : LastMet → ℕ → Option ℕ
-met_in met id = get nat_cmp met.cells id
+met_in met id = told_of met.cells id

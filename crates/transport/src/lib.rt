@@ -1,6 +1,7 @@
 //! The values of cells, carried along where a change of links splits and merges them.
 #![tactic(auto)]
 
+mod by_id;
 mod carrying;
 mod group;
 mod laws;
