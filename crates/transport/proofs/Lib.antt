@@ -2,7 +2,7 @@ pub mod Lists
 pub mod Marking
 pub mod Finding
 pub mod Gathering
-pub mod Tallying
+pub mod Telling
 pub mod Picking
 pub mod MergeFacts
 pub mod CarryFacts

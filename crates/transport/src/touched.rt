@@ -12,7 +12,7 @@ use map_kind::{Dart, Kind};
 use std::alloc::{AllocError, Global};
 
 /// The cells of dimension `dim` that hold a touched dart, each once and without a value yet, ascending by their least
-/// darts. It costs these cells times a logarithm.
+/// darts. It costs the touched darts and these cells times a logarithm.
 pub fn touched_cells<K: Kind, const DIM: usize>(
     alloc: Global,
     links: &Links<K, DIM>,

@@ -1,7 +1,7 @@
 use Rattle.std.proofs.Common.{rules, ◌≡◌, List, Some, nat_cmp, sym, ◌∙◌, ap}
 use Rattle.std.specs.BTreeMap.{get}
 use Rattle.transport.specs.declared.by_id.Entry.{Entry}
-use Rattle.transport.proofs.Tallying.{place_some, place_none, told_at}
+use Rattle.transport.proofs.Telling.{place_some, place_none, told_at}
 use Rattle.transport.proofs.by_id.ById.get.Goals as goal
 
 pub returns-in-Some : goal.returns-in-Some

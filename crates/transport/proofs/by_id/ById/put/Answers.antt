@@ -2,7 +2,7 @@ use Rattle.std.proofs.Common.{rules, ◌≡◌, List, Some, nat_eq, nat_cmp, con
 use Rattle.std.specs.BTreeMap.{get}
 use Rattle.transport.specs.Tallies.{told_in}
 use Rattle.transport.specs.declared.by_id.Entry.{Entry}
-use Rattle.transport.proofs.Tallying.{none_if_no_some, place_some, place_none, told_set, told_pushed, told_elsewhere}
+use Rattle.transport.proofs.Telling.{none_if_no_some, place_some, place_none, told_set, told_pushed, told_elsewhere}
 use Rattle.transport.proofs.by_id.ById.put.Goals as goal
 
 pub returns-in-Some : goal.returns-in-Some
