@@ -71,10 +71,14 @@ impl Seen for Few {
 }
 
 /// Makes room for one more dart, and for a few at first.
+#[inline(always)]
 pub(crate) fn make_room(darts: &mut Vec<Dart>) -> Result<(), AllocError>
     ensures items { darts.new.items ≡ darts.old.items }
     ensures room { OnOk result (vec_len darts.new + 1 ≤ vec_capacity darts.new) }
 {
+    if darts.len() < darts.capacity() {
+        return Ok(());
+    }
     let more = if darts.is_empty() { FEW } else { 1 };
     darts.reserve(more)
 }

@@ -1,10 +1,15 @@
 //! What no clause says: that calls are obeyed where memory is there. Each test is a table of lines and their answers.
-ghost use Rattle.std.specs.Prelude.{◌≡◌, ◌≤◌, map, IfOk};
+ghost use Rattle.std.specs.Prelude.{◌≡◌, ◌≤◌, [], ◌∷◌, None, map, IfOk};
+ghost use Rattle.map_defs.specs.Kind.{alpha};
+ghost use Rattle.map_defs.specs.Rows.{links_of};
+ghost use Rattle.map_defs.specs.Laws.{Laws};
+ghost use Rattle.map_defs.specs.Edits.{Fits, after_edit};
+ghost use Rattle.machine_defs.specs.State.{empty_state};
 
 use crate::lines::{Line, Wanted, check_lines};
 use attr_rules::FirstCopy;
-use cell_walk::cell_lists;
-use link_rows::{Links, polygon_edit};
+use cell_walk::{cell_lists, cells};
+use link_rows::{Edit, Links, polygon_edit};
 use map_core::{Done, Map};
 use map_kind::{Alpha, Dart, Place, Refusal, Refused, Value};
 use std::alloc::{AllocError, Global};
@@ -161,7 +166,7 @@ fn check_counts<const DIM: usize>(
     alloc: Global,
     map: &Map<'_, Alpha, FirstCopy, DIM>,
     wanted: &[u64],
-) -> Result<(), AllocError> {
+) -> Result<(), Fail> {
     let counts = map.count(alloc)?;
     assert_eq!(rt; counts.as_slice(), wanted);
     Ok(())
@@ -170,7 +175,7 @@ fn check_counts<const DIM: usize>(
 #[test]
 fn makes_and_sews_darts(rt: HostRuntime) -> Result<(), Fail> {
     let map = map_after::<2>(&rt, rt.alloc(), &DARTS);
-    Ok(check_counts(&rt, rt.alloc(), &map, &[12, 6, 6, 2, 2])?)
+    check_counts(&rt, rt.alloc(), &map, &[12, 6, 6, 2, 2])
 }
 
 #[test]
@@ -189,7 +194,7 @@ fn inserts_a_face(rt: HostRuntime) {
 #[test]
 fn turns_a_map_and_goes_back(rt: HostRuntime) -> Result<(), Fail> {
     let map = map_after::<2>(&rt, rt.alloc(), &SPHERE);
-    Ok(check_counts(&rt, rt.alloc(), &map, &[12, 2, 3, 3, 1])?)
+    check_counts(&rt, rt.alloc(), &map, &[12, 2, 3, 3, 1])
 }
 
 #[test]
@@ -201,7 +206,7 @@ fn counts_standing_marks(rt: HostRuntime) {
 #[test]
 fn a_polygon_in_dimension_eight(rt: HostRuntime) -> Result<(), Fail> {
     let map = map_after::<8>(&rt, rt.alloc(), &TRIANGLE);
-    Ok(check_counts(&rt, rt.alloc(), &map, &[6, 3, 3, 1, 1, 1, 1, 1, 1, 1, 1])?)
+    check_counts(&rt, rt.alloc(), &map, &[6, 3, 3, 1, 1, 1, 1, 1, 1, 1, 1])
 }
 
 /// Asks a triangle, made of darts 1 to 6, of a cell.
@@ -228,12 +233,21 @@ fn check_offers(
     Ok(())
 }
 
+/// Asks the triangle all questions.
+fn check_questions(
+    rt: &impl Abort,
+    alloc: Global,
+    map: &Map<'_, Alpha, FirstCopy, 2>,
+) -> Result<(), Fail> {
+    check_cell(rt, alloc, map)?;
+    check_offers(rt, alloc, map)?;
+    Ok(())
+}
+
 #[test]
 fn answers_questions(rt: HostRuntime) -> Result<(), Fail> {
     let map = map_after::<2>(&rt, rt.alloc(), &TRIANGLE);
-    check_cell(&rt, rt.alloc(), &map)?;
-    check_offers(&rt, rt.alloc(), &map)?;
-    Ok(())
+    check_questions(&rt, rt.alloc(), &map)
 }
 
 /// Compares the listing of a triangle.
@@ -298,25 +312,66 @@ fn places_at(alloc: Global, darts: &[Dart], value: Value) -> Result<Vec<Place>, 
     Ok(places)
 }
 
-/// A triangle, by its edit and by its links.
-#[test]
-fn loads_a_map(rt: HostRuntime) -> Result<(), Fail> {
-    let alloc = rt.alloc();
-    let hook = FirstCopy;
-    let point = FIVE;
+/// The edit that makes a triangle, and the links that it makes.
+fn triangle(rt: &impl Abort, alloc: Global) -> Result<(Edit, Links<Alpha, 2>), AllocError>
+    ensures fits { IfOk result (λ made. Fits alpha 2 (None ∷ []) made.0) }
+    ensures few { IfOk result (λ made. made.0.births ≤ 6) }
+    ensures rows { IfOk result (λ made. made.1.rows ≡ after_edit 2 made.0 (None ∷ [])) }
+    ensures laws { IfOk result (λ made. Laws alpha (links_of made.1.rows)) }
+{
     let mut links = Links::<Alpha, 2>::new(alloc);
-    assert!(&rt; links.reserve(6).is_ok());
-    let triangle = polygon_edit(alloc, &links, 3)?;
-    links.apply(&triangle);
-    let vertices = cell_lists(alloc, &links, 0)?;
-    let places = places_at(alloc, &vertices.least, point)?;
-    let mut one = Map::<'_, Alpha, FirstCopy, 2>::new(alloc, &hook);
-    let done = one.load(alloc, &triangle, &places)?;
-    assert_eq!(&rt; done, Done { first: 1, count: 6 });
-    assert_eq!(&rt; one.value(0, 5), Ok(Some(point)));
-    let mut other = Map::<'_, Alpha, FirstCopy, 2>::new(alloc, &hook);
-    let done = other.load_links(alloc, links, &places, &vertices.darts)?;
-    assert_eq!(&rt; done, Done { first: 1, count: 6 });
-    assert_eq!(&rt; other.value(0, 5), Ok(Some(point)));
+    assert!(rt; links.reserve(6).is_ok());
+    let edit = polygon_edit(alloc, &links, 3)?;
+    links.apply(&edit);
+    Ok((edit, links))
+}
+
+/// Compares what loading answers, and the value of a vertex of the triangle that was loaded.
+fn check_loaded(rt: &impl Abort, map: &Map<'_, Alpha, FirstCopy, 2>, done: Done) {
+    assert_eq!(rt; done, Done { first: 1, count: 6 });
+    assert_eq!(rt; map.value(0, 5), Ok(Some(FIVE)));
+}
+
+/// Loads a triangle by its edit.
+fn load_edit(
+    rt: &impl Abort,
+    alloc: Global,
+    map: &mut Map<'_, Alpha, FirstCopy, 2>,
+) -> Result<(), Fail>
+    requires { map.old.state ≡ empty_state alpha 2 }
+{
+    let (edit, links) = triangle(rt, alloc)?;
+    let vertices = cells(alloc, &links, 0)?;
+    let places = places_at(alloc, &vertices, FIVE)?;
+    let done = map.load(alloc, &edit, &places)?;
+    check_loaded(rt, map, done);
     Ok(())
+}
+
+/// Loads a triangle by its links.
+fn load_links(
+    rt: &impl Abort,
+    alloc: Global,
+    map: &mut Map<'_, Alpha, FirstCopy, 2>,
+) -> Result<(), Fail>
+    requires { map.old.state ≡ empty_state alpha 2 }
+{
+    let (_, links) = triangle(rt, alloc)?;
+    let vertices = cell_lists(alloc, &links, 0)?;
+    let places = places_at(alloc, &vertices.least, FIVE)?;
+    let done = map.load_links(alloc, links, &places, &vertices.darts)?;
+    check_loaded(rt, map, done);
+    Ok(())
+}
+
+#[test]
+fn loads_the_edit_of_a_map(rt: HostRuntime) -> Result<(), Fail> {
+    let mut map = Map::<'_, Alpha, FirstCopy, 2>::new(rt.alloc(), &FirstCopy);
+    load_edit(&rt, rt.alloc(), &mut map)
+}
+
+#[test]
+fn loads_the_links_of_a_map(rt: HostRuntime) -> Result<(), Fail> {
+    let mut map = Map::<'_, Alpha, FirstCopy, 2>::new(rt.alloc(), &FirstCopy);
+    load_links(&rt, rt.alloc(), &mut map)
 }

@@ -59,17 +59,25 @@ fn check_whole(
     Ok(())
 }
 
+/// Makes and ends darts within marks, and compares what stands at each.
+fn check_returns(
+    rt: &impl Abort,
+    alloc: Global,
+    map: &mut Map<'_, Alpha, FirstCopy, 2>,
+) -> Result<(), Fail> {
+    check_lines(rt, alloc, map, &SMALL);
+    let small = whole(alloc, map)?;
+    check_lines(rt, alloc, map, &LARGE);
+    let large = whole(alloc, map)?;
+    // The second time the darts come back to rows that others had.
+    check_whole(rt, alloc, map, &AGAIN, &large)?;
+    check_whole(rt, alloc, map, &AGAIN, &large)?;
+    check_whole(rt, alloc, map, &BACK, &small)?;
+    Ok(())
+}
+
 #[test]
 fn goes_back_over_rows_that_were_used_again(rt: HostRuntime) -> Result<(), Fail> {
-    let alloc = rt.alloc();
-    let mut map = Map::<'_, Alpha, FirstCopy, 2>::new(alloc, &FirstCopy);
-    check_lines(&rt, alloc, &mut map, &SMALL);
-    let small = whole(alloc, &map)?;
-    check_lines(&rt, alloc, &mut map, &LARGE);
-    let large = whole(alloc, &map)?;
-    // The second time the darts come back to rows that others had.
-    check_whole(&rt, alloc, &mut map, &AGAIN, &large)?;
-    check_whole(&rt, alloc, &mut map, &AGAIN, &large)?;
-    check_whole(&rt, alloc, &mut map, &BACK, &small)?;
-    Ok(())
+    let mut map = Map::<'_, Alpha, FirstCopy, 2>::new(rt.alloc(), &FirstCopy);
+    check_returns(&rt, rt.alloc(), &mut map)
 }

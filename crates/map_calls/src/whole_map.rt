@@ -429,6 +429,19 @@ fn check_script<K: Edits<DIM>, const DIM: usize>(
     Ok(carrying)
 }
 
+/// Checks a random script over a new map.
+fn check_new_map<K: Edits<DIM>, const DIM: usize>(
+    rt: &impl Abort,
+    alloc: Global,
+    first_rule: u64,
+) -> Result<u32, Refused>
+    requires low { 2 ≤ DIM }
+    requires high { DIM ≤ 8 }
+{
+    let mut map = Map::<'_, K, FirstCopy, DIM>::new(alloc, &FirstCopy);
+    check_script(rt, alloc, &mut map, first_rule)
+}
+
 /// Checks a script for each choice of rules, and that enough of their lines joined or parted cells with values.
 fn check_scripts<K: Edits<DIM>, const DIM: usize>(
     rt: &impl Abort,
@@ -438,11 +451,9 @@ fn check_scripts<K: Edits<DIM>, const DIM: usize>(
     requires low { 2 ≤ DIM }
     requires high { DIM ≤ 8 }
 {
-    let hook = FirstCopy;
     let mut carrying: u32 = 0;
     for first_rule in 0..7 {
-        let mut map = Map::<'_, K, FirstCopy, DIM>::new(alloc, &hook);
-        let more = check_script(rt, alloc, &mut map, first_rule)?;
+        let more = check_new_map::<K, DIM>(rt, alloc, first_rule)?;
         carrying = carrying.wrapping_add(more);
     }
     assert!(rt; carrying > enough, "{carrying} lines");
