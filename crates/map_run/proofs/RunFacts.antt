@@ -1,11 +1,12 @@
 -- Runs that go on by one line, and what is written of them.
-use Rattle.std.proofs.Common.{◌≡◌, ℕ, List, [], ◌∷◌, ◌++◌, Option, Ok, Err, Bool, true, false, ◌||◌, ◌==◌, cond, codes, refl, sym, ap, ◌∙◌, subst, append_assoc, inl, inr, Some, None, length}
+use Rattle.std.proofs.Common.{◌≡◌, ℕ, ◌≤◌, List, [], ◌∷◌, ◌++◌, Option, Ok, Err, Bool, true, false, ◌||◌, ◌==◌, cond, codes, arith, refl, sym, ap, ◌∙◌, subst, append_assoc, inl, inr, Some, None, length}
 use Rattle.std.specs.List.{flat_map}
 use Rattle.std.proofs.lemmas.Grind.{flat_map-append}
 use Rattle.std.proofs.lemmas.List.{append-nil}
 use Rattle.map_io.specs.declared.sink.PutFault.{PutFault}
 use Rattle.map_io.specs.declared.sink.PutFault.TheVariants.{Failed, NoMemory}
-use Rattle.machine_defs.specs.Outside.{Appended, IsFront}
+use Rattle.map_io.specs.Cause.{HasCause}
+use Rattle.machine_defs.specs.Outside.{Appended, IsFront, Rose}
 use Rattle.map_defs.specs.Values.{Meaning}
 use Rattle.machine_defs.specs.State.{State}
 use Rattle.machine_defs.specs.Script.{lines_of}
@@ -142,3 +143,14 @@ Going-end hook start new script done refused before after are going =
       appended = going.appended;
       is = (going.replies, new, subst (λ (ls : List (List ℕ)). Run hook start ls going.replies new) (sym all) going.run, refl, ap run_status a);
     }
+
+-- what rose since some fault rose since an earlier one
+pub then-rose : (a b c : ℕ) → a ≤ b → Rose b c → Rose a c
+then-rose a b c later rose = omega arith
+
+-- a count of faults with its cause since some fault has it since an earlier one
+pub cause-earlier : (before middle now : ℕ) (failed : Type 0) → before ≤ middle → HasCause middle now failed → HasCause before now failed
+cause-earlier before middle now failed early cause = record {
+  later = let later = cause.later in omega arith;
+  rose = λ fails. then-rose before middle now early (cause.rose fails);
+}

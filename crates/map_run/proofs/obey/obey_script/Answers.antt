@@ -1,10 +1,11 @@
-use Rattle.std.proofs.Common.{◌≡◌, ℕ, List, ◌∷◌, [], ◌++◌, Option, refl, sym, ap, subst, ◌∙◌, append_assoc, arith, lit<}
+use Rattle.std.proofs.Common.{◌≡◌, ℕ, List, ◌∷◌, [], ◌++◌, Option, None, Bool, Ok, IsErrOf, refl, sym, ap, subst, ◌∙◌, append_assoc, arith, rules, lit<}
 use Rattle.std.specs.Borrow.{Bor}
 use Rattle.std.proofs.lemmas.Result.{err_from_is_err_and}
+use Rattle.map_io.specs.declared.sink.PutFault.TheVariants.{Failed}
 use Rattle.machine_defs.specs.Script.{lines_of}
 use Rattle.map_run.specs.Lines.{lines_after}
 use Rattle.text_lines.proofs.WritingFacts.{Appended-nothing}
-use Rattle.map_run.proofs.RunFacts.{Going-more, Going-cut}
+use Rattle.map_run.proofs.RunFacts.{Going-more, Going-cut, Going-end, cause-earlier}
 use Rattle.map_run.proofs.obey.obey_script.Goals as goal
 
 pub returns-in_err-obey_line-clause-obeyed : goal.returns-in_err-obey_line-clause-obeyed
@@ -50,3 +51,25 @@ loop-rest-init g c = (
   refl,
   omega arith,
 )
+
+pub returns-in_err-obey_line-clause-cause : goal.returns-in_err-obey_line-clause-cause
+returns-in_err-obey_line-clause-cause g c =
+    let p = err_from_is_err_and c.from_residual.result c.from_residual.ensures.1 in
+    let cause = rw c.in_err-obey_line.was at c.obey_line.ensures.cause in
+    rw (p.1, p.2)
+    (cause-earlier (g.S.Sink.faults c.args.out.now) (g.S.Sink.faults c.loop-rest.out) (g.S.Sink.faults c.obey_line.new.out) _ c.loop-rest.invariant.2 cause)
+
+pub returns-clause-obeyed : goal.returns-clause-obeyed
+returns-clause-obeyed g c =
+    let script : List ℕ = c.args.script.now in
+    let done : List (List ℕ) = c.loop-rest.invariant.0.0 in
+    let over : c.loop-rest.rest ≡ None = search rules in
+    Going-end (g.H.Rule.meaning c.args.map.hook) c.args.map.state c.loop-rest.map.state script done c.loop-rest.refused (g.S.Sink.written c.args.out.now) (g.S.Sink.written c.loop-rest.out)
+    (c.loop-rest.invariant.0.1 ∙ ap (λ (r : Option (Bor (List ℕ))). done ++ lines_after r) over) c.loop-rest.invariant.0.2
+
+-- a script that was obeyed to its end met no fault
+no-fault : (refused : Bool) → IsErrOf (Ok refused) Failed → ⊥
+no-fault refused is = cc
+
+pub returns-clause-cause : goal.returns-clause-cause
+returns-clause-cause g c = record { later = c.loop-rest.invariant.2; rose = λ failed. absurd (no-fault c.loop-rest.refused failed) }

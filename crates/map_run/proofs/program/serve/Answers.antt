@@ -3,13 +3,11 @@ use Rattle.map_io.specs.declared.sink.PutFault.{PutFault}
 use Rattle.map_io.specs.declared.sink.PutFault.TheVariants.{Failed, NoMemory}
 use Rattle.machine_defs.specs.Outside.{Rose}
 use Rattle.map_run.proofs.EndingFacts.{Ends-flushed, Ends-unflushed}
+use Rattle.map_run.proofs.RunFacts.{then-rose}
 use Rattle.map_run.proofs.program.serve.Goals as goal
 
 rose-then : (a b c : ℕ) → b ≤ c → Rose a b → Rose a c
 rose-then a b c later rose = omega arith
-
-then-rose : (a b c : ℕ) → a ≤ b → Rose b c → Rose a c
-then-rose a b c later rose = omega arith
 
 -- a flush has no other fault
 failed : (result : Result (Unit {0}) PutFault) (fault : PutFault) → result ≡ Err fault → result ≢ Err NoMemory → result ≡ Err Failed
