@@ -13,7 +13,7 @@ use Rattle.link_laws.proofs.RowFacts.{live_or_free, rows_dimension}
 use Rattle.edit_laws.proofs.RowWrites.{births-links, births-wide, births-old, live-within}
 use Rattle.edit_laws.proofs.EditLinks.{touched, untouched}
 use Rattle.dual_map.specs.Differences.{map_changes}
-use Rattle.dual_map.proofs.DualEntries.{AreFreeAlike}
+use Rattle.link_rows.proofs.DualEntries.{AreFreeAlike}
 use Rattle.dual_map.proofs.ChangeLists.{TellsChange, map-of, map-has, map-pairs}
 
 -- the changes from the links of rows to others, and the edit that makes them

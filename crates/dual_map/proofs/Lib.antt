@@ -1,4 +1,4 @@
-mod DualEntries
+mod SelfJoins
 mod ChangeLists
 mod ChangedLinks
 mod DualEdit

@@ -1,7 +1,7 @@
 //! The entries of the rows, and of those of the dual.
 ghost use Rattle.std.specs.Prelude.{◌≡◌, ◌≤◌};
 ghost use Rattle.map_defs.specs.Rows.{links_of};
-ghost use Rattle.dual_map.specs.DualLinks.{dual_link};
+ghost use Rattle.link_rows.specs.DualLinks.{dual_link};
 
 use link_rows::Links;
 use map_kind::{Dart, Kind, is_generalized};

@@ -4,7 +4,7 @@ ghost use Rattle.map_defs.specs.Rows.{links_of, made, live_count, IsLive, IsSoun
 ghost use Rattle.map_defs.specs.Laws.{Laws};
 ghost use Rattle.map_defs.specs.Edits.{Fits, after_edit};
 ghost use Rattle.map_defs.specs.Dual.{IsDualable, IsDual};
-ghost use Rattle.dual_map.specs.DualLinks.{dual_link};
+ghost use Rattle.link_rows.specs.DualLinks.{dual_link};
 ghost use Rattle.dual_map.specs.Differences.{link_changes, dart_changes, map_changes};
 
 use crate::boundary::dualable;

@@ -1,1 +1,4 @@
 pub mod ReversedLinks
+pub mod DualEntries
+mod Exchanges
+mod TurnedDarts

@@ -2,6 +2,7 @@
 #![tactic(auto)]
 
 mod builder;
+mod dual;
 mod edit;
 mod links;
 mod polygon;

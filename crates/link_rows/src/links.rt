@@ -1,13 +1,15 @@
 ghost use Rattle.std.specs.Prelude.{◌≡◌, ℕ, ◌+◌, ◌-◌, ◌≤◌, ◌<◌, ◌↔◌, [], ◌∷◌, None, length, map, option_map, reverse, IsNone, IsOk, IsTrue, IfSome, IfNone, OnOk, OnErr, IsErrOf};
-ghost use Rattle.map_defs.specs.Kind.{alpha};
+ghost use Rattle.map_defs.specs.Kind.{alpha, beta};
 ghost use Rattle.map_defs.specs.Rows.{Rows, links_of, made, live_count, IsLive, IsSound};
+ghost use Rattle.map_defs.specs.Laws.{Laws};
 ghost use Rattle.map_defs.specs.Edits.{after_edit, before_edit, Fits, IsLed};
+ghost use Rattle.map_defs.specs.Dual.{IsDualable, IsDual};
 ghost use Rattle.dart_arena.specs.Stock.{IsNextLive};
 
 use crate::edit::Edit;
-use crate::steps;
+use crate::{dual, steps};
 use dart_arena::{Arena, MADE_MAX, ReserveFault};
-use map_kind::{Alpha, Dart, Kind};
+use map_kind::{Alpha, Beta, Dart, Kind};
 use std::alloc::Global;
 use std::marker::{Model, PhantomData};
 
@@ -196,5 +198,23 @@ impl<const DIM: usize> Links<Alpha, DIM> {
         ensures room { self.new.room ≡ self.old.room }
     {
         self.rows.reverse_rows();
+    }
+}
+
+impl<const DIM: usize> Links<Beta, DIM> {
+    /// Makes the links of a combinatorial map that has a dual those of its dual. It takes no memory, and costs a few steps
+    /// for each link of the darts that were made.
+    pub fn dualize(&mut self)
+        requires laws { Laws beta (links_of self.old.rows) }
+        requires dualable { IsDualable beta DIM (links_of self.old.rows) (IsLive self.old.rows) }
+        ensures dual { IsDual beta DIM (links_of self.old.rows) (links_of self.new.rows) }
+        ensures live { (d : ℕ) → IsLive self.new.rows d ↔ IsLive self.old.rows d }
+        ensures low { 2 ≤ DIM }
+        ensures sound { IsSound beta DIM self.new.rows }
+        ensures length { length self.new.rows ≡ length self.old.rows }
+        ensures spare { self.new.spare ≡ self.old.spare }
+        ensures room { self.new.room ≡ self.old.room }
+    {
+        dual::dualize(&mut self.rows);
     }
 }

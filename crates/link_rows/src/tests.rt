@@ -2,7 +2,7 @@ ghost use Rattle.std.specs.Prelude.{◌≡◌};
 
 use crate::{Change, Edit, LinkBuilder, Links, ReserveFault, polygon_edit};
 use dart_arena::MADE_MAX;
-use map_kind::{Alpha, Dart};
+use map_kind::{Alpha, Beta, Dart};
 use std::test::Fail;
 
 #[test]
@@ -112,4 +112,12 @@ fn links_of_a_triangle_are_turned_round(rt: HostRuntime) -> Result<(), Fail> {
     assert_eq!(&rt; links.link(six, 1), Dart::new(1));
     assert_eq!(&rt; links.link(six, 2), Dart::new(5));
     Ok(())
+}
+
+// The map without darts is its own dual.
+#[test]
+fn no_darts_are_turned(rt: HostRuntime) {
+    let mut links = Links::<Beta, 3>::new(rt.alloc());
+    links.dualize();
+    assert_eq!(&rt; (links.made(), links.live_count()), (0, 0));
 }

@@ -1,7 +1,7 @@
 use Rattle.std.proofs.Common.{refl, sym, ◌∙◌, arith}
 use Rattle.std.proofs.lemmas.Bool.{false≢true}
 use Rattle.map_defs.specs.Rows.{links_of}
-use Rattle.dual_map.proofs.DualEntries.{apart-all}
+use Rattle.dual_map.proofs.SelfJoins.{apart-all}
 use Rattle.dual_map.proofs.boundary.stays_apart.Goals as goal
 
 pub returns : goal.returns

@@ -1,6 +1,6 @@
 use Rattle.std.proofs.Common.{ℕ, ◌≢◌, ◌≤◌, ◌<◌}
 use Rattle.map_defs.specs.Rows.{links_of}
-use Rattle.dual_map.specs.DualLinks.{dual_link}
+use Rattle.link_rows.specs.DualLinks.{dual_link}
 use Rattle.dual_map.proofs.boundary.stays_apart.Given as goal
 
 abbrev pub invariant-loop-link : goal.invariant-loop-link

@@ -1,7 +1,7 @@
 use Rattle.std.proofs.Common.{◌≡◌, ◌+◌, ℕ, [], Option, Some, subst}
 use Rattle.std.specs.Prelude.{IfSome}
 use Rattle.map_defs.specs.Rows.{links_of}
-use Rattle.dual_map.specs.DualLinks.{dual_link}
+use Rattle.link_rows.specs.DualLinks.{dual_link}
 use Rattle.dual_map.specs.Differences.{dart_changes}
 use Rattle.dual_map.proofs.ChangeLists.{flat-grown}
 use Rattle.dual_map.proofs.plan.dual_changes.Goals as goal

@@ -1,6 +1,6 @@
 use Rattle.std.proofs.Common.{◌≡◌}
 use Rattle.map_defs.specs.Rows.{links_of}
-use Rattle.dual_map.specs.DualLinks.{dual_link}
+use Rattle.link_rows.specs.DualLinks.{dual_link}
 use Rattle.dual_map.specs.Differences.{map_changes}
 use Rattle.dual_map.proofs.plan.dual_changes.Given as goal
 

@@ -1,5 +1,5 @@
 use Rattle.map_defs.specs.Rows.{links_of}
-use Rattle.dual_map.specs.DualLinks.{dual_link}
+use Rattle.link_rows.specs.DualLinks.{dual_link}
 use Rattle.dual_map.specs.Differences.{link_changes}
 use Rattle.dual_map.proofs.ChangeLists.{flat-grown}
 use Rattle.dual_map.proofs.plan.push_dart.Goals as goal

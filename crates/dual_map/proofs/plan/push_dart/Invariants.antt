@@ -1,7 +1,7 @@
 use Rattle.std.proofs.Common.{◌≡◌, ◌++◌}
 use Rattle.std.specs.List.{flat_map, range_with_len}
 use Rattle.map_defs.specs.Rows.{links_of}
-use Rattle.dual_map.specs.DualLinks.{dual_link}
+use Rattle.link_rows.specs.DualLinks.{dual_link}
 use Rattle.dual_map.specs.Differences.{link_changes}
 use Rattle.dual_map.proofs.plan.push_dart.Given as goal
 
