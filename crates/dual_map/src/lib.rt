@@ -1,14 +1,14 @@
-//! The dual of a map: whether a map has one, and the edit that makes it, in maps of both kinds and every dimension. In a
-//! generalized map the dual is made in place, too.
+//! The dual of a map: whether a map has one, and how it is made, in place or by an edit, in maps of both kinds and every
+//! dimension.
 #![tactic(auto)]
 
 mod boundary;
+pub mod combinatorial;
 mod entries;
-mod in_place;
+pub mod generalized;
 mod plan;
 #[cfg(test)]
 mod tests;
 
 pub use boundary::dualable;
-pub use in_place::take_dual;
 pub use plan::dual_plan;

@@ -3,7 +3,7 @@ ghost use Rattle.map_defs.specs.Kind.{alpha, beta};
 ghost use Rattle.map_defs.specs.Rows.{links_of};
 ghost use Rattle.map_defs.specs.Laws.{Laws};
 
-use crate::{dual_plan, dualable, take_dual};
+use crate::{combinatorial, dual_plan, dualable, generalized};
 use link_rows::{Edit, Links, polygon_edit};
 use map_kind::{Alpha, Beta, Dart, Kind, Refusal, Refused};
 use sewing::sew_plan;
@@ -146,11 +146,11 @@ fn dual_of_a_cube_is_made_in_place(rt: HostRuntime) -> Result<(), Fail> {
     let alloc = rt.alloc();
     let mut links = Links::<Alpha, 2>::new(alloc);
     cube(&rt, alloc, &mut links);
-    assert_eq!(&rt; take_dual(&mut links), Ok(()));
+    assert_eq!(&rt; generalized::take_dual(&mut links), Ok(()));
     assert_eq!(&rt; links.made(), 48);
     assert_eq!(&rt; row(&rt, &links, 1), [Some(42), Some(8), Some(2)]);
     assert_eq!(&rt; row(&rt, &links, 48), [Some(35), Some(41), Some(47)]);
-    assert_eq!(&rt; take_dual(&mut links), Ok(()));
+    assert_eq!(&rt; generalized::take_dual(&mut links), Ok(()));
     assert_eq!(&rt; row(&rt, &links, 1), [Some(2), Some(8), Some(42)]);
     Ok(())
 }
@@ -160,7 +160,7 @@ fn a_triangle_alone_stays_as_it_is(rt: HostRuntime) -> Result<(), Fail> {
     let alloc = rt.alloc();
     let mut links = Links::<Alpha, 2>::new(alloc);
     polygon(&rt, alloc, &mut links, 3);
-    assert_eq!(&rt; take_dual(&mut links), Err(Refusal::Boundary));
+    assert_eq!(&rt; generalized::take_dual(&mut links), Err(Refusal::Boundary));
     assert_eq!(&rt; row(&rt, &links, 1), [Some(2), Some(6), None]);
     Ok(())
 }
@@ -248,6 +248,57 @@ fn dual_of_a_combinatorial_map(rt: HostRuntime) -> Result<(), Fail> {
     Ok(())
 }
 
+#[test]
+fn dual_of_a_combinatorial_map_is_made_in_place(rt: HostRuntime) {
+    let alloc = rt.alloc();
+    let mut links = Links::<Beta, 3>::new(alloc);
+    two_volumes(&rt, alloc, &mut links);
+    assert_eq!(&rt; combinatorial::take_dual(&mut links), Ok(()));
+    assert_eq!(&rt; links.made(), 12);
+    assert_eq!(&rt; directed_row(&rt, &links, 1), [10, 10, 8, 7]);
+    assert_eq!(&rt; directed_row(&rt, &links, 6), [9, 9, 12, 11]);
+    assert_eq!(&rt; combinatorial::take_dual(&mut links), Ok(()));
+    assert_eq!(&rt; directed_row(&rt, &links, 1), [3, 2, 4, 7]);
+}
+
+/// Four triangles in dimension 8: two and two are sewn by the links 2 to 7, and link 8 leads from the one two to the other.
+fn four_triangles(rt: &impl Abort, alloc: Global, links: &mut Links<Beta, 8>)
+    requires { Laws beta (links_of links.old.rows) }
+    ensures { Laws beta (links_of links.new.rows) }
+{
+    for _triangle in 0..4 {
+        polygon(rt, alloc, links, 3);
+    }
+    sew(rt, alloc, links, 2, 1, 4);
+    sew(rt, alloc, links, 2, 2, 6);
+    sew(rt, alloc, links, 2, 3, 5);
+    sew(rt, alloc, links, 2, 7, 10);
+    sew(rt, alloc, links, 2, 8, 12);
+    sew(rt, alloc, links, 2, 9, 11);
+    for link in 3..8 {
+        sew(rt, alloc, links, link, 1, 4);
+        sew(rt, alloc, links, link, 7, 10);
+    }
+    sew(rt, alloc, links, 8, 1, 7);
+}
+
+#[test]
+fn dual_of_dimension_8_is_made_in_place(rt: HostRuntime) -> Result<(), Fail> {
+    let alloc = rt.alloc();
+    let mut links = Links::<Beta, 8>::new(alloc);
+    four_triangles(&rt, alloc, &mut links);
+    assert_eq!(&rt; combinatorial::take_dual(&mut links), Ok(()));
+    let mut row = Vec::new(alloc);
+    for link in 0..9 {
+        row.push(links.number_at(dart(&rt, 2), link))?;
+    }
+    assert_eq!(&rt;
+        row.as_slice(),
+        [11, 11, 11, 11, 11, 11, 11, 7, 9].as_slice()
+    );
+    Ok(())
+}
+
 // All links of a square are there, and it is sewn to itself by link 3: in the dual, link 2 would join each dart to itself.
 #[test]
 fn a_combinatorial_map_without_free_links_may_have_no_dual(rt: HostRuntime) -> Result<(), Fail> {
@@ -260,6 +311,10 @@ fn a_combinatorial_map_without_free_links_may_have_no_dual(rt: HostRuntime) -> R
     assert_eq!(&rt; directed_row(&rt, &links, 1), [4, 2, 2, 4]);
     assert_eq!(&rt; directed_row(&rt, &links, 3), [2, 4, 4, 2]);
     assert!(&rt; !dualable(&links));
+    assert_eq!(&rt;
+        combinatorial::take_dual(&mut links),
+        Err(Refusal::Boundary)
+    );
     assert!(&rt;
         matches!(
             dual_plan(alloc, &links),

@@ -63,10 +63,8 @@ impl<const DIM: usize> Plans<Links<Beta, DIM>> for Beta {
         beta_edit::contractible(alloc, links, dim, dart)
     }
 
-    /// It takes the memory of the links that differ in the dual, since a link of the dual follows two links of the map.
-    fn take_dual(alloc: Global, links: &mut Links<Beta, DIM>) -> Result<(), Refused> {
-        let edit = dual_map::dual_plan(alloc, links)?;
-        links.apply(&edit);
-        Ok(())
+    /// It takes no memory.
+    fn take_dual(_alloc: Global, links: &mut Links<Beta, DIM>) -> Result<(), Refused> {
+        Ok(dual_map::combinatorial::take_dual(links)?)
     }
 }

@@ -65,6 +65,6 @@ impl<const DIM: usize> Plans<Links<Alpha, DIM>> for Alpha {
 
     /// It takes no memory.
     fn take_dual(_alloc: Global, links: &mut Links<Alpha, DIM>) -> Result<(), Refused> {
-        Ok(dual_map::take_dual(links)?)
+        Ok(dual_map::generalized::take_dual(links)?)
     }
 }

@@ -2,7 +2,7 @@
 //! back meanwhile.
 ghost use Rattle.std.specs.Prelude.{◌≡◌, ◌≢◌, ℕ, ◌-◌, ◌<◌, ◌≤◌, None};
 ghost use Rattle.dart_arena.specs.Stock.{IsLive, row_at};
-ghost use Rattle.map_defs.specs.Kind.{beta, inverse};
+ghost use Rattle.map_defs.specs.Kind.{beta};
 ghost use Rattle.map_defs.specs.Rows.{links_of, AreWide, IsSound};
 ghost use Rattle.map_defs.specs.Rows.{IsLive as IsLiveIn};
 ghost use Rattle.map_defs.specs.Laws.{Laws};

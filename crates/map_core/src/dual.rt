@@ -14,8 +14,8 @@ use std::alloc::Global;
 impl<'h, K: Edits<DIM>, H: Hook, const DIM: usize> Map<'h, K, H, DIM> {
     /// Makes the map its dual: the darts stay, and the cells of dimension `DIM - i` become those of dimension i, with their
     /// values and the rule of their dimension. No value is merged or split. Link i of a dart becomes its link `DIM - i`; in
-    /// a combinatorial map link `DIM` stays, and a link between leads along link `DIM` first. In a generalized map without a
-    /// mark it takes no memory. It costs a few steps for each link of the darts that were made.
+    /// a combinatorial map link `DIM` stays, and a link between leads along link `DIM` first. Without a mark it takes no
+    /// memory. It costs a few steps for each link of the darts that were made.
     ///
     /// Refused as `Boundary` exactly where some link of a live dart is free, or where, in a combinatorial map, the dual would
     /// join a dart to itself.

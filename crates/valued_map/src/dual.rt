@@ -25,8 +25,8 @@ use undo_journal::{RuleChange, Step, ValueChange};
 
 impl<K: Edits<DIM>, const DIM: usize> ValuedMap<K, DIM> {
     /// Makes the map its dual: the darts stay, and values and rules go with their cells. `Boundary` comes exactly where the
-    /// map has no dual, memory aside. It takes the memory that the kind's own `take_dual` takes, none in a generalized map,
-    /// and costs a few steps for each link of the darts that were made. A refusal leaves the map as it was.
+    /// map has no dual, memory aside. It takes the memory that the kind's own `take_dual` takes, which is none in maps of both
+    /// kinds, and costs a few steps for each link of the darts that were made. A refusal leaves the map as it was.
     pub fn take_dual(&mut self, alloc: Global) -> Result<(), Refused>
         ensures { BecomesDual self.old.content self.new.content result }
     {

@@ -1,4 +1,4 @@
-//! The dual made in place.
+//! The dual of a generalized map, made in place.
 ghost use Rattle.std.specs.Prelude.{◌≡◌, ℕ, ◌↔◌, length, IfErr, OnOk, OnErr, IsErrOf};
 ghost use Rattle.map_defs.specs.Kind.{alpha};
 ghost use Rattle.map_defs.specs.Rows.{links_of, IsLive, IsSound};

@@ -2,7 +2,7 @@ use Rattle.map_defs.specs.Kind.{alpha}
 use Rattle.map_defs.specs.Rows.{Rows, links_of}
 use Rattle.link_laws.proofs.RowFacts.{rows_dimension}
 use Rattle.dual_laws.proofs.DualLaws.{dual_laws}
-use Rattle.dual_map.proofs.in_place.take_dual.Goals as goal
+use Rattle.dual_map.proofs.generalized.take_dual.Goals as goal
 
 pub returns-clause-laws : goal.returns-clause-laws
 returns-clause-laws g c =
