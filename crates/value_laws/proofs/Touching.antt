@@ -6,6 +6,7 @@ use Rattle.map_defs.specs.Laws.{Laws}
 use Rattle.map_defs.specs.LinkWords.{LinkWord, through, through_second, inverse_word, IsCellWord}
 use Rattle.map_defs.specs.Cells.{InOrbit, here, onward, Leads, InCell}
 use Rattle.map_defs.specs.Touched.{IsReached, IsTouched, Touches}
+use Rattle.value_laws.specs.Rerouted.{IsRerouted, IsTouchedIn}
 use Rattle.link_laws.proofs.Basics.{stable}
 use Rattle.link_laws.proofs.LawFacts.{back_to}
 
@@ -91,3 +92,32 @@ module _ (k : Kind) (Live : ℕ → Type 0) (L N : Links) (w : Laws k L) (wn : L
     where
       all : (x : ℕ) → InCell k N i d x → IsStill k Live L N x
       all x h = still k Live L N x (decide x) (λ r. none x h (holds x (cell_live LiveAfter leads i d l h, r)))
+
+  -- a dart that is not rerouted: each word of the i-cells leads where it led
+  record IsUnmoved (i x : ℕ) : Type 0 where
+    lived : Live x
+    same : (v : LinkWord) → IsCellWord k i v → through N v x ≡ through L v x
+
+  unmoved : (i x : ℕ) → Live x ⊎ (Live x → ⊥) → ((Live x → ⊥) ⊎ IsRerouted k i L N x → ⊥) → IsUnmoved i x
+  unmoved i x decided n = record { lived = lived decided; same = λ v c. stable _ _ (λ m. n (inr (v, c, m))) }
+    where
+      lived : Live x ⊎ (Live x → ⊥) → Live x
+      lived (inl l) = l
+      lived (inr m) = absurd (n (inl m))
+
+  module _ (i d : ℕ) (all : (x : ℕ) → InCell k N i d x → IsUnmoved i x) where
+    into_old : {x : ℕ} → InOrbit (Leads N (IsCellWord k i)) d x → InCell k L i d x
+    into_old here = here
+    into_old (onward {x = x} o s) = onward (into_old o) (s.0, s.1, sym ((all x o).same s.0 s.1) ∙ s.2, s.3)
+
+    into_new : {x : ℕ} → InOrbit (Leads L (IsCellWord k i)) d x → InCell k N i d x
+    into_new here = here
+    into_new (onward {x = x} o s) = onward (into_new o) (s.0, s.1, (all x (into_new o)).same s.0 s.1 ∙ s.2, s.3)
+
+  -- a set that holds the darts touched in a dimension touches it
+  pub rerouted_touch : (LiveAfter : ℕ → Type 0) (T : ℕ → Type 0) → ((x : ℕ) → Live x ⊎ (Live x → ⊥)) → LeadsToLive LiveAfter N → (i : ℕ)
+      → ((x : ℕ) → IsTouchedIn k i L Live N LiveAfter x → T x) → Touches k i L Live N LiveAfter T
+  rerouted_touch LiveAfter T decide leads i holds d l none = record { lived = λ x h. (all x h).lived; same = λ x. (into_old i d all, into_new i d all) }
+    where
+      all : (x : ℕ) → InCell k N i d x → IsUnmoved i x
+      all x h = unmoved i x (decide x) (λ r. none x h (holds x (cell_live LiveAfter leads i d l h, r)))

@@ -32,6 +32,7 @@ ghost use Rattle.map_defs.specs.Walks.{IsTold};
 ghost use Rattle.map_defs.specs.Touched.{IsTouched, IsOldCell, Touches, IsAlike, IsLabelled, Covers};
 ghost use Rattle.map_defs.specs.Values.{Value, Rule, Meaning, meaning_of, KeepsWhole, IsRepresentable, dealt, total};
 ghost use Rattle.map_defs.specs.Carry.{IsCarried, AreCarried, AreCarriedByLabel, IsValuedWith, AreEqualOnCells, known};
+ghost use Rattle.value_laws.specs.Rerouted.{IsTouchedIn};
 ghost use Rattle.map_defs.specs.Totals.{sum_share, ListsValuedCells, total_value, NoSumLeaves};
 
 /// The touched darts touch every dimension: each new cell without one of them is an old cell.
@@ -42,6 +43,19 @@ pub fn touched_darts_touch()
     ensures { (k : Kind) (i : ℕ) (old new : Rows) (touched : List ℕ) → Laws k (links_of old)
         → Laws k (links_of new)
         → ((x : ℕ) → IsTouched k (links_of old) (IsLive old) (links_of new) (IsLive new) x
+        → Contains touched x)
+        → Touches k i (links_of old) (IsLive old) (links_of new) (IsLive new) (Contains touched) }
+{}
+
+/// The darts that are touched in a dimension touch it: each new cell of the dimension without a dart that was born, or from
+/// which a word of its cells leads elsewhere than before, is an old cell.
+///
+/// For whoever looks for the cells of one dimension that a change of links may have changed: a change of link i alone changes
+/// no i-cell of a generalized map, and a word of two links may lead to the same dart although both its links changed.
+pub fn rerouted_darts_touch()
+    ensures { (k : Kind) (i : ℕ) (old new : Rows) (touched : List ℕ) → Laws k (links_of old)
+        → Laws k (links_of new)
+        → ((x : ℕ) → IsTouchedIn k i (links_of old) (IsLive old) (links_of new) (IsLive new) x
         → Contains touched x)
         → Touches k i (links_of old) (IsLive old) (links_of new) (IsLive new) (Contains touched) }
 {}
