@@ -1,15 +1,14 @@
-ghost use Rattle.std.specs.Prelude.{◌≤◌, IfOk};
+ghost use Rattle.std.specs.Prelude.{◌≤◌};
 ghost use Rattle.map_defs.specs.Kind.{beta};
 ghost use Rattle.map_defs.specs.Rows.{links_of};
 ghost use Rattle.map_defs.specs.Laws.{Laws};
 
-use crate::test_maps::{dart, polygon, refusal, rows, sew};
+use crate::test_maps::{check_refusal, check_rows, dart, no_darts, polygon, sew, sew_pairs};
 use crate::{contract_plan, contractible, removable, remove_plan};
 use link_rows::Links;
 use map_kind::{Beta, Refusal, Refused};
-use std::alloc::{AllocError, Global};
+use std::alloc::Global;
 use std::process::Abort;
-use std::test::Fail;
 
 /// Removes the cell of a dart.
 fn remove<const DIM: usize>(
@@ -49,147 +48,211 @@ fn contract<const DIM: usize>(
     }
 }
 
-#[test]
-fn a_square_without_a_vertex_is_a_triangle(rt: HostRuntime) -> Result<(), Fail> {
-    let alloc = rt.alloc();
-    let mut links = Links::<Beta, 2>::new(alloc);
-    polygon(&rt, alloc, &mut links, 4)?;
-    remove(&rt, alloc, &mut links, 0, 2);
-    assert_eq!(&rt; links.live_count(), 3);
-    assert_eq!(&rt;
-        rows(&rt, alloc, &links, &[1, 3, 4])?.as_slice(),
-        [4, 3, 0, 1, 4, 0, 3, 1, 0].as_slice()
-    );
-    Ok(())
+/// Removes a vertex of a square.
+fn check_triangle_of_a_square(rt: &impl Abort, alloc: Global, links: &mut Links<Beta, 2>)
+    requires { Laws beta (links_of links.old.rows) }
+{
+    polygon(rt, alloc, links, 4);
+    remove(rt, alloc, links, 0, 2);
+    assert_eq!(rt; links.live_count(), 3);
+    check_rows(rt, alloc, links, &[1, 3, 4], &[4, 3, 0, 1, 4, 0, 3, 1, 0]);
 }
 
 #[test]
-fn a_vertex_is_removed_on_both_sides_of_a_face(rt: HostRuntime) -> Result<(), Fail> {
-    let alloc = rt.alloc();
-    let mut links = Links::<Beta, 3>::new(alloc);
-    polygon(&rt, alloc, &mut links, 3)?;
-    polygon(&rt, alloc, &mut links, 3)?;
-    sew(&rt, alloc, &mut links, 3, 1, 4);
-    remove(&rt, alloc, &mut links, 0, 1);
-    assert_eq!(&rt;
-        rows(&rt, alloc, &links, &[2, 3, 4, 6])?.as_slice(),
-        [3, 3, 0, 6, 2, 2, 0, 4, 6, 6, 0, 3, 4, 4, 0, 2].as_slice()
-    );
-    Ok(())
+fn a_square_without_a_vertex_is_a_triangle(rt: HostRuntime) {
+    let mut links = no_darts::<2>(rt.alloc());
+    check_triangle_of_a_square(&rt, rt.alloc(), &mut links);
+}
+
+/// The links of darts 2, 3, 4 and 6 once a vertex is removed on both sides of a triangle.
+#[rattlefmt::skip]
+const TWO_SIDES: [u32; 16] = [
+    3, 3, 0, 6,
+    2, 2, 0, 4,
+    6, 6, 0, 3,
+    4, 4, 0, 2,
+];
+
+/// Removes a vertex of a face that has two sides.
+fn check_vertex_on_both_sides(rt: &impl Abort, alloc: Global, links: &mut Links<Beta, 3>)
+    requires { Laws beta (links_of links.old.rows) }
+{
+    polygon(rt, alloc, links, 3);
+    polygon(rt, alloc, links, 3);
+    sew(rt, alloc, links, 3, 1, 4);
+    remove(rt, alloc, links, 0, 1);
+    check_rows(rt, alloc, links, &[2, 3, 4, 6], &TWO_SIDES);
+}
+
+#[test]
+fn a_vertex_is_removed_on_both_sides_of_a_face(rt: HostRuntime) {
+    let mut links = no_darts::<3>(rt.alloc());
+    check_vertex_on_both_sides(&rt, rt.alloc(), &mut links);
+}
+
+/// Compares whether the vertex of dart 2 can be removed.
+fn check_removable(rt: &impl Abort, alloc: Global, links: &Links<Beta, 2>, wanted: bool)
+    requires { Laws beta (links_of links.now.rows) }
+{
+    let second = dart(rt, links, 2);
+    assert_eq!(rt; removable(alloc, links, 0, second), Ok(wanted));
+}
+
+/// Compares why the vertex of dart 2 is not removed.
+fn check_not_removed(rt: &impl Abort, alloc: Global, links: &Links<Beta, 2>, wanted: Refusal)
+    requires { Laws beta (links_of links.now.rows) }
+{
+    let second = dart(rt, links, 2);
+    let planned = remove_plan(alloc, links, 0, second);
+    check_refusal(rt, planned, Refused::Line(wanted));
+}
+
+/// Removes a vertex of a triangle, and joins the two sides that are left by link 2.
+fn check_side_to_itself(rt: &impl Abort, alloc: Global, links: &mut Links<Beta, 2>)
+    requires { Laws beta (links_of links.old.rows) }
+{
+    polygon(rt, alloc, links, 3);
+    remove(rt, alloc, links, 0, 1);
+    check_removable(rt, alloc, links, true);
+    sew(rt, alloc, links, 2, 2, 3);
+    check_removable(rt, alloc, links, false);
+    check_not_removed(rt, alloc, links, Refusal::NotRemovable);
 }
 
 // A face of two sides that are joined by link 2: without the vertex, the side that is left would be joined to itself.
 #[test]
-fn a_side_is_not_joined_to_itself(rt: HostRuntime) -> Result<(), Fail> {
-    let alloc = rt.alloc();
-    let mut links = Links::<Beta, 2>::new(alloc);
-    polygon(&rt, alloc, &mut links, 3)?;
-    remove(&rt, alloc, &mut links, 0, 1);
-    assert!(&rt; removable(alloc, &links, 0, dart(&rt, &links, 2))?);
-    sew(&rt, alloc, &mut links, 2, 2, 3);
-    let second = dart(&rt, &links, 2);
-    assert!(&rt; !removable(alloc, &links, 0, second)?);
-    assert_eq!(&rt;
-        refusal(remove_plan(alloc, &links, 0, second)),
-        Some(Refused::Line(Refusal::NotRemovable))
-    );
-    Ok(())
+fn a_side_is_not_joined_to_itself(rt: HostRuntime) {
+    let mut links = no_darts::<2>(rt.alloc());
+    check_side_to_itself(&rt, rt.alloc(), &mut links);
+}
+
+/// The links of darts 2, 3, 5 and 6 once the edge between two triangles is removed.
+#[rattlefmt::skip]
+const JOINED_FACES: [u32; 12] = [
+    6, 3, 0,
+    2, 5, 0,
+    3, 6, 0,
+    5, 2, 0,
+];
+
+/// Removes the edge between two triangles.
+fn check_joined_faces(rt: &impl Abort, alloc: Global, links: &mut Links<Beta, 2>)
+    requires { Laws beta (links_of links.old.rows) }
+{
+    polygon(rt, alloc, links, 3);
+    polygon(rt, alloc, links, 3);
+    sew(rt, alloc, links, 2, 1, 4);
+    remove(rt, alloc, links, 1, 1);
+    check_rows(rt, alloc, links, &[2, 3, 5, 6], &JOINED_FACES);
 }
 
 #[test]
-fn a_removed_edge_joins_two_faces(rt: HostRuntime) -> Result<(), Fail> {
-    let alloc = rt.alloc();
-    let mut links = Links::<Beta, 2>::new(alloc);
-    polygon(&rt, alloc, &mut links, 3)?;
-    polygon(&rt, alloc, &mut links, 3)?;
-    sew(&rt, alloc, &mut links, 2, 1, 4);
-    remove(&rt, alloc, &mut links, 1, 1);
-    assert_eq!(&rt;
-        rows(&rt, alloc, &links, &[2, 3, 5, 6])?.as_slice(),
-        [6, 3, 0, 2, 5, 0, 3, 6, 0, 5, 2, 0].as_slice()
-    );
-    Ok(())
+fn a_removed_edge_joins_two_faces(rt: HostRuntime) {
+    let mut links = no_darts::<2>(rt.alloc());
+    check_joined_faces(&rt, rt.alloc(), &mut links);
 }
 
 /// A triangle with one triangle sewn to each of two of its sides.
-fn triangles(rt: &impl Abort, alloc: Global) -> Result<Links<Beta, 2>, AllocError>
-    ensures { IfOk result (λ links. Laws beta (links_of links.rows)) }
+fn triangles(rt: &impl Abort, alloc: Global, links: &mut Links<Beta, 2>)
+    requires { Laws beta (links_of links.old.rows) }
+    ensures { Laws beta (links_of links.new.rows) }
 {
-    let mut links = Links::<Beta, 2>::new(alloc);
-    polygon(rt, alloc, &mut links, 3)?;
-    polygon(rt, alloc, &mut links, 3)?;
-    polygon(rt, alloc, &mut links, 3)?;
-    sew(rt, alloc, &mut links, 2, 1, 4);
-    sew(rt, alloc, &mut links, 2, 2, 7);
-    Ok(links)
+    polygon(rt, alloc, links, 3);
+    polygon(rt, alloc, links, 3);
+    polygon(rt, alloc, links, 3);
+    sew_pairs(rt, alloc, links, 2, &[(1, 4), (2, 7)]);
+}
+
+/// Compares that the vertex of dart 1 cannot be contracted, nor its face.
+fn check_not_contracted(rt: &impl Abort, alloc: Global, links: &Links<Beta, 2>)
+    requires { Laws beta (links_of links.now.rows) }
+{
+    let first = dart(rt, links, 1);
+    assert_eq!(rt; contractible(alloc, links, 0, first), Ok(false));
+    let planned = contract_plan(alloc, links, 2, first);
+    check_refusal(rt, planned, Refused::Line(Refusal::NotContractible));
+}
+
+/// Contracts an edge of the middle triangle, and then the triangle.
+fn check_contracted_edge_and_face(rt: &impl Abort, alloc: Global, links: &mut Links<Beta, 2>)
+    requires { Laws beta (links_of links.old.rows) }
+{
+    triangles(rt, alloc, links);
+    check_not_contracted(rt, alloc, links);
+    contract(rt, alloc, links, 1, 3);
+    check_rows(rt, alloc, links, &[1, 2], &[2, 2, 4, 1, 1, 7]);
+    contract(rt, alloc, links, 2, 1);
+    assert_eq!(rt; links.live_count(), 6);
+    check_rows(rt, alloc, links, &[4, 7], &[6, 5, 7, 9, 8, 4]);
 }
 
 #[test]
-fn an_edge_and_then_a_face_are_contracted(rt: HostRuntime) -> Result<(), Fail> {
-    let alloc = rt.alloc();
-    let mut links = triangles(&rt, alloc)?;
-    let first = dart(&rt, &links, 1);
-    assert!(&rt; !contractible(alloc, &links, 0, first)?);
-    assert_eq!(&rt;
-        refusal(contract_plan(alloc, &links, 2, first)),
-        Some(Refused::Line(Refusal::NotContractible))
-    );
-    contract(&rt, alloc, &mut links, 1, 3);
-    assert_eq!(&rt;
-        rows(&rt, alloc, &links, &[1, 2])?.as_slice(),
-        [2, 2, 4, 1, 1, 7].as_slice()
-    );
-    contract(&rt, alloc, &mut links, 2, 1);
-    assert_eq!(&rt; links.live_count(), 6);
-    assert_eq!(&rt;
-        rows(&rt, alloc, &links, &[4, 7])?.as_slice(),
-        [6, 5, 7, 9, 8, 4].as_slice()
-    );
-    Ok(())
+fn an_edge_and_then_a_face_are_contracted(rt: HostRuntime) {
+    let mut links = no_darts::<2>(rt.alloc());
+    check_contracted_edge_and_face(&rt, rt.alloc(), &mut links);
 }
+
+/// The links 2 of two volumes of two triangles each.
+const VOLUMES: [(u32, u32); 6] = [(1, 4), (2, 6), (3, 5), (7, 10), (8, 12), (9, 11)];
 
 /// Two volumes of two triangles each, which share a face.
-fn volumes(rt: &impl Abort, alloc: Global) -> Result<Links<Beta, 3>, AllocError>
-    ensures { IfOk result (λ links. Laws beta (links_of links.rows)) }
+fn volumes(rt: &impl Abort, alloc: Global, links: &mut Links<Beta, 3>)
+    requires { Laws beta (links_of links.old.rows) }
+    ensures { Laws beta (links_of links.new.rows) }
 {
-    let mut links = Links::<Beta, 3>::new(alloc);
-    polygon(rt, alloc, &mut links, 3)?;
-    polygon(rt, alloc, &mut links, 3)?;
-    polygon(rt, alloc, &mut links, 3)?;
-    polygon(rt, alloc, &mut links, 3)?;
-    sew(rt, alloc, &mut links, 2, 1, 4);
-    sew(rt, alloc, &mut links, 2, 2, 6);
-    sew(rt, alloc, &mut links, 2, 3, 5);
-    sew(rt, alloc, &mut links, 2, 7, 10);
-    sew(rt, alloc, &mut links, 2, 8, 12);
-    sew(rt, alloc, &mut links, 2, 9, 11);
-    sew(rt, alloc, &mut links, 3, 4, 7);
-    Ok(links)
+    polygon(rt, alloc, links, 3);
+    polygon(rt, alloc, links, 3);
+    polygon(rt, alloc, links, 3);
+    polygon(rt, alloc, links, 3);
+    sew_pairs(rt, alloc, links, 2, &VOLUMES);
+    sew(rt, alloc, links, 3, 4, 7);
+}
+
+/// The links of darts 1, 2, 3, 10, 11 and 12 once the face between two volumes is removed.
+#[rattlefmt::skip]
+const JOINED_VOLUMES: [u32; 24] = [
+    3, 2, 10, 0,
+    1, 3, 12, 0,
+    2, 1, 11, 0,
+    12, 11, 1, 0,
+    10, 12, 3, 0,
+    11, 10, 2, 0,
+];
+
+/// Removes the face between two volumes.
+fn check_joined_volumes(rt: &impl Abort, alloc: Global, links: &mut Links<Beta, 3>)
+    requires { Laws beta (links_of links.old.rows) }
+{
+    volumes(rt, alloc, links);
+    remove(rt, alloc, links, 2, 4);
+    check_rows(rt, alloc, links, &[1, 2, 3, 10, 11, 12], &JOINED_VOLUMES);
 }
 
 #[test]
-fn a_removed_face_joins_two_volumes(rt: HostRuntime) -> Result<(), Fail> {
-    let alloc = rt.alloc();
-    let mut links = volumes(&rt, alloc)?;
-    remove(&rt, alloc, &mut links, 2, 4);
-    assert_eq!(&rt;
-        rows(&rt, alloc, &links, &[1, 2, 3, 10, 11, 12])?.as_slice(),
-        [
-            3, 2, 10, 0, 1, 3, 12, 0, 2, 1, 11, 0, 12, 11, 1, 0, 10, 12, 3, 0, 11, 10, 2, 0
-        ]
-        .as_slice()
-    );
-    Ok(())
+fn a_removed_face_joins_two_volumes(rt: HostRuntime) {
+    let mut links = no_darts::<3>(rt.alloc());
+    check_joined_volumes(&rt, rt.alloc(), &mut links);
+}
+
+/// The links of darts 7, 8 and 9 once the other volume is contracted.
+#[rattlefmt::skip]
+const CONTRACTED_VOLUME: [u32; 12] = [
+    9, 8, 10, 0,
+    7, 9, 12, 0,
+    8, 7, 11, 0,
+];
+
+/// Contracts one of two volumes.
+fn check_contracted_volume(rt: &impl Abort, alloc: Global, links: &mut Links<Beta, 3>)
+    requires { Laws beta (links_of links.old.rows) }
+{
+    volumes(rt, alloc, links);
+    contract(rt, alloc, links, 3, 1);
+    check_rows(rt, alloc, links, &[7, 8, 9], &CONTRACTED_VOLUME);
 }
 
 #[test]
-fn a_volume_is_contracted(rt: HostRuntime) -> Result<(), Fail> {
-    let alloc = rt.alloc();
-    let mut links = volumes(&rt, alloc)?;
-    contract(&rt, alloc, &mut links, 3, 1);
-    assert_eq!(&rt;
-        rows(&rt, alloc, &links, &[7, 8, 9])?.as_slice(),
-        [9, 8, 10, 0, 7, 9, 12, 0, 8, 7, 11, 0].as_slice()
-    );
-    Ok(())
+fn a_volume_is_contracted(rt: HostRuntime) {
+    let mut links = no_darts::<3>(rt.alloc());
+    check_contracted_volume(&rt, rt.alloc(), &mut links);
 }
