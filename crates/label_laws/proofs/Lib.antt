@@ -10,6 +10,7 @@ pub mod Same
 pub mod LineSteps
 pub mod Loops
 pub mod Remaking
+pub mod Sparing
 pub mod Making
 pub mod Valued
 pub mod ListedValues

@@ -1,12 +1,11 @@
 -- What an edit makes of a map, by the parts that the code has.
-use Rattle.std.proofs.Common.{ℕ, zero, suc, ◌≡◌, ◌≢◌, ◌⊎◌, ◌↔◌, ◌+◌, ◌<◌, ◌≤◌, inl, inr, refl, sym, ap, subst, List, [], ◌∷◌, ◌++◌, length, map, slice_set, max, Option, Some, None, IsSome, All, Contains, arith}
+use Rattle.std.proofs.Common.{ℕ, zero, suc, ◌≡◌, ◌≢◌, ◌⊎◌, ◌↔◌, ◌+◌, ◌<◌, ◌≤◌, inl, inr, refl, sym, ap, subst, ◌∙◌, List, [], ◌∷◌, ◌++◌, length, map, slice_set, max, Option, Some, None, IsSome, All, Contains, arith}
 use Rattle.std.proofs.lemmas.Bool.{false≢true, cases_eq}
 use Rattle.std.proofs.lemmas.List.{append-nil}
 use Rattle.map_defs.specs.Kind.{Kind}
 use Rattle.map_defs.specs.Laws.{Laws}
 use Rattle.map_defs.specs.Rows.{Rows, IsLive, links_of, made, made_max, IsSound}
 use Rattle.map_defs.specs.Edits.{Edit, Fits, IsLed, after_edit}
-use Rattle.map_defs.specs.Touched.{IsTouched, Touches, Covers, IsLabelled}
 use Rattle.map_defs.specs.Values.{Rule, Meaning, KeepsWhole}
 use Rattle.machine_defs.specs.State.{Content, with_born, without_dart}
 use Rattle.link_laws.proofs.RowFacts.{rows_lead_to_live}
@@ -16,8 +15,7 @@ use Rattle.edit_laws.proofs.EditPlain.{death_edit, death-fits}
 use Rattle.edit_laws.proofs.RowWrites.{live-within}
 use Rattle.edit_laws.proofs.KeptLaws.{death-keeps}
 use Rattle.value_laws.proofs.OfRows.{told_live}
-use Rattle.value_laws.proofs.Touching.{cell_live, touched_touch}
-use Rattle.value_laws.proofs.Covering.{touching_covers}
+use Rattle.value_laws.proofs.Touching.{cell_live}
 use Rattle.store_defs.specs.Stores.{Store}
 use Rattle.store_defs.specs.Labelings.{Labeling, id_of, KeepsIds, KeepsPlaces}
 use Rattle.store_defs.specs.Groups.{Group, group_at, rule_at, HasCarriedValue}
@@ -78,12 +76,12 @@ module _ (k : Kind) (n : ℕ) (rows : Rows) (e : Edit) (l : Labeling) (p : Store
       grown-stored = stored-grown k n rows l m p q rules s ids places (omega (arith, grown)) slots
 
       -- the groups that were touched can be labelled
-      module _ (groups : List Group) (touched : AreAllTouched k rows New rules groups) where
+      module _ (groups : List Group) (touched : AreAllTouched k rows New rules m groups) where
         group-live : (g d : ℕ) → g < length groups → Contains (group_at groups g).darts d → IsLive New d
         group-live g d lt here =
             let cell = touched.2.cells g lt in
             let some = cell.reached in
-            cell_live k (IsLive rows) (links_of rows) (links_of New) s.laws laws (IsLive New) (rows_lead_to_live k New laws) (group_at groups g).dim some.0 (touched.1 some.0 some.1) ((cell.whole some.0 d some.2).0 here)
+            cell_live k (IsLive rows) (links_of rows) (links_of New) s.laws laws (IsLive New) (rows_lead_to_live k New laws) (group_at groups g).dim some.0 (touched.1 (group_at groups g).dim some.0 some.1) ((cell.whole some.0 d some.2).0 here)
 
         pub ended-within : (d : ℕ) → Contains e.deaths d → d ≤ m.made
         ended-within d here =
@@ -167,34 +165,11 @@ module _ (k : Kind) (n : ℕ) (rows : Rows) (dart : ℕ) (l m : Labeling) (p q :
   pub end-content : content_of k n After m q rules ≡ without_dart (content_of k n rows l p rules) dart
   end-content = ended-content k n rows After l m p q rules s dart live alone after-is sound-one laws-one taken-one
 
--- What the darts that an edit touched are for.
-module _ (k : Kind) (old new : Rows) (lo : Laws k (links_of old)) (laws : Laws k (links_of new)) (touched : List ℕ)
-    (all : (x : ℕ) → IsTouched k (links_of old) (IsLive old) (links_of new) (IsLive new) x → Contains touched x) where
-  pub darts-touch : (i : ℕ) → Touches k i (links_of old) (IsLive old) (links_of new) (IsLive new) (Contains touched)
-  darts-touch i = touched_touch k (IsLive old) (links_of old) (links_of new) lo laws (IsLive new) (Contains touched) (told_live old) (rows_lead_to_live k new laws) all i
-
-  module _ (l : Labeling) (p : Store) (s : AreStored k (links_of old) (IsLive old) l p) where
-    no-label : (i x : ℕ) → IsLive new x → (IsLive old x → ⊥) → id_of l i x ≡ None
-    no-label i x live dead = go (id_of l i x) refl
-      where
-        go : (o : Option ℕ) → id_of l i x ≡ o → id_of l i x ≡ None
-        go None is = is
-        go (Some c) is = absurd (dead (s.live i x c is))
-
-    labelled : (i : ℕ) → IsLabelled k i (links_of old) (IsLive old) (id_of l i)
-    labelled i x y _ _ = (
-      λ a. ((s.apart i x i y a.0 a.1 a.2).1, (a.0, a.1)),
-      λ c. (c.1.0, c.1.1, s.whole i x y c.1.0 c.1.1 c.0),
-    )
-
-    pub darts-cover : (i : ℕ) → Covers k i (links_of new) (IsLive new) (id_of l i) (Contains touched)
-    darts-cover i = touching_covers k (links_of old) (links_of new) lo (IsLive old) (IsLive new) (told_live old) i (id_of l i) (no-label i) (labelled i) (Contains touched) (darts-touch i)
-
 -- without rules no cell is looked for
-pub none-touched : (k : Kind) (old new : Rows) (rules : List (Option Rule)) → rules ≡ [] → AreAllTouched k old new rules []
-none-touched k old new rules none = (
-  [],
-  λ x h. absurd (let lt : h.0 < 0 = h.1 in omega arith),
+pub none-touched : (k : Kind) (old new : Rows) (rules : List (Option Rule)) (l : Labeling) → rules ≡ [] → AreAllTouched k old new rules l []
+none-touched k old new rules l none = (
+  λ i. [],
+  λ i x h. absurd (let lt : h.0 < 0 = h.1 in omega arith),
   record { cells = λ g lt. absurd (omega arith); all = λ i t some _. absurd (no-rule i some); ascending = λ a b _ lt. absurd (omega arith) },
   λ i some. absurd (no-rule i some),
 )

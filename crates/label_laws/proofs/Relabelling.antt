@@ -7,7 +7,7 @@ use Rattle.map_defs.specs.Laws.{Laws}
 use Rattle.map_defs.specs.Rows.{Rows, IsLive, links_of}
 use Rattle.map_defs.specs.Cells.{InCell}
 use Rattle.map_defs.specs.Walks.{IsTold}
-use Rattle.map_defs.specs.Touched.{IsOldCell, Touches, IsAlike}
+use Rattle.map_defs.specs.Touched.{IsOldCell, IsAlike}
 use Rattle.map_defs.specs.Values.{Value, Rule, Meaning, KeepsWhole, IsRepresentable, meaning_of}
 use Rattle.map_defs.specs.Carry.{IsCarried, IsValuedWith, AreEqualOnCells, AreCarried, known}
 use Rattle.link_laws.proofs.Basics.{same_or_not}
@@ -22,10 +22,12 @@ use Rattle.store_defs.specs.Stores.{Store, value_of}
 use Rattle.store_defs.specs.Labelings.{Labeling, id_of, KeepsPlaces}
 use Rattle.store_defs.specs.Groups.{Group, group_at, rule_at, least_of, known_value, labelled_value, IsTouchedCell, AreTouchedCells, HasCarriedValue}
 use Rattle.label_laws.specs.Stored.{stored_value, AreStored, AreSmall}
+use Rattle.label_laws.specs.Touching.{Spares}
 use Rattle.label_laws.specs.Changing.{AreTaken, IsGroupedBelow, AreGroupsGiven}
 use Rattle.label_laws.proofs.Storing.{AreSpared, stored_value-stays, stored-taken}
 use Rattle.label_laws.proofs.Giving.{AreCells, AreUpTo, groups-given, groups-places}
 use Rattle.label_laws.proofs.Reliving.{relived}
+use Rattle.label_laws.proofs.Sparing.{cell-own, nothing-carried}
 
 some-or-not : (o : Option ℕ) (c : ℕ) → (o ≡ Some c) ⊎ (o ≡ Some c → ⊥)
 some-or-not None c = inr (λ e. cc e)
@@ -66,9 +68,9 @@ module _ (k : Kind) (n : ℕ) (old new : Rows) (w : Laws k (links_of old)) (wn :
   -- The darts of Ended end, and the groups are the cells that were touched.
   module _ (Ended : ℕ → Type 0) (ends : (d : ℕ) → Ended d → IsLive new d → ⊥) (lives-on : (d : ℕ) → IsLive old d → IsLive new d ⊎ Ended d)
       (rules : List (Option Rule)) (bare : (i d : ℕ) → rule_at rules i ≡ None → id_of l i d ≡ None) (ruled : (i : ℕ) → IsSome (rule_at rules i) → i < n + 1)
-      (touched : List ℕ) (live : (d : ℕ) → Contains touched d → IsLive new d) (groups : List Group)
+      (touched : ℕ → List ℕ) (live : (i d : ℕ) → Contains (touched i) d → IsLive new d) (groups : List Group)
       (t : AreTouchedCells k (links_of new) rules touched groups)
-      (touches : (i : ℕ) → IsSome (rule_at rules i) → Touches k i (links_of old) (IsLive old) (links_of new) (IsLive new) (Contains touched)) where
+      (spares : (i : ℕ) → IsSome (rule_at rules i) → Spares k i old new l (Contains (touched i))) where
     abbrev Place : ℕ → ℕ → Type 0
     Place i d = ((i < n + 1) × Ended d) ⊎ IsGroupedBelow (length groups) groups i d
 
@@ -88,16 +90,20 @@ module _ (k : Kind) (n : ℕ) (old new : Rows) (w : Laws k (links_of old)) (wn :
         let back : InCell k (links_of new) (group_at groups g.0).dim x d = subst (λ (j : ℕ). InCell k (links_of new) j x d) g.2 (cell_back k (links_of new) wn i d x cell) in
         (g.0, g.1, g.2, ((t.cells g.0 g.1).whole x d g.3).1 back)
 
-    -- a live dart at a place outside lies in an old cell
-    old-cell : (i d : ℕ) → IsSome (rule_at rules i) → IsLive new d → (Place i d → ⊥) → IsOldCell k i (links_of old) (IsLive old) (links_of new) d
-    old-cell i d rule h out = touches i rule d h (λ x cell there. (let g = t.all i x rule there in
+    own : (i d : ℕ) → InCell k (links_of new) i d d
+    own i d = cell-own k (links_of new) i d
+
+    -- a live dart at a place outside lies in an old cell, or in one without ids
+    old-cell : (i d : ℕ) → IsSome (rule_at rules i) → IsLive new d → (Place i d → ⊥)
+        → IsOldCell k i (links_of old) (IsLive old) (links_of new) d ⊎ ((x : ℕ) → InCell k (links_of new) i d x → id_of l i x ≡ None)
+    old-cell i d rule h out = spares i rule d h (λ x cell there. (let g = t.all i x rule there in
         out (inr (grouped-cell i d x (g.0, g.1, sym g.2, g.3) cell))))
 
     spared-live : (i d c : ℕ) → (Place i d → ⊥) → id_of l i d ≡ Some c → IsLive new d
     spared-live i d c out e = elim (lives-on d (s.live i d c e)) [ inl h ↦ h | inr gone ↦ absurd (out (inl (ruled i (id-ruled i d c e), gone))) ]
 
     spared-cell : (i d c : ℕ) → (Place i d → ⊥) → id_of l i d ≡ Some c → IsOldCell k i (links_of old) (IsLive old) (links_of new) d
-    spared-cell i d c out e = old-cell i d (id-ruled i d c e) (spared-live i d c out e) out
+    spared-cell i d c out e = elim (old-cell i d (id-ruled i d c e) (spared-live i d c out e) out) [ inl old ↦ old | inr none ↦ absurd (let f = none d (own i d) in cc (e, f)) ]
 
     spared-clear : (i d c x : ℕ) → (Place i d → ⊥) → id_of l i d ≡ Some c → InCell k (links_of old) i d x → Place i x → ⊥
     spared-clear i d c x out e cell place =
@@ -115,7 +121,7 @@ module _ (k : Kind) (n : ℕ) (old new : Rows) (w : Laws k (links_of old)) (wn :
     group-live g d lt here =
         let cell = t.cells g lt in
         let some = cell.reached in
-        live-cell (group_at groups g).dim some.0 d (live some.0 some.1) ((cell.whole some.0 d some.2).0 here)
+        live-cell (group_at groups g).dim some.0 d (live (group_at groups g).dim some.0 some.1) ((cell.whole some.0 d some.2).0 here)
 
     group-apart : (a b d : ℕ) → a < b → b < length groups → (group_at groups a).dim ≡ (group_at groups b).dim → Contains (group_at groups a).darts d → Contains (group_at groups b).darts d → ⊥
     group-apart a b d lt below dims here there = go (t.ascending a b lt below)
@@ -216,12 +222,25 @@ module _ (k : Kind) (n : ℕ) (old new : Rows) (w : Laws k (links_of old)) (wn :
         small_label i rule ruled None v is = cc (is)
         small_label i rule ruled (Some id) v is = small i rule ruled id v is
 
-        spared-carried : (i : ℕ) (rule : Rule) (d : ℕ) → rule_at rules i ≡ Some rule → IsLive new d → (Place i d → ⊥) → Goal i rule d (stored_value q m i d)
-        spared-carried i rule d is h out =
-            let o = old-cell i d (subst (λ (z : Option Rule). IsSome z) (sym is) refl) h out in
+        -- a cell without ids gets no value
+        bare-carried : (i : ℕ) (rule : Rule) (d : ℕ) → (Place i d → ⊥) → ((x : ℕ) → InCell k (links_of new) i d x → id_of l i x ≡ None) → Goal i rule d (stored_value q m i d)
+        bare-carried i rule d out none =
+            let nothing : stored_value q m i d ≡ None = stored_value-outside i d out ∙ ap (labelled_value p) (none d (own i d)) in
+            subst (λ (v : Option Value). Goal i rule d v) (sym nothing)
+            (nothing-carried (meaning_of hook rule) (λ x. known (stored_value p l i x)) (λ x. IsLive old x × IsLive new x) (IsValuedWith k i (links_of old) (λ x. stored_value p l i x)) (InCell k (links_of new) i) d
+            (λ x cell valued. false≢true (subst (λ (v : Option Value). IsSome v) (ap (labelled_value p) (none x cell)) valued.1)))
+
+        old-carried : (i : ℕ) (rule : Rule) (d : ℕ) → rule_at rules i ≡ Some rule → IsLive new d → (Place i d → ⊥) → IsOldCell k i (links_of old) (IsLive old) (links_of new) d → Goal i rule d (stored_value q m i d)
+        old-carried i rule d is h out o =
             let kept = kept_is_carried k i (meaning_of hook rule) (links_of old) (links_of new) (IsLive old) (IsLive new) w wn (rows_lead_to_live k new wn)
             (λ x. stored_value p l i x) (stored_value-equal i) d (small_label i rule is (id_of l i d)) h o (keeps_whole hook rule whole) (told i d out) in
             subst (λ (v : Option Value). Goal i rule d v) (sym (stored_value-outside i d out)) kept
+
+        spared-carried : (i : ℕ) (rule : Rule) (d : ℕ) → rule_at rules i ≡ Some rule → IsLive new d → (Place i d → ⊥) → Goal i rule d (stored_value q m i d)
+        spared-carried i rule d is h out = elim (old-cell i d (subst (λ (z : Option Rule). IsSome z) (sym is) refl) h out) [
+          | inl o ↦ old-carried i rule d is h out o
+          | inr none ↦ bare-carried i rule d out none
+        ]
 
         pub carried-after : (i : ℕ) (rule : Rule) → rule_at rules i ≡ Some rule
             → AreCarried k i (meaning_of hook rule) (links_of old) (IsLive old) (λ x. stored_value p l i x) (links_of new) (IsLive new) (λ x. stored_value q m i x)

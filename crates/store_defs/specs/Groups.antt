@@ -1,4 +1,4 @@
--- What `carry` answers: the new cells that hold a touched dart, with their values. Source: this project's.
+-- What `carry` answers: the new cells that hold a dart touched in their dimension, with their values. Source: this project's.
 use Rattle.std.specs.Prelude.{ℕ, ◌≡◌, ◌<◌, ◌⊎◌, ◌↔◌, List, [], length, Option, Some, None, IsSome, slice_index, slice_index_or, Contains}
 use Rattle.std.specs.List.Sorted.{IsStrictlyIncreasing}
 use Rattle.map_defs.specs.Kind.{Kind}
@@ -42,17 +42,21 @@ labelled_value pool (Some id) = value_of pool id
 abbrev pub known_value : Store → (ℕ → Option ℕ) → ℕ → Value
 known_value pool label d = known (labelled_value pool (label d))
 
--- The group is, as a set of darts, a cell of a dimension with a rule, and holds a touched dart.
-pub record IsTouchedCell (k : Kind) (L : Links) (rules : List (Option Rule)) (touched : List ℕ) (g : Group) : Type 0 where
+-- the darts that stand in the list of dimension i
+abbrev pub darts_in : List (List ℕ) → ℕ → List ℕ
+darts_in lists i = slice_index_or lists i []
+
+-- The group is, as a set of darts, a cell of a dimension with a rule, and holds a dart that is touched in this dimension.
+pub record IsTouchedCell (k : Kind) (L : Links) (rules : List (Option Rule)) (touched : ℕ → List ℕ) (g : Group) : Type 0 where
   pub ruled : IsSome (rule_at rules g.dim)
   pub ascending : IsStrictlyIncreasing g.darts
   pub whole : (d x : ℕ) → Contains g.darts d → Contains g.darts x ↔ InCell k L g.dim d x
-  pub reached : (t : ℕ) × Contains touched t × Contains g.darts t
+  pub reached : (t : ℕ) × Contains (touched g.dim) t × Contains g.darts t
 
 -- The groups are just these cells, each once, and they ascend.
-pub record AreTouchedCells (k : Kind) (L : Links) (rules : List (Option Rule)) (touched : List ℕ) (groups : List Group) : Type 0 where
+pub record AreTouchedCells (k : Kind) (L : Links) (rules : List (Option Rule)) (touched : ℕ → List ℕ) (groups : List Group) : Type 0 where
   pub cells : (n : ℕ) → n < length groups → IsTouchedCell k L rules touched (group_at groups n)
-  pub all : (i t : ℕ) → IsSome (rule_at rules i) → Contains touched t → (n : ℕ) × (n < length groups) × ((group_at groups n).dim ≡ i) × Contains (group_at groups n).darts t
+  pub all : (i t : ℕ) → IsSome (rule_at rules i) → Contains (touched i) t → (n : ℕ) × (n < length groups) × ((group_at groups n).dim ≡ i) × Contains (group_at groups n).darts t
   pub ascending : (m n : ℕ) → m < n → n < length groups → IsBefore (group_at groups m) (group_at groups n)
 
 -- The group has the value that is carried to its cell: the old valued cells are the sets of live darts with one label, and

@@ -91,10 +91,10 @@ module _ (Good : Group → Type 0) (Wanted : ℕ → ℕ → Type 0) where
       ascending : (m n : ℕ) → m < n → n < length (xs ++ ys) → IsBefore (group_at (xs ++ ys) m) (group_at (xs ++ ys) n)
       ascending m n l h = ordered m n l (split_place xs ys m (omega arith)) (split_place xs ys n h)
 
-module _ (k : Kind) (L : Links) (Live : ℕ → Type 0) (label : ℕ → ℕ → Option ℕ) (pool : Store) (hook : Meaning) (rules : List (Option Rule)) (touched : List ℕ) where
+module _ (k : Kind) (L : Links) (Live : ℕ → Type 0) (label : ℕ → ℕ → Option ℕ) (pool : Store) (hook : Meaning) (rules : List (Option Rule)) (touched : ℕ → List ℕ) where
   -- the groups of one dimension
-  pub all_of_dim : (i : ℕ) (rule : Rule) (cells new : List Group) (pieces : List Piece) → rule_at rules i ≡ Some rule → AreClasses (InCell k L i) → AreBareCells (InCell k L i) i touched cells
-      → AreAllPieces (label i) cells pieces → ((n x : ℕ) → n < length cells → Contains (group_at cells n).darts x → Live x) → Covers k i L Live (label i) (Contains touched)
+  pub all_of_dim : (i : ℕ) (rule : Rule) (cells new : List Group) (pieces : List Piece) → rule_at rules i ≡ Some rule → AreClasses (InCell k L i) → AreBareCells (InCell k L i) i (touched i) cells
+      → AreAllPieces (label i) cells pieces → ((n x : ℕ) → n < length cells → Contains (group_at cells n).darts x → Live x) → Covers k i L Live (label i) (Contains (touched i))
       → AreMerged (meaning_of hook rule) pool pieces (length pieces) cells new → AreAllOf (IsCarriedCell k L Live label pool hook rules touched) (IsWanted rules touched) (λ j. j ≡ i) new
   all_of_dim i rule cells new pieces ruled classes bare all live covers merged = record { good = λ n h. record { cell = cell n (old n h); value = value n (old n h) }; among = λ n h. dim n (old n h); all = hold; ascending = λ m n l h. ascending m n l (old n h) }
     where
@@ -110,7 +110,7 @@ module _ (k : Kind) (L : Links) (Live : ℕ → Type 0) (label : ℕ → ℕ →
         ascending = subst IsStrictlyIncreasing (sym (merged.darts n)) (bare.each n h).ascending;
         whole = subst (λ j. (d x : ℕ) → Contains (group_at new n).darts d → Contains (group_at new n).darts x ↔ InCell k L j d x) (sym (dim n h))
             (subst (λ ds. (d x : ℕ) → Contains ds d → Contains ds x ↔ InCell k L i d x) (sym (merged.darts n)) (bare.each n h).whole);
-        reached = subst (λ ds. (t : ℕ) × Contains touched t × Contains ds t) (sym (merged.darts n)) (bare.each n h).reached;
+        reached = subst (λ j. (t : ℕ) × Contains (touched j) t × Contains (group_at new n).darts t) (sym (dim n h)) (subst (λ ds. (t : ℕ) × Contains (touched i) t × Contains ds t) (sym (merged.darts n)) (bare.each n h).reached);
       }
 
       value : (n : ℕ) → n < length cells → HasCarriedValue k L Live label pool hook rules (group_at new n)
@@ -121,11 +121,11 @@ module _ (k : Kind) (L : Links) (Live : ℕ → Type 0) (label : ℕ → ℕ →
               let same : rule ≡ r = cc in
               subst (λ v. IsCarried (meaning_of hook r) (known_value pool (label i)) Live (IsAlike (label i)) (InCell k L i) d v) (sym (merged.values n h))
               (subst (λ s. IsCarried (meaning_of hook s) (known_value pool (label i)) Live (IsAlike (label i)) (InCell k L i) d (merged_before (meaning_of hook rule) pool pieces (length pieces) n)) same
-              (is_carried (InCell k L i) classes i touched cells bare Live (label i) pieces all live covers (meaning_of hook rule) pool n d h (subst (λ ds. Contains ds d) (merged.darts n) c)))
+              (is_carried (InCell k L i) classes i (touched i) cells bare Live (label i) pieces all live covers (meaning_of hook rule) pool n d h (subst (λ ds. Contains ds d) (merged.darts n) c)))
 
       hold : (j t : ℕ) → j ≡ i → IsWanted rules touched j t → (n : ℕ) × (n < length new) × ((group_at new n).dim ≡ j) × Contains (group_at new n).darts t
       hold j t e w =
-          let q = bare.all t w.1 in
+          let q = bare.all t (subst (λ m. Contains (touched m) t) e w.1) in
           let s = merged.size in
           let l = q.1 in
           (q.0, omega arith, dim q.0 q.1 ∙ sym e, subst (λ ds. Contains ds t) (sym (merged.darts q.0)) q.2)

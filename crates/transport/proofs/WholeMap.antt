@@ -13,11 +13,11 @@ use Rattle.transport.proofs.Gathering.{told_eq}
 use Rattle.transport.proofs.CarryFacts.{told_in, find_below}
 use Rattle.transport.proofs.OtherCells.{carried_lived}
 
-module _ (k : Kind) (n : ℕ) (rows : Rows) (sound : IsSound k n rows) (label : ℕ → ℕ → Option ℕ) (pool : Store) (hook : Meaning) (rules : List (Option Rule)) (touched : List ℕ) (groups : List Group)
+module _ (k : Kind) (n : ℕ) (rows : Rows) (sound : IsSound k n rows) (label : ℕ → ℕ → Option ℕ) (pool : Store) (hook : Meaning) (rules : List (Option Rule)) (touched : ℕ → List ℕ) (groups : List Group)
     (cells : AreTouchedCells k (links_of rows) rules touched groups)
     (values : (m : ℕ) → m < length groups → HasCarriedValue k (links_of rows) (IsLive rows) label pool hook rules (group_at groups m))
     (i : ℕ) (rule : Rule) (ruled : rule_at rules i ≡ Some rule)
-    (others : (d : ℕ) → IsLive rows d → ((x : ℕ) → InCell k (links_of rows) i d x → Contains touched x → ⊥)
+    (others : (d : ℕ) → IsLive rows d → ((x : ℕ) → InCell k (links_of rows) i d x → Contains (touched i) x → ⊥)
     → IsCarried (meaning_of hook rule) (known_value pool (label i)) (IsLive rows) (IsAlike (label i)) (InCell k (links_of rows) i) d (labelled_value pool (label i d))) where
   abbrev Holds : ℕ → ℕ → Type 0
   Holds d m = ((group_at groups m).dim ≡ i) × Contains (group_at groups m).darts d
@@ -29,7 +29,7 @@ module _ (k : Kind) (n : ℕ) (rows : Rows) (sound : IsSound k n rows) (label : 
   ]
 
   -- a cell that no group holds has no touched dart
-  untouched : (d : ℕ) → ((m : ℕ) → m < length groups → Holds d m → ⊥) → (x : ℕ) → InCell k (links_of rows) i d x → Contains touched x → ⊥
+  untouched : (d : ℕ) → ((m : ℕ) → m < length groups → Holds d m → ⊥) → (x : ℕ) → InCell k (links_of rows) i d x → Contains (touched i) x → ⊥
   untouched d none x s t =
       let q = cells.all i x (subst IsSome (sym ruled) refl) t in
       let back : InCell k (links_of rows) (group_at groups q.0).dim x d = subst (λ j. InCell k (links_of rows) j x d) (sym q.2) ((sound_classes k n i rows sound).turn d x s) in

@@ -7,13 +7,13 @@ use Rattle.store_defs.specs.Stores.{Store}
 use Rattle.store_defs.specs.Groups.{Group, group_at, rule_at, IsBefore, IsTouchedCell, HasCarriedValue}
 
 -- a touched cell with the value that is carried to it
-pub record IsCarriedCell (k : Kind) (L : Links) (Live : ℕ → Type 0) (label : ℕ → ℕ → Option ℕ) (pool : Store) (hook : Meaning) (rules : List (Option Rule)) (touched : List ℕ) (g : Group) : Type 0 where
+pub record IsCarriedCell (k : Kind) (L : Links) (Live : ℕ → Type 0) (label : ℕ → ℕ → Option ℕ) (pool : Store) (hook : Meaning) (rules : List (Option Rule)) (touched : ℕ → List ℕ) (g : Group) : Type 0 where
   pub cell : IsTouchedCell k L rules touched g
   pub value : HasCarriedValue k L Live label pool hook rules g
 
--- dart t is touched, and dimension i has a rule
-abbrev pub IsWanted : List (Option Rule) → List ℕ → ℕ → ℕ → Type 0
-IsWanted rules touched i t = IsSome (rule_at rules i) × Contains touched t
+-- dart t is touched in dimension i, which has a rule
+abbrev pub IsWanted : List (Option Rule) → (ℕ → List ℕ) → ℕ → ℕ → Type 0
+IsWanted rules touched i t = IsSome (rule_at rules i) × Contains (touched i) t
 
 -- The groups are good ones of some dimensions, they hold each dart that is wanted in such a dimension, and they ascend.
 pub record AreAllOf (Good : Group → Type 0) (Wanted : ℕ → ℕ → Type 0) (Among : ℕ → Type 0) (groups : List Group) : Type 0 where

@@ -1,5 +1,5 @@
-ghost use Rattle.std.specs.Prelude.{◌≡◌};
-ghost use Rattle.store_defs.specs.Groups.{least_of};
+ghost use Rattle.std.specs.Prelude.{◌≡◌, ◌<◌, length};
+ghost use Rattle.store_defs.specs.Groups.{least_of, darts_in};
 
 use attr_rules::TableRule;
 use map_kind::{Dart, Value};
@@ -34,6 +34,31 @@ impl Model for RuleRow {
     ghost Value = { List (Option values.Rule) };
 
     ghost view = { λ row. row.rules.items };
+}
+
+/// The darts that a change of links touched in each dimension from 0 to `DIM`, in this order; some may stand there more than
+/// once.
+#[derive(Drop)]
+pub struct TouchedDarts {
+    pub by_dim: Vec<Vec<Dart>>,
+}
+
+impl Model for TouchedDarts {
+    ghost use Rattle.std.specs.Prelude.{List, ℕ, map};
+
+    ghost Value = { List (List ℕ) };
+
+    ghost view = { λ touched. map (λ darts. darts.items) touched.by_dim.items };
+}
+
+impl TouchedDarts {
+    /// The darts that were touched in a dimension.
+    pub(crate) fn in_dim(&self, dim: usize) -> &[Dart]
+        requires { dim < length self.now }
+        ensures { result.now ≡ darts_in self.now dim }
+    {
+        &self.by_dim[dim]
+    }
 }
 
 impl Group {

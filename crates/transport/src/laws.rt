@@ -15,13 +15,13 @@ ghost use Rattle.store_defs.specs.Groups.{Group, group_at, rule_at, labelled_val
 /// For whoever puts the values of groups at their cells and leaves all others alone.
 pub fn groups_carry_the_whole_map()
     ensures { (k : Kind) (dim : ℕ) (old new : Rows) (label : ℕ → ℕ → Option ℕ) (pool : Store) (hook : Meaning)
-        (rules : List (Option Rule)) (touched : List ℕ) (groups : List Group) (i : ℕ) (rule : Rule)
+        (rules : List (Option Rule)) (touched : ℕ → List ℕ) (groups : List Group) (i : ℕ) (rule : Rule)
         (after : ℕ → Option Value) → IsSound k dim new
         → AreTouchedCells k (links_of new) rules touched groups
         → ((n : ℕ) → n < length groups
         → HasCarriedValue k (links_of new) (IsLive new) label pool hook rules (group_at groups n))
         → rule_at rules i ≡ Some rule
-        → ((d : ℕ) → IsLive new d → ((x : ℕ) → InCell k (links_of new) i d x → Contains touched x → ⊥)
+        → ((d : ℕ) → IsLive new d → ((x : ℕ) → InCell k (links_of new) i d x → Contains (touched i) x → ⊥)
         → IsCarried (meaning_of hook rule) (known_value pool (label i)) (IsLive new) (IsAlike (label i))
         (InCell k (links_of new) i) d (labelled_value pool (label i d)))
         → ((x id : ℕ) → IsLive new x → label i x ≡ Some id → IsLive old x)

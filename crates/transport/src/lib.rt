@@ -14,6 +14,6 @@ mod touched;
 mod wanted;
 
 pub use carrying::carry;
-pub use group::{Group, RuleRow};
+pub use group::{Group, RuleRow, TouchedDarts};
 pub use laws::groups_carry_the_whole_map;
 pub use touched::touched_cells;

@@ -1,9 +1,10 @@
-ghost use Rattle.std.specs.Prelude.{◌≡◌, ℕ, ◌≤◌, ◌↔◌, ◌⊎◌, Some, length, Contains, IfOk, OnOk};
+ghost use Rattle.std.specs.Prelude.{◌≡◌, ℕ, ◌≤◌, ◌<◌, ◌↔◌, ◌⊎◌, Some, length, Contains, IfOk, OnOk};
 ghost use Rattle.map_defs.specs.Rows.{IsLive};
 ghost use Rattle.store_defs.specs.Stores.{IsHeld};
 ghost use Rattle.store_defs.specs.Labelings.{id_of, HasPlaces};
+ghost use Rattle.store_defs.specs.Groups.{darts_in};
 
-use crate::{Group, RuleRow, carry};
+use crate::{Group, RuleRow, TouchedDarts, carry};
 use attr_pool::{AttrId, Labels, Pool};
 use attr_rules::{FirstCopy, Merge, Split, TableRule};
 use link_rows::{Links, polygon_edit};
@@ -100,8 +101,21 @@ fn carried(alloc: Global, links: &Links<Alpha, 2>) -> Result<Vec<Group>, AllocEr
     let other = pool.make(value(10, 20, 30));
     let labels = labels_of(alloc, &pool, three, two, other)?;
     let rules = rules(alloc)?;
-    let touched = live_darts(alloc, links)?;
+    let touched = all_touched(alloc, links)?;
     carry(alloc, links, &labels, &pool, &rules, &FirstCopy, &touched)
+}
+
+/// All live darts in each dimension.
+fn all_touched(alloc: Global, links: &Links<Alpha, 2>) -> Result<TouchedDarts, AllocError>
+    ensures long { IfOk result (λ touched. length touched ≡ 3) }
+    ensures live { IfOk result (λ touched. (i d : ℕ) → Contains (darts_in touched i) d → IsLive links.now.rows d) }
+    ensures all { IfOk result (λ touched. (i d : ℕ) → i < 3 → IsLive links.now.rows d → Contains (darts_in touched i) d) }
+{
+    let mut by_dim = Vec::new(alloc);
+    by_dim.push(live_darts(alloc, links)?)?;
+    by_dim.push(live_darts(alloc, links)?)?;
+    by_dim.push(live_darts(alloc, links)?)?;
+    Ok(TouchedDarts { by_dim })
 }
 
 /// Whether a group is the vertex of these two darts, with this value.

@@ -1,17 +1,16 @@
 -- Darts that are added to those that an edit touched.
-use Rattle.std.proofs.Common.{ℕ, zero, suc, ◌≡◌, ◌≢◌, ◌⊎◌, ◌+◌, ◌<◌, ◌≤◌, inl, inr, refl, sym, ap, subst, ◌∙◌, List, [], ◌∷◌, ◌++◌, length, get_or, Option, Some, None, IsSome, Contains, arith}
-use Rattle.std.proofs.lemmas.Bool.{false≢true, cases_eq, cases_lt}
+use Rattle.std.proofs.Common.{ℕ, zero, suc, ◌≡◌, ◌⊎◌, ◌+◌, ◌<◌, inl, inr, refl, sym, ap, subst, ◌∙◌, List, [], ◌∷◌, ◌++◌, length, get_or, Option, Some, None, IsSome, Contains, arith}
+use Rattle.std.proofs.lemmas.Bool.{false≢true, cases_eq}
 use Rattle.std.proofs.lemmas.List.{get_or_default}
 use Rattle.std.proofs.lemmas.List.Elements.{Contains-append_left, Contains-push, Contains-push_cases}
-use Rattle.map_defs.specs.Kind.{Kind, alpha, beta, inverse}
-use Rattle.map_defs.specs.Rows.{Rows, IsLive, links_of, made, row_at}
+use Rattle.map_defs.specs.Kind.{Kind}
+use Rattle.map_defs.specs.Rows.{Rows, IsLive, links_of, row_at}
 use Rattle.map_defs.specs.Edits.{Change, Edit, IsLed, after_edit, with_changes, with_births, buried}
-use Rattle.map_defs.specs.Touched.{IsTouched, IsReached, IsChanged, IsBesideChanged}
-use Rattle.edit_laws.proofs.RowWrites.{live-within, births-old}
+use Rattle.edit_laws.proofs.RowWrites.{births-old}
 use Rattle.edit_laws.proofs.EditSteps.{linked-live, buried-none}
 use Rattle.edit_laws.proofs.EditSound.{length-after}
 use Rattle.edit_laws.proofs.EditLinks.{links-else}
-use Rattle.valued_map.specs.Changing.{AreAdded, IsAtChange}
+use Rattle.valued_map.specs.Changing.{AreAdded}
 
 pub added-none : (rows : Rows) (Wanted : ℕ → Type 0) (xs : List ℕ) → ((x : ℕ) → Wanted x → IsLive rows x → ⊥) → AreAdded rows Wanted xs xs
 added-none rows Wanted xs none = record { kept = λ x h. h; live = λ x h. inl h; all = λ x w h. absurd (none x w h) }
@@ -39,29 +38,6 @@ no_change = record { dart = 0; link = 0; old = 0; new = 0 }
 abbrev pub change_at : List Change → ℕ → Change
 change_at cs j = get_or cs j no_change
 
--- the darts of one of the first `below` changes
-abbrev pub IsAtOne : Kind → Rows → List Change → ℕ → ℕ → Type 0
-IsAtOne k rows cs below x = (j : ℕ) × (j < below) × IsAtChange k rows (change_at cs j) x
-
--- the darts that were made last
-abbrev pub IsBorn : Rows → ℕ → ℕ → Type 0
-IsBorn rows births x = (made rows < x + births) × (x ≤ made rows)
-
--- some change names a dart, or none does
-find-dart : (cs : List Change) (x : ℕ) → ((j : ℕ) × (j < length cs) × ((change_at cs j).dart ≡ x)) ⊎ ((j : ℕ) (z : Change) → j < length cs → (get_or cs j z).dart ≢ x)
-find-dart [] x = inr (λ j z h. absurd (omega arith))
-find-dart (c ∷ cs) x = elim (cases_eq c.dart x) [
-  | inl e ↦ inl (0, omega arith, e)
-  | inr other ↦ elim (find-dart cs x) [
-    | inl f ↦ inl (suc f.0, let lt : f.0 < length cs = f.1 in omega arith, f.2)
-    | inr none ↦ inr (λ j z h. later j z h other none)
-  ]
-]
-  where
-    later : (j : ℕ) (z : Change) → j < length (c ∷ cs) → c.dart ≢ x → ((j : ℕ) (z : Change) → j < length cs → (get_or cs j z).dart ≢ x) → (get_or (c ∷ cs) j z).dart ≢ x
-    later zero z h other none = other
-    later (suc j) z h other none = none j z (omega arith)
-
 abbrev FindsLink : List Change → ℕ → ℕ → Type 0
 FindsLink cs x t = (j : ℕ) × (j < length cs) × ((change_at cs j).dart ≡ x) × ((change_at cs j).link ≡ t)
 
@@ -77,7 +53,7 @@ find-later c cs x t other (inl f) = inl (suc f.0, let lt : f.0 < length cs = f.1
 find-later c cs x t other (inr none) = inr (none-later c cs x t other none)
 
 -- some change names a link of a dart, or none does
-find-link : (cs : List Change) (x t : ℕ) → ((j : ℕ) × (j < length cs) × ((change_at cs j).dart ≡ x) × ((change_at cs j).link ≡ t)) ⊎ ((j : ℕ) (z : Change) → j < length cs → x ≡ (get_or cs j z).dart → t ≡ (get_or cs j z).link → ⊥)
+pub find-link : (cs : List Change) (x t : ℕ) → ((j : ℕ) × (j < length cs) × ((change_at cs j).dart ≡ x) × ((change_at cs j).link ≡ t)) ⊎ ((j : ℕ) (z : Change) → j < length cs → x ≡ (get_or cs j z).dart → t ≡ (get_or cs j z).link → ⊥)
 find-link [] x t = inr (λ j z h. absurd (omega arith))
 find-link (c ∷ cs) x t = elim (cases_eq c.dart x) [
   | inl e ↦ elim (cases_eq c.link t) [
@@ -96,7 +72,7 @@ buried-live ds rows x live = go (row_at rows x) refl
     go (Some row) e = subst (λ (o : Option (List ℕ)). IsSome o) (sym e) refl
 
 module _ (k : Kind) (n : ℕ) (e : Edit) (old new : Rows) (led : IsLed k n e old new) where
-  long : length new ≡ length old + e.births
+  pub long : length new ≡ length old + e.births
   long = ap length (sym led.after) ∙ length-after n e old
 
   -- a dart that lives after an edit lived before, or was born
@@ -107,57 +83,8 @@ module _ (k : Kind) (n : ℕ) (e : Edit) (old new : Rows) (led : IsLed k n e old
       let born : IsLive (with_births n e.births old) x = sym (linked-live e.changes (with_births n e.births old) x) ∙ linked in
       subst (λ (o : Option (List ℕ)). IsSome o) (births-old n e.births old x within) born
 
-  same-else : (i x : ℕ) → ((j : ℕ) (z : Change) → j < length e.changes → x ≡ (get_or e.changes j z).dart → i ≡ (get_or e.changes j z).link → ⊥) → links_of new i x ≡ links_of old i x
+  pub same-else : (i x : ℕ) → ((j : ℕ) (z : Change) → j < length e.changes → x ≡ (get_or e.changes j z).dart → i ≡ (get_or e.changes j z).link → ⊥) → links_of new i x ≡ links_of old i x
   same-else i x none = ap (λ (r : Rows). links_of r i x) (sym led.after) ∙ links-else k n old e led.sound led.fits i x none
-
-  named : (x : ℕ) → IsChanged (links_of old) (links_of new) x → (j : ℕ) × (j < length e.changes) × ((change_at e.changes j).dart ≡ x)
-  named x changed = elim (find-dart e.changes x) [
-    | inl f ↦ f
-    | inr none ↦ absurd (changed.1 (same-else changed.0 x (λ j z h is _. none j z h (sym is))))
-  ]
-
-  -- the touched darts are those that were born, and those at the changes
-  pub touched-are : (x : ℕ) → IsTouched k (links_of old) (IsLive old) (links_of new) (IsLive new) x → IsBorn new e.births x ⊎ IsAtOne k new e.changes (length e.changes) x
-  touched-are x t = go t.1
-    where
-      within : x < length new
-      within = live-within new x t.0
-
-      born : (IsLive old x → ⊥) → IsBorn new e.births x
-      born dead = elim (cases_lt x (length old)) [
-        | inl lt ↦ absurd (dead (lived x t.0 lt))
-        | inr ge ↦ (let more : length new ≡ length old + e.births = long in omega (arith, more), let lt : x < length new = within in omega arith)
-      ]
-
-      beside : k ≡ beta → IsBesideChanged (links_of old) (links_of new) x → IsAtOne k new e.changes (length e.changes) x
-      beside kind b = side (named b.0 b.2) b.3
-        where
-          at-new : (y j u : ℕ) → j < length e.changes → (change_at e.changes j).dart ≡ y → links_of new u y ≡ x → IsAtOne k new e.changes (length e.changes) x
-          at-new y j u lt is links = (j, lt, inr (kind, inr (u, ap (links_of new u) is ∙ links)))
-
-          side : (j : ℕ) × (j < length e.changes) × ((change_at e.changes j).dart ≡ b.0) → (links_of old b.1 b.0 ≡ x) ⊎ (links_of new b.1 b.0 ≡ x) → IsAtOne k new e.changes (length e.changes) x
-          side f (inr links) = at-new b.0 f.0 b.1 f.1 f.2 links
-          side f (inl links) = elim (find-link e.changes b.0 b.1) [
-            | inl g ↦ (let stands = led.fits.stands g.0 no_change g.1 in
-                (g.0, g.1, inr (kind, inl (sym links ∙ ap (links_of old b.1) (sym g.2) ∙ ap (λ (u : ℕ). links_of old u (change_at e.changes g.0).dart) (sym g.3) ∙ stands))))
-            | inr none ↦ at-new b.0 f.0 b.1 f.1 f.2 (same-else b.1 b.0 none ∙ links)
-          ]
-
-      go : IsReached k (IsLive old) (links_of old) (links_of new) x → IsBorn new e.births x ⊎ IsAtOne k new e.changes (length e.changes) x
-      go (inl dead) = inl (born dead)
-      go (inr (inl changed)) = let f = named x changed in inr (f.0, f.1, inl (sym f.2))
-      go (inr (inr b)) = inr (beside b.0 b.1)
-
--- in a generalized map link 0 is its own inverse
-pub kind-alpha : (k : Kind) → inverse k 0 ≡ 0 → k ≡ beta → ⊥
-kind-alpha alpha e is = cc is
-kind-alpha beta e is = absurd (omega arith)
 
 pub item-change : (cs ds : List Change) (k : ℕ) (x : Change) → ds ≡ cs → k < length ds → x ≡ get_or ds k x → x ≡ change_at cs k
 item-change cs ds k x same h e = e ∙ get_or_default ds k x no_change h ∙ ap (λ (xs : List Change). change_at xs k) same
-
-pub at-more : (k : Kind) (rows : Rows) (cs : List Change) (j x : ℕ) → IsAtOne k rows cs (j + 1) x → IsAtOne k rows cs j x ⊎ IsAtChange k rows (change_at cs j) x
-at-more k rows cs j x a = elim (cases_eq a.0 j) [
-  | inl e ↦ inr (subst (λ (h : ℕ). IsAtChange k rows (change_at cs h) x) e a.2)
-  | inr other ↦ inl (a.0, let lt : a.0 < j + 1 = a.1 in omega arith, a.2)
-]

@@ -1,10 +1,13 @@
 -- What steps tell of the content before them: which links and lives may be others, and which values.
-use Rattle.std.proofs.Common.{ℕ, zero, suc, ◌≡◌, ◌≢◌, ◌⊎◌, ◌+◌, ◌<◌, ◌&&◌, nat_eq, cond, Bool, true, false, inl, inr, refl, sym, ap, subst, ◌∙◌, List, [], ◌∷◌, length, get_or, drop, Option, Contains, arith}
-use Rattle.map_defs.specs.Kind.{Kind, beta}
+use Rattle.std.proofs.Common.{ℕ, zero, suc, ◌≡◌, ◌≢◌, ◌⊎◌, ◌+◌, ◌<◌, ◌&&◌, nat_eq, cond, Bool, true, false, inl, inr, refl, sym, ap, subst, ◌∙◌, List, [], ◌∷◌, length, get_or, drop, Option, Some, None, Contains, arith}
+use Rattle.map_defs.specs.Kind.{Kind}
 use Rattle.map_defs.specs.Rows.{Rows, IsLive, links_of}
 use Rattle.map_defs.specs.Values.{Value}
 use Rattle.map_defs.specs.Edits.{Change, before_edit}
-use Rattle.map_defs.specs.Touched.{IsTouched, IsReached, IsChanged, IsBesideChanged}
+use Rattle.map_defs.specs.Links.{HasDimension}
+use Rattle.map_defs.specs.LinkWords.{LinkWord, through, through_second, IsCellWord}
+use Rattle.map_defs.specs.Laws.{Laws}
+use Rattle.value_laws.specs.Rerouted.{IsTouchedIn}
 use Rattle.machine_defs.specs.State.{Content, value_at}
 use Rattle.machine_defs.specs.Difference.{Difference, ValueChange, IsDifference, unruled}
 use Rattle.machine_defs.specs.Kept.{IsLawfulContent}
@@ -12,7 +15,8 @@ use Rattle.link_laws.proofs.Basics.{same_or_not}
 use Rattle.link_laws.proofs.RowFacts.{live_or_free}
 use Rattle.journal_laws.proofs.ContentFacts.{value-cases}
 use Rattle.journal_laws.specs.Following.{Follows, all_taken_back}
-use Rattle.valued_map.specs.Undoing.{AreStepsTo, no_step, rows_before, rules_before, old_among, value_before, IsValueChanged, IsRevalued, IsNearStep}
+use Rattle.valued_map.specs.Undoing.{AreStepsTo, no_step, rows_before, rules_before, old_among, value_before, IsValueChanged, IsRevalued, IsMapWord, IsNearStep}
+use Rattle.valued_map.proofs.Rerouting.{word-within}
 
 -- the same, one step after another
 abbrev pub AreStepsOn : Content → List Difference → Type 0
@@ -81,34 +85,42 @@ life-ended now (s ∷ ss) on x live dead = elim (live_or_free (all_taken_back ss
   | inr gone ↦ (s, first s ss, (on.2.ended x).1 (live, gone.0))
 ]
 
--- the darts that the way back touches are near the steps
-pub near-steps : (now : Content) (steps : List Difference) → AreStepsOn now steps → (k : Kind) (x : ℕ)
-    → IsTouched k (links_of now.rows) (IsLive now.rows) (links_of (all_taken_back steps now).rows) (IsLive (all_taken_back steps now).rows) x
-    → IsNearStep k (all_taken_back steps now).rows steps x
-near-steps now steps on k x t = go t.1
-  where
-    before : Rows
-    before = (all_taken_back steps now).rows
+-- what is near by some words is near by more words
+pub near-of : (One Other : LinkWord → Type 0) → ((w : LinkWord) → One w → Other w) → (rows : Rows) (steps : List Difference) (x : ℕ) → IsNearStep One rows steps x → IsNearStep Other rows steps x
+near-of One Other more rows steps x (s, step, near) = (s, step, elim near [ inl gone ↦ inl gone | inr (c, change, (w, word, at)) ↦ inr (c, change, (w, more w word, at)) ])
 
-    at-dart : (y : ℕ) → IsChanged (links_of now.rows) (links_of before) y → (s : Difference) × Contains steps s × (c : Change) × Contains s.edit.changes c × (c.dart ≡ y)
-    at-dart y ch = let f = link-changed now steps on ch.0 y ch.1 in (f.0, f.1, f.2, f.3, f.4)
+-- the darts that the way back touches in a dimension are near the steps
+module _ (now : Content) (steps : List Difference) (on : AreStepsOn now steps) (k : Kind) (n i : ℕ) (dim-now : HasDimension n (links_of now.rows)) (dim-before : HasDimension n (links_of (all_taken_back steps now).rows))
+    (w : Laws k (links_of now.rows)) (wn : Laws k (links_of (all_taken_back steps now).rows)) where
+  abbrev pub before : Rows
+  before = (all_taken_back steps now).rows
 
-    at-link : k ≡ beta → (y u : ℕ) → IsChanged (links_of now.rows) (links_of before) y → links_of before u y ≡ x → IsNearStep k before steps x
-    at-link kind y u ch is = let f = at-dart y ch in (f.0, f.1, inr (f.2, f.3, inr (kind, inr (u, ap (links_of before u) f.4 ∙ is))))
+  -- a step changed the first link of the word, or its second
+  rerouted-near : (x : ℕ) (v : LinkWord) → IsCellWord k i v → through (links_of before) v x ≢ through (links_of now.rows) v x → IsNearStep (IsMapWord k n i) before steps x
+  rerouted-near x v cell apart = elim (same_or_not (links_of before v.first x) (links_of now.rows v.first x)) [
+    | inl same ↦ second same v.second refl
+    | inr other ↦ (let f = link-changed now steps on v.first x other in (f.0, f.1, inr (f.2, f.3, (v, word, inl (sym f.5, sym f.4)))))
+  ]
+    where
+      word : IsMapWord k n i v
+      word = (cell, word-within n (links_of now.rows) (links_of before) dim-now dim-before w.nil wn.nil v x apart)
 
-    beside : k ≡ beta → IsBesideChanged (links_of now.rows) (links_of before) x → IsNearStep k before steps x
-    beside kind b = elim b.3 [
-      | inr is ↦ at-link kind b.0 b.1 b.2 is
-      | inl was ↦ elim (same_or_not (links_of before b.1 b.0) (links_of now.rows b.1 b.0)) [
-        | inl same ↦ at-link kind b.0 b.1 b.2 (same ∙ was)
-        | inr other ↦ let f = link-changed now steps on b.1 b.0 other in (f.0, f.1, inr (f.2, f.3, inr (kind, inl (sym was ∙ sym f.6))))
-      ]
-    ]
+      second : links_of before v.first x ≡ links_of now.rows v.first x → (s : Option ℕ) → v.second ≡ s → IsNearStep (IsMapWord k n i) before steps x
+      second same None none = absurd (apart (ap (λ (t : Option ℕ). through_second (links_of before) t (links_of before v.first x)) none ∙ same ∙ sym (ap (λ (t : Option ℕ). through_second (links_of now.rows) t (links_of now.rows v.first x)) none)))
+      second same (Some s) some = let f = link-changed now steps on s (links_of before v.first x) beyond in (f.0, f.1, inr (f.2, f.3, (v, word, inr (some ∙ ap Some (sym f.5), sym f.4, λ z. there (sym f.4 ∙ z)))))
+        where
+          beyond : links_of before s (links_of before v.first x) ≢ links_of now.rows s (links_of before v.first x)
+          beyond e = apart (ap (λ (t : Option ℕ). through_second (links_of before) t (links_of before v.first x)) some ∙ e ∙ ap (links_of now.rows s) same
+              ∙ sym (ap (λ (t : Option ℕ). through_second (links_of now.rows) t (links_of now.rows v.first x)) some))
 
-    go : IsReached k (IsLive now.rows) (links_of now.rows) (links_of before) x → IsNearStep k before steps x
-    go (inl dead) = let f = life-ended now steps on x t.0 dead in (f.0, f.1, inl f.2)
-    go (inr (inl ch)) = let f = at-dart x ch in (f.0, f.1, inr (f.2, f.3, inl (sym f.4)))
-    go (inr (inr b)) = beside b.0 b.1
+          there : links_of before v.first x ≢ 0
+          there z = beyond (ap (links_of before s) z ∙ wn.nil s ∙ sym (ap (links_of now.rows s) z ∙ w.nil s))
+
+  pub near-steps : (x : ℕ) → IsTouchedIn k i (links_of now.rows) (IsLive now.rows) (links_of before) (IsLive before) x → IsNearStep (IsMapWord k n i) before steps x
+  near-steps x t = elim t.1 [
+    | inl dead ↦ (let f = life-ended now steps on x t.0 dead in (f.0, f.1, inl f.2))
+    | inr moved ↦ rerouted-near x moved.0 moved.1 moved.2
+  ]
 
 -- whether a change is of a place
 names-or-not : (i j d x : ℕ) → ((i ≡ j) × (d ≡ x) × ((nat_eq i j && nat_eq d x) ≡ true)) ⊎ ((i ≡ j → d ≡ x → ⊥) × ((nat_eq i j && nat_eq d x) ≡ false))

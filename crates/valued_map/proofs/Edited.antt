@@ -71,7 +71,7 @@ module _ (k : Kind) (n : ℕ) (rows : Rows) (e : Edit) (l : Labeling) (p : Store
 
     -- links that change, and values with them
     module _ (m : Labeling) (ids : KeepsIds l m) (places : KeepsPlaces l m) (grown : m.made ≡ max l.made (made rows + e.births)) (q : Store) (slots : q.slots ≡ p.slots)
-        (groups : List Group) (touched : AreAllTouched k rows New rules groups) (m' : Labeling) (q' : Store)
+        (groups : List Group) (touched : AreAllTouched k rows New rules m groups) (m' : Labeling) (q' : Store)
         (r : AreRelabelled (λ i d. ((i < n + 1) × Contains e.deaths d) ⊎ IsGroupedBelow (length groups) groups i d) groups m m' q q')
         (olds values : List ValueChange) (old : IsTrue asked → AreOldValues (IsRelabelledPlace n e.deaths groups) m q olds) (new : AreNewValues m' q' olds values) where
       abbrev After : Content

@@ -3,6 +3,7 @@ pub mod LiveDarts
 pub mod PlacedGroups
 pub mod Labelling
 pub mod Adding
+pub mod Rerouting
 pub mod CellIds
 pub mod Earlier
 pub mod RowCounts

@@ -3,20 +3,22 @@ use Rattle.std.proofs.Common.{ℕ, ◌≡◌, ◌⊎◌, ◌+◌, ◌-◌, ◌<�
 use Rattle.std.proofs.lemmas.Bool.{cases_lt, false≢true}
 use Rattle.std.proofs.lemmas.List.{get_or_past}
 use Rattle.map_defs.specs.Kind.{Kind}
+use Rattle.map_defs.specs.Links.{HasDimension}
 use Rattle.map_defs.specs.Laws.{Laws, IsLawful}
 use Rattle.map_defs.specs.Rows.{Rows, IsLive, links_of, made, live_count, IsSound}
 use Rattle.map_defs.specs.Cells.{InCell}
-use Rattle.map_defs.specs.Touched.{IsTouched, IsOldCell}
+use Rattle.map_defs.specs.Touched.{IsOldCell}
 use Rattle.map_defs.specs.Values.{Value, Rule}
 use Rattle.map_defs.specs.Edits.{IsLed}
 use Rattle.machine_defs.specs.State.{Content, value_at, rule_at as rule_in}
 use Rattle.machine_defs.specs.Kept.{IsLawfulContent}
 use Rattle.machine_defs.specs.Difference.{Difference, RuleChange, IsDifference}
 use Rattle.link_laws.proofs.Told.{laws_of_told}
-use Rattle.link_laws.proofs.RowFacts.{live_or_free, rows_lead_to_live}
+use Rattle.link_laws.proofs.RowFacts.{live_or_free, rows_dimension, rows_lead_to_live}
 use Rattle.edit_laws.proofs.RowWrites.{live-within}
 use Rattle.value_laws.proofs.OfRows.{told_live}
-use Rattle.value_laws.proofs.Touching.{touched_touch}
+use Rattle.value_laws.specs.Rerouted.{IsTouchedIn}
+use Rattle.value_laws.proofs.Touching.{rerouted_touch}
 use Rattle.journal_laws.proofs.ContentFacts.{value-above, values-one, same-content}
 use Rattle.journal_laws.specs.Following.{all_taken_back}
 use Rattle.journal_laws.proofs.Leading.{difference-led}
@@ -34,7 +36,7 @@ use Rattle.label_laws.proofs.Taking.{taken-as, taken-then}
 use Rattle.label_laws.proofs.Same.{stored_value-alike, stored-alike}
 use Rattle.label_laws.proofs.Showing.{value-shown, places-shown, rule-shown, ruled-low}
 use Rattle.label_laws.proofs.Restored.{IsEarlier, stored-before, stored_value-before, bare-before}
-use Rattle.valued_map.specs.Undoing.{AreStepsTo, AreEditsTo, HasRoomFor, no_step, step_at, rows_before, rules_before, value_before, IsRevalued, IsNearStep, IsStepped}
+use Rattle.valued_map.specs.Undoing.{AreStepsTo, AreEditsTo, HasRoomFor, no_step, step_at, rows_before, rules_before, value_before, IsRevalued, IsMapWord, IsNearStep, IsStepped}
 use Rattle.valued_map.proofs.Earlier.{AreStepsOn, steps-on, kind-before, dim-before, rows-are, rules-are, near-steps, value-told, value-kept}
 use Rattle.valued_map.proofs.RowCounts.{count-after}
 use Rattle.valued_map.proofs.Reversing.{made-grows}
@@ -187,17 +189,19 @@ module _ (k : Kind) (n : ℕ) (rows : Rows) (l : Labeling) (p : Store) (rules : 
         (subst (λ (j : Kind). InCell j (links_of Then.rows) i x y) (sym (kind-before Now steps)) (subst (λ (r : Rows). InCell k (links_of r) i x y) (sym back-rows) cell))
         ∙ sym (value-is i y)
 
-    near-touched : (x : ℕ) → IsTouched k (links_of rows) (IsLive rows) (links_of Before) (IsLive Before) x → IsNearStep k Before steps x
-    near-touched x t =
-        subst (λ (r : Rows). IsNearStep k r steps x) back-rows
-        (near-steps Now steps on k x (subst (λ (r : Rows). IsTouched k (links_of rows) (IsLive rows) (links_of r) (IsLive r) x) (sym back-rows) t))
+    near-touched : (i x : ℕ) → IsTouchedIn k i (links_of rows) (IsLive rows) (links_of Before) (IsLive Before) x → IsNearStep (IsMapWord k n i) Before steps x
+    near-touched i x t =
+        subst (λ (r : Rows). IsNearStep (IsMapWord k n i) r steps x) back-rows
+        (near-steps Now steps on k n i (rows_dimension n rows s.sound.wide) (subst (λ (r : Rows). HasDimension n (links_of r)) (sym back-rows) (rows_dimension n Before before-sound.wide))
+        s.laws (subst (λ (r : Rows). Laws k (links_of r)) (sym back-rows) before-laws) x
+        (subst (λ (r : Rows). IsTouchedIn k i (links_of rows) (IsLive rows) (links_of r) (IsLive r) x) (sym back-rows) t))
 
-    old-cell : (i d : ℕ) → IsLive Before d → ((x : ℕ) → InCell k (links_of Before) i d x → IsStepped k Before steps i x → ⊥) → IsOldCell k i (links_of rows) (IsLive rows) (links_of Before) d
+    old-cell : (i d : ℕ) → IsLive Before d → ((x : ℕ) → InCell k (links_of Before) i d x → IsStepped k n Before steps i x → ⊥) → IsOldCell k i (links_of rows) (IsLive rows) (links_of Before) d
     old-cell i d live none =
-        touched_touch k (IsLive rows) (links_of rows) (links_of Before) s.laws before-laws (IsLive Before) (IsNearStep k Before steps) (told_live rows)
-        (rows_lead_to_live k Before before-laws) near-touched i d live (λ x cell near. none x cell (inl near))
+        rerouted_touch k (IsLive rows) (links_of rows) (links_of Before) s.laws before-laws (IsLive Before) (IsNearStep (IsMapWord k n i) Before steps) (told_live rows)
+        (rows_lead_to_live k Before before-laws) i (near-touched i) d live (λ x cell near. none x cell (inl near))
 
-    earlier : IsEarlier k rows Before l1 p1 (IsRevalued steps) (IsStepped k Before steps) (λ i. IsSome (rule_at rules0 i)) Was
+    earlier : IsEarlier k rows Before l1 p1 (IsRevalued steps) (IsStepped k n Before steps) (λ i. IsSome (rule_at rules0 i)) Was
     earlier = record {
       stays = λ i d none. value-kept steps i d (stored_value p l i d) none ∙ sym (stored_value-alike l l1 p p1 ids slots i d);
       lives = some-lives;
@@ -210,7 +214,7 @@ module _ (k : Kind) (n : ℕ) (rows : Rows) (l : Labeling) (p : Store) (rules : 
     stored1 : AreStored k (links_of rows) (IsLive rows) l1 p1
     stored1 = stored-alike k (links_of rows) (IsLive rows) l l1 p p1 ids slots s.stored
 
-    module _ (groups : List Group) (restored : AreRestored k (links_of Before) (IsLive Before) (λ i. IsSome (rule_at rules0 i)) (IsStepped k Before steps) Was groups)
+    module _ (groups : List Group) (restored : AreRestored k (links_of Before) (IsLive Before) (λ i. IsSome (rule_at rules0 i)) (IsStepped k n Before steps) Was groups)
         (made1 : l1.made ≡ l.made) (placed : (i : ℕ) → IsSome (rule_at rules0 i) → HasIdPlaces l1 i) (most : made Before ≤ made rows) where
       -- the groups can be labelled
       pub groups-fit : (l2 : Labeling) → l2.made ≡ l1.made → KeepsPlaces l1 l2 → (g : ℕ) → g < length groups → CanLabel n l2 (group_at groups g)
@@ -244,7 +248,7 @@ module _ (k : Kind) (n : ℕ) (rows : Rows) (l : Labeling) (p : Store) (rules : 
 
         values3 : (i d : ℕ) → stored_value p3 l3 i d ≡ Was i d
         values3 =
-            stored_value-before k rows Before s.laws before-laws l1 p1 stored1 (IsRevalued steps) (IsStepped k Before steps) (λ i. IsSome (rule_at rules0 i)) Was earlier groups restored
+            stored_value-before k rows Before s.laws before-laws l1 p1 stored1 (IsRevalued steps) (IsStepped k n Before steps) (λ i. IsSome (rule_at rules0 i)) Was earlier groups restored
             relabelled.0 relabelled.1 all-taken l3 p3 relabelled.3
 
         places3 : (l3.made ≡ relabelled.0.made) × KeepsPlaces relabelled.0 l3
@@ -260,10 +264,10 @@ module _ (k : Kind) (n : ℕ) (rows : Rows) (l : Labeling) (p : Store) (rules : 
           begun = before-begun;
           sound = before-sound;
           laws = before-laws;
-          stored = stored-before k rows Before s.laws before-laws l1 p1 stored1 (IsRevalued steps) (IsStepped k Before steps) (λ i. IsSome (rule_at rules0 i)) Was earlier groups restored
+          stored = stored-before k rows Before s.laws before-laws l1 p1 stored1 (IsRevalued steps) (IsStepped k n Before steps) (λ i. IsSome (rule_at rules0 i)) Was earlier groups restored
               relabelled.0 relabelled.1 all-taken l3 p3 relabelled.3;
           ruled = ruled;
-          bare = λ i d none. bare-before k rows Before s.laws before-laws l1 p1 stored1 (IsRevalued steps) (IsStepped k Before steps) (λ i. IsSome (rule_at rules0 i)) Was earlier groups restored
+          bare = λ i d none. bare-before k rows Before s.laws before-laws l1 p1 stored1 (IsRevalued steps) (IsStepped k n Before steps) (λ i. IsSome (rule_at rules0 i)) Was earlier groups restored
               relabelled.0 relabelled.1 all-taken l3 p3 relabelled.3 i d (no-value i d none);
           placed = λ i some. (places3.1 i).1 ((all-taken.places i).1 (placed i some));
           long = omega (arith, places3.0, all-taken.made, made1, s.long, most);

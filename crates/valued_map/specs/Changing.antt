@@ -1,8 +1,9 @@
 -- How a line changes a map.
-use Rattle.std.specs.Prelude.{ℕ, ◌≡◌, ◌⊎◌, List, Contains}
-use Rattle.map_defs.specs.Kind.{Kind, beta}
+use Rattle.std.specs.Prelude.{ℕ, ◌≡◌, ◌≢◌, ◌⊎◌, List, Some, Contains}
+use Rattle.map_defs.specs.Kind.{Kind}
+use Rattle.map_defs.specs.LinkWords.{LinkWord, through_second}
 use Rattle.map_defs.specs.Rows.{Rows, IsLive, links_of}
-use Rattle.map_defs.specs.Edits.{Change}
+use Rattle.map_defs.specs.Edits.{Change, Edit, IsLed}
 
 -- The darts that meet Wanted and are live were added, and no dart that is not live.
 pub record AreAdded (rows : Rows) (Wanted : ℕ → Type 0) (old new : List ℕ) : Type 0 where
@@ -10,10 +11,16 @@ pub record AreAdded (rows : Rows) (Wanted : ℕ → Type 0) (old new : List ℕ)
   pub live : (x : ℕ) → Contains new x → Contains old x ⊎ IsLive rows x
   pub all : (x : ℕ) → Wanted x → IsLive rows x → Contains new x
 
--- the dart at some link of d
-abbrev pub IsBeside : Rows → ℕ → ℕ → Type 0
-IsBeside rows d x = (t : ℕ) × (links_of rows t d ≡ x)
+-- A change of a link in an edit that led to the rows reroutes x along a word: the word follows the link from x first, and then
+-- leads elsewhere than before;
+abbrev pub IsFirstRerouted : Kind → ℕ → Edit → Rows → LinkWord → Change → ℕ → Type 0
+IsFirstRerouted k n e rows w c x = (old : Rows) × IsLed k n e old rows
+    × ((w.first ≡ c.link) × (x ≡ c.dart) × (through_second (links_of old) w.second c.old ≢ through_second (links_of rows) w.second c.new))
 
--- the changed dart, and in a combinatorial map the darts at its links before and after
-abbrev pub IsAtChange : Kind → Rows → Change → ℕ → Type 0
-IsAtChange k rows c x = (x ≡ c.dart) ⊎ ((k ≡ beta) × ((x ≡ c.old) ⊎ IsBeside rows c.dart x))
+-- or it leads x by its first link to the changed dart, before and after, and then follows the changed link.
+abbrev pub IsThenRerouted : Kind → ℕ → Edit → Rows → LinkWord → Change → ℕ → Type 0
+IsThenRerouted k n e rows w c x = (old : Rows) × IsLed k n e old rows
+    × ((w.second ≡ Some c.link) × (links_of rows w.first x ≡ c.dart) × (links_of old w.first x ≡ c.dart))
+
+abbrev pub IsReroutedAt : Kind → ℕ → Edit → Rows → LinkWord → Change → ℕ → Type 0
+IsReroutedAt k n e rows w c x = IsFirstRerouted k n e rows w c x ⊎ IsThenRerouted k n e rows w c x

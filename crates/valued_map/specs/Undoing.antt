@@ -1,7 +1,8 @@
 -- What steps that led to a map tell of the map before them.
-use Rattle.std.specs.Prelude.{ℕ, ◌≡◌, ◌+◌, ◌≤◌, ◌<◌, ◌⊎◌, ◌&&◌, nat_eq, cond, List, [], ◌∷◌, length, drop, Option, Contains, slice_index_or}
-use Rattle.map_defs.specs.Kind.{Kind, beta}
-use Rattle.map_defs.specs.Rows.{Rows, live_count}
+use Rattle.std.specs.Prelude.{ℕ, ◌≡◌, ◌≢◌, ◌+◌, ◌≤◌, ◌<◌, ◌⊎◌, ◌&&◌, nat_eq, cond, List, [], ◌∷◌, length, drop, Option, Some, Contains, slice_index_or}
+use Rattle.map_defs.specs.Kind.{Kind}
+use Rattle.map_defs.specs.LinkWords.{LinkWord, IsCellWord, IsWithin}
+use Rattle.map_defs.specs.Rows.{Rows, links_of, live_count}
 use Rattle.map_defs.specs.Values.{Value, Rule}
 use Rattle.map_defs.specs.Edits.{Change, Edit, IsLed, before_edit}
 use Rattle.machine_defs.specs.State.{Content}
@@ -9,7 +10,6 @@ use Rattle.machine_defs.specs.Difference.{Difference, ValueChange, IsDifference,
 use Rattle.machine_defs.specs.Kept.{IsLawfulContent}
 use Rattle.store_defs.specs.Groups.{Group, group_at, least_of}
 use Rattle.journal_laws.specs.Following.{Follows, all_taken_back}
-use Rattle.valued_map.specs.Changing.{IsBeside}
 
 -- The steps lead to the content now: with those from number j on taken back the content is a lawful one, and step j leads
 -- from it to the content one step later. The default e stands for no step, since j is within the list.
@@ -64,24 +64,28 @@ IsValueChanged cs i d = (c : ValueChange) × Contains cs c × (c.dim ≡ i) × (
 abbrev pub IsRevalued : List Difference → ℕ → ℕ → Type 0
 IsRevalued steps i d = (s : Difference) × Contains steps s × IsValueChanged s.values i d
 
--- the dart of a change, and in a combinatorial map the dart that the change joined to it and those at its links
-abbrev pub IsNearChange : Kind → Rows → Change → ℕ → Type 0
-IsNearChange k rows c x = (x ≡ c.dart) ⊎ ((k ≡ beta) × ((x ≡ c.new) ⊎ IsBeside rows c.dart x))
+-- A change of a link may reroute x along one of these words: the word follows the link from x first, or it leads x by its first
+-- link to the changed dart, and then follows the link.
+abbrev pub IsNearAlong : Rows → LinkWord → Change → ℕ → Type 0
+IsNearAlong rows w c x = ((w.first ≡ c.link) × (x ≡ c.dart)) ⊎ ((w.second ≡ Some c.link) × (links_of rows w.first x ≡ c.dart) × (c.dart ≢ 0))
+
+abbrev pub IsNearChange : (LinkWord → Type 0) → Rows → Change → ℕ → Type 0
+IsNearChange Words rows c x = (w : LinkWord) × Words w × IsNearAlong rows w c x
 
 -- the darts that an edit ended, and those near its changes
-abbrev pub IsNearEdit : Kind → Rows → Edit → ℕ → Type 0
-IsNearEdit k rows e x = Contains e.deaths x ⊎ ((c : Change) × Contains e.changes c × IsNearChange k rows c x)
+abbrev pub IsNearEdit : (LinkWord → Type 0) → Rows → Edit → ℕ → Type 0
+IsNearEdit Words rows e x = Contains e.deaths x ⊎ ((c : Change) × Contains e.changes c × IsNearChange Words rows c x)
 
-abbrev pub IsNearStep : Kind → Rows → List Difference → ℕ → Type 0
-IsNearStep k rows steps x = (s : Difference) × Contains steps s × IsNearEdit k rows s.edit x
+abbrev pub IsNearStep : (LinkWord → Type 0) → Rows → List Difference → ℕ → Type 0
+IsNearStep Words rows steps x = (s : Difference) × Contains steps s × IsNearEdit Words rows s.edit x
 
--- a dart that some step may have moved to another cell, or whose value in dimension i some step changed
-abbrev pub IsStepped : Kind → Rows → List Difference → ℕ → ℕ → Type 0
-IsStepped k rows steps i d = IsNearStep k rows steps d ⊎ IsRevalued steps i d
+-- the words of the i-cells of a map of dimension n
+abbrev pub IsMapWord : Kind → ℕ → ℕ → LinkWord → Type 0
+IsMapWord k n i w = IsCellWord k i w × IsWithin n w
 
--- the change that takes a change back
-abbrev pub turned_change : Change → Change
-turned_change c = record { dart = c.dart; link = c.link; old = c.new; new = c.old }
+-- a dart that some step may have moved to another i-cell, or whose value in dimension i some step changed
+abbrev pub IsStepped : Kind → ℕ → Rows → List Difference → ℕ → ℕ → Type 0
+IsStepped k n rows steps i d = IsNearStep (IsMapWord k n i) rows steps d ⊎ IsRevalued steps i d
 
 -- The first m cells have the value of their least darts, and are else what they were.
 pub record AreGivenValues (value : ℕ → Option Value) (m : ℕ) (old new : List Group) : Type 0 where

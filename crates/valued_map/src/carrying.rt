@@ -35,7 +35,8 @@ pub(crate) fn carried<K: Kind, H: Hook, const DIM: usize>(
         × IsStoredMap K.kind DIM old labels.now pool.old rules.now }
     requires laws { Laws K.kind (links_of links.now.rows) }
     ensures cells { IfOk result (λ groups. (old : Rows) → IsLed K.kind DIM edit.now old links.now.rows
-        → Laws K.kind (links_of old) → AreAllTouched K.kind old links.now.rows rules.now groups.items) }
+        → IsStoredMap K.kind DIM old labels.now pool.old rules.now
+        → AreAllTouched K.kind old links.now.rows rules.now labels.now groups.items) }
     ensures values { IfOk result (λ groups. (n : ℕ) → n < length groups.items
         → HasCarriedValue K.kind (links_of links.now.rows) (IsLive links.now.rows) (id_of labels.now) pool.old
         (H.meaning hook.now) rules.now (group_at groups.items n)) }
@@ -46,7 +47,7 @@ pub(crate) fn carried<K: Kind, H: Hook, const DIM: usize>(
     if !has_places(rules) {
         return Ok(Vec::new(alloc));
     }
-    let touched = touched_darts(alloc, links, edit)?;
+    let touched = touched_darts(alloc, links, rules, edit)?;
     let groups = carry(alloc, links, labels, pool, rules, hook, &touched)?;
     make_room(pool, groups.len())?;
     Ok(groups)

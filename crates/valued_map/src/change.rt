@@ -149,7 +149,8 @@ fn moved<K: Kind, H: Hook, const DIM: usize>(
         × IsStoredMap K.kind DIM old labels.now pool.old rules.now }
     requires laws { Laws K.kind (links_of links.now.rows) }
     ensures cells { IfOk result (λ moved. (old : Rows) → IsLed K.kind DIM edit.now old links.now.rows
-        → Laws K.kind (links_of old) → AreAllTouched K.kind old links.now.rows rules.now moved.0.items) }
+        → IsStoredMap K.kind DIM old labels.now pool.old rules.now
+        → AreAllTouched K.kind old links.now.rows rules.now labels.now moved.0.items) }
     ensures values { IfOk result (λ moved. (n : ℕ) → n < length moved.0.items
         → HasCarriedValue K.kind (links_of links.now.rows) (IsLive links.now.rows) (id_of labels.now) pool.old
         (H.meaning hook.now) rules.now (group_at moved.0.items n)) }

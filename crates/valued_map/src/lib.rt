@@ -12,6 +12,7 @@ mod ids;
 mod list;
 mod load;
 mod map;
+mod near;
 mod restore;
 mod rules;
 mod told;

@@ -2,6 +2,7 @@
 ghost use Rattle.std.specs.Prelude.{◌≡◌, ℕ, ◌+◌, ◌≤◌, ◌<◌, ◌⊎◌, ◌&&◌, [], length, nat_eq, cond, unwrap_or, slice_index, Contains, Option, IsSome, IfOk, OnOk, OnErr};
 ghost use Rattle.std.specs.Ordering.{nat_cmp};
 ghost use Rattle.std.specs.BTreeMap as tree;
+ghost use Rattle.map_defs.specs.LinkWords.{LinkWord as MapWord, IsWithin};
 ghost use Rattle.map_defs.specs.Rows.{Rows, IsLive, IsSound, links_of, made, live_count};
 ghost use Rattle.map_defs.specs.Laws.{Laws};
 ghost use Rattle.map_defs.specs.Values.{Value as PlainValue};
@@ -16,16 +17,17 @@ ghost use Rattle.label_laws.specs.Maps.{IsStoredMap};
 ghost use Rattle.label_laws.specs.Restoring.{AreRestored};
 ghost use Rattle.journal_laws.specs.Following.{all_taken_back};
 ghost use Rattle.valued_map.specs.Changing.{AreAdded};
-ghost use Rattle.valued_map.specs.Undoing.{AreStepsTo, AreEditsTo, HasRoomFor, rows_before, rules_before, value_before, old_among, IsValueChanged, IsRevalued, IsNearChange, IsNearEdit, IsNearStep, IsStepped, AreGivenValues, turned_change};
+ghost use Rattle.valued_map.specs.Undoing.{AreStepsTo, AreEditsTo, HasRoomFor, rows_before, rules_before, value_before, old_among, IsValueChanged, IsRevalued, IsNearChange, IsNearEdit, IsNearStep, IsStepped, AreGivenValues};
 
 use crate::carrying::make_room;
 use crate::ids::{relabel, stored_value, take_id};
 use crate::map::ValuedMap;
+use crate::near::add_near_change;
 use crate::rules::{has_places, has_rule, make_places};
-use crate::touched::{add_at_change, add_live};
+use crate::touched::add_live;
 use attr_pool::{Labels, Pool};
 use link_rows::{Change, Edit, Links};
-use map_kind::{Dart, Kind, Value};
+use map_kind::{Dart, Kind, LinkWord, Value};
 use std::alloc::{AllocError, Global};
 use std::collections::BTreeMap;
 use transport::{Group, RuleRow, touched_cells};
@@ -176,7 +178,7 @@ fn put_old_rules(rules: &mut RuleRow, changes: &[RuleChange])
     }
 }
 
-/// The cells of the map before steps whose darts some step touched, in the dimensions that had a rule, with the values
+/// The cells of the map before steps whose darts some step may have moved to another cell, in the dimensions that had a rule, with the values
 /// that they had, and room in the pool and places in the labels for them. The links and rules are those before the
 /// steps, the labels and the pool those after them. Where no dimension had a rule, nothing is looked at.
 fn cells_before<K: Kind, const DIM: usize>(
@@ -192,7 +194,7 @@ fn cells_before<K: Kind, const DIM: usize>(
     requires laws { Laws K.kind (links_of links.now.rows) }
     requires long { (rules.now ≡ []) ⊎ (length rules.now ≡ DIM + 1) }
     ensures cells { IfOk result (λ groups. AreRestored K.kind (links_of links.now.rows) (IsLive links.now.rows)
-        (λ i. IsSome (rule_at rules.now i)) (IsStepped K.kind links.now.rows steps.now)
+        (λ i. IsSome (rule_at rules.now i)) (IsStepped K.kind DIM links.now.rows steps.now)
         (λ i d. value_before steps.now i d (stored_value pool.old labels.old i d)) groups.items) }
     ensures places { OnOk result ((i : ℕ) → IsSome (rule_at rules.now i) → HasPlaces labels.new i) }
     ensures places_stay { (i : ℕ) → HasPlaces labels.old i → HasPlaces labels.new i }
@@ -204,9 +206,8 @@ fn cells_before<K: Kind, const DIM: usize>(
     if !has_places(rules) {
         return Ok(Vec::new(alloc));
     }
-    let touched = stepped_darts(alloc, links, steps)?;
     open_places(labels, rules)?;
-    let groups = all_cells(alloc, links, labels, pool, rules, steps, &touched)?;
+    let groups = all_cells(alloc, links, labels, pool, rules, steps)?;
     make_room(pool, groups.len())?;
     Ok(groups)
 }
@@ -247,8 +248,8 @@ fn open_place<const DIM: usize>(
     labels.open(dim)
 }
 
-/// The cells, in all dimensions with a rule, of the touched darts and of those whose value in the dimension some step
-/// changed, with the values before the steps.
+/// The cells, in all dimensions with a rule, of the darts that some step may have moved to another cell of the dimension, and of
+/// those whose value in it some step changed, with the values before the steps.
 fn all_cells<K: Kind, const DIM: usize>(
     alloc: Global,
     links: &Links<K, DIM>,
@@ -256,19 +257,17 @@ fn all_cells<K: Kind, const DIM: usize>(
     pool: &Pool,
     rules: &RuleRow,
     steps: &[Step],
-    touched: &[Dart],
 ) -> Result<Vec<Group>, AllocError>
     requires sound { IsSound K.kind DIM links.now.rows }
     requires laws { Laws K.kind (links_of links.now.rows) }
     requires long { length rules.now ≤ DIM + 1 }
-    requires live { (x : ℕ) → Contains touched.now x → IsLive links.now.rows x }
     ensures { IfOk result (λ groups. AreRestored K.kind (links_of links.now.rows) (IsLive links.now.rows)
-        (λ i. IsSome (rule_at rules.now i)) (λ i d. Contains touched.now d ⊎ IsRevalued steps.now i d)
+        (λ i. IsSome (rule_at rules.now i)) (IsStepped K.kind DIM links.now.rows steps.now)
         (λ i d. value_before steps.now i d (stored_value pool.now labels.now i d)) groups.items) }
 {
     let mut groups = Vec::new(alloc);
     for dim in 0..links.dimension() + 1 {
-        let mut cells = ruled_cells(alloc, links, labels, pool, rules, steps, touched, dim)?;
+        let mut cells = ruled_cells(alloc, links, labels, pool, rules, steps, dim)?;
         groups.append(&mut cells)?;
     }
     Ok(groups)
@@ -282,21 +281,20 @@ fn ruled_cells<K: Kind, const DIM: usize>(
     pool: &Pool,
     rules: &RuleRow,
     steps: &[Step],
-    touched: &[Dart],
     dim: usize,
 ) -> Result<Vec<Group>, AllocError>
     requires dim { dim ≤ DIM }
     requires sound { IsSound K.kind DIM links.now.rows }
     requires laws { Laws K.kind (links_of links.now.rows) }
-    requires live { (x : ℕ) → Contains touched.now x → IsLive links.now.rows x }
     ensures { IfOk result (λ cells. AreRestored K.kind (links_of links.now.rows) (IsLive links.now.rows)
-        (λ i. (i ≡ dim) × IsSome (rule_at rules.now i)) (λ i d. Contains touched.now d ⊎ IsRevalued steps.now i d)
+        (λ i. (i ≡ dim) × IsSome (rule_at rules.now i)) (IsStepped K.kind DIM links.now.rows steps.now)
         (λ i d. value_before steps.now i d (stored_value pool.now labels.now i d)) cells.items) }
 {
     if !has_rule(rules, dim) {
         return Ok(Vec::new(alloc));
     }
-    let mut darts = Vec::from_slice(alloc, touched)?;
+    let words = K::words(alloc, links.dimension(), dim)?;
+    let mut darts = stepped_darts(alloc, links, &words, steps)?;
     add_revalued(links, steps, dim, &mut darts)?;
     let mut cells = touched_cells(alloc, links, dim, &darts)?;
     let values = old_values(alloc, steps, dim)?;
@@ -387,37 +385,42 @@ fn put_old_value(
     Ok(())
 }
 
-/// The live darts that some step may have moved to another cell: those that steps ended, those with a changed link, and in
-/// a combinatorial map those that a link before or after joins to one with a changed link. Some may stand there more
-/// than once. The links are those before the steps.
+/// The live darts that some step may have moved to another cell that runs along these words: those that steps ended, and those
+/// near their changes. Some may stand there more than once. The links are those before the steps.
 fn stepped_darts<K: Kind, const DIM: usize>(
     alloc: Global,
     links: &Links<K, DIM>,
+    words: &[LinkWord],
     steps: &[Step],
 ) -> Result<Vec<Dart>, AllocError>
-    requires { IsSound K.kind DIM links.now.rows }
+    requires low { 2 ≤ DIM }
+    requires sound { IsSound K.kind DIM links.now.rows }
+    requires words { (w : MapWord) → Contains words.now w → IsWithin DIM w }
     ensures live { IfOk result (λ darts. (x : ℕ) → Contains darts.items x → IsLive links.now.rows x) }
-    ensures all { IfOk result (λ darts. (x : ℕ) → IsNearStep K.kind links.now.rows steps.now x → IsLive links.now.rows x
+    ensures all { IfOk result (λ darts. (x : ℕ) → IsNearStep (Contains words.now) links.now.rows steps.now x → IsLive links.now.rows x
         → Contains darts.items x) }
 {
     let mut darts = Vec::new(alloc);
     for step in steps {
-        add_near(links, &step.edit, &mut darts)?;
+        add_near(links, words, &step.edit, &mut darts)?;
     }
     Ok(darts)
 }
 
-/// Adds the darts that an edit may have moved to another cell.
+/// Adds the darts that an edit may have moved to another cell that runs along these words.
 fn add_near<K: Kind, const DIM: usize>(
     links: &Links<K, DIM>,
+    words: &[LinkWord],
     edit: &Edit,
     darts: &mut Vec<Dart>,
 ) -> Result<(), AllocError>
-    requires { IsSound K.kind DIM links.now.rows }
-    ensures { OnOk result (AreAdded links.now.rows (IsNearEdit K.kind links.now.rows edit.now) darts.old.items darts.new.items) }
+    requires low { 2 ≤ DIM }
+    requires sound { IsSound K.kind DIM links.now.rows }
+    requires words { (w : MapWord) → Contains words.now w → IsWithin DIM w }
+    ensures { OnOk result (AreAdded links.now.rows (IsNearEdit (Contains words.now) links.now.rows edit.now) darts.old.items darts.new.items) }
 {
     add_darts(links, &edit.deaths, darts)?;
-    add_at_changes(links, &edit.changes, darts)
+    add_at_changes(links, words, &edit.changes, darts)
 }
 
 /// Adds the live ones of some darts.
@@ -438,29 +441,20 @@ fn add_darts<K: Kind, const DIM: usize>(
 /// Adds the darts near changes of links.
 fn add_at_changes<K: Kind, const DIM: usize>(
     links: &Links<K, DIM>,
+    words: &[LinkWord],
     changes: &[Change],
     darts: &mut Vec<Dart>,
 ) -> Result<(), AllocError>
-    requires { IsSound K.kind DIM links.now.rows }
-    ensures { OnOk result (AreAdded links.now.rows (λ x. (c : LinkChange) × Contains changes.now c × IsNearChange K.kind links.now.rows c x)
+    requires low { 2 ≤ DIM }
+    requires sound { IsSound K.kind DIM links.now.rows }
+    requires words { (w : MapWord) → Contains words.now w → IsWithin DIM w }
+    ensures { OnOk result (AreAdded links.now.rows (λ x. (c : LinkChange) × Contains changes.now c × IsNearChange (Contains words.now) links.now.rows c x)
         darts.old.items darts.new.items) }
 {
     for change in changes {
-        add_at_change(links, turned(*change), darts)?;
+        add_near_change(links, words, *change, darts)?;
     }
     Ok(())
-}
-
-/// The change that takes a change back.
-fn turned(change: Change) -> Change
-    ensures { result ≡ turned_change change }
-{
-    Change {
-        dart: change.dart,
-        link: change.link,
-        old: change.new,
-        new: change.old,
-    }
 }
 
 /// Adds the live darts whose value in a dimension some step changed.

@@ -1,97 +1,289 @@
 //! Which darts an edit touches.
-ghost use Rattle.std.specs.Prelude.{◌≡◌, ℕ, ◌≤◌, ◌<◌, Contains, IfOk, OnOk};
+ghost use Rattle.std.specs.Prelude.{◌≡◌, ◌≢◌, ℕ, ◌+◌, ◌≤◌, ◌<◌, ◌↔◌, length, Contains, IsTrue, IsSome, IfOk, IfSome, IsNone, OnOk};
+ghost use Rattle.map_defs.specs.Kind.{inverse};
+ghost use Rattle.map_defs.specs.LinkWords.{LinkWord as MapWord, through_second, IsCellWord, IsWithin};
 ghost use Rattle.map_defs.specs.Rows.{Rows, IsLive, IsSound, links_of, made};
-ghost use Rattle.map_defs.specs.Edits.{IsLed};
-ghost use Rattle.map_defs.specs.Touched.{IsTouched};
-ghost use Rattle.valued_map.specs.Changing.{AreAdded, IsAtChange, IsBeside};
+ghost use Rattle.map_defs.specs.Laws.{Laws};
+ghost use Rattle.map_defs.specs.Edits.{Change as LinkChange, IsLed};
+ghost use Rattle.label_laws.specs.Touching.{IsReroutedDart};
+ghost use Rattle.store_defs.specs.Groups.{darts_in, rule_at};
+ghost use Rattle.valued_map.specs.Changing.{AreAdded, IsFirstRerouted, IsThenRerouted, IsReroutedAt};
 
+use crate::rules::has_rule;
 use link_rows::{Change, Edit, Links};
-use map_kind::{Dart, Kind};
+use map_kind::{Dart, Kind, LinkWord};
 use std::alloc::{AllocError, Global};
+use transport::{RuleRow, TouchedDarts};
 
-/// The live darts that an edit touched: those born, those with a changed link, and in a combinatorial map those that an
-/// old or a new link joins to one with a changed link. Some may stand there more than once. The links are those after the
-/// edit.
+/// How many changes of an edit are looked through for the link before it. Where an edit has more, each dart that a change may
+/// have rerouted counts as touched, so that the cost stays linear in the changes.
+const FEW: usize = 64;
+
+/// The darts that an edit touched in each dimension with a rule. The links are those after the edit.
 pub(crate) fn touched_darts<K: Kind, const DIM: usize>(
     alloc: Global,
     links: &Links<K, DIM>,
+    rules: &RuleRow,
     edit: &Edit,
+) -> Result<TouchedDarts, AllocError>
+    requires births { edit.now.births ≤ made links.now.rows }
+    requires rules { length rules.now ≡ DIM + 1 }
+    ensures long { IfOk result (λ touched. length touched ≡ DIM + 1) }
+    ensures live { IfOk result (λ touched. (i x : ℕ) → Contains (darts_in touched i) x → IsLive links.now.rows x) }
+    ensures all { IfOk result (λ touched. (old : Rows) → IsLed K.kind DIM edit.now old links.now.rows → Laws K.kind (links_of old)
+        → Laws K.kind (links_of links.now.rows) → (i x : ℕ) → IsSome (rule_at rules.now i)
+        → IsReroutedDart K.kind i old links.now.rows x
+        → Contains (darts_in touched i) x) }
+{
+    let mut by_dim = Vec::new(alloc);
+    for dim in 0..links.dimension() + 1 {
+        let darts = ruled_darts(alloc, links, rules, edit, dim)?;
+        by_dim.push(darts)?;
+    }
+    Ok(TouchedDarts { by_dim })
+}
+
+/// The darts that an edit touched in a dimension; none where it has no rule.
+fn ruled_darts<K: Kind, const DIM: usize>(
+    alloc: Global,
+    links: &Links<K, DIM>,
+    rules: &RuleRow,
+    edit: &Edit,
+    dim: usize,
 ) -> Result<Vec<Dart>, AllocError>
-    requires { edit.now.births ≤ made links.now.rows }
+    requires births { edit.now.births ≤ made links.now.rows }
+    requires dim { dim ≤ DIM }
     ensures live { IfOk result (λ touched. (x : ℕ) → Contains touched.items x → IsLive links.now.rows x) }
-    ensures all { IfOk result (λ touched. (old : Rows) → IsLed K.kind DIM edit.now old links.now.rows → (x : ℕ)
-        → IsTouched K.kind (links_of old) (IsLive old) (links_of links.now.rows) (IsLive links.now.rows) x
+    ensures all { IfOk result (λ touched. IsSome (rule_at rules.now dim) → (old : Rows) → IsLed K.kind DIM edit.now old links.now.rows
+        → Laws K.kind (links_of old) → Laws K.kind (links_of links.now.rows) → (x : ℕ)
+        → IsReroutedDart K.kind dim old links.now.rows x
+        → Contains touched.items x) }
+{
+    if !has_rule(rules, dim) {
+        return Ok(Vec::new(alloc));
+    }
+    touched_in(alloc, links, edit, dim)
+}
+
+/// The darts that an edit touched in a dimension: those that lived before and from which some word of the dimension's cells leads
+/// elsewhere than before. Some may stand there more than once. A dart that was born is in the cell of such a dart, or in a
+/// cell of born darts alone, which has no value.
+fn touched_in<K: Kind, const DIM: usize>(
+    alloc: Global,
+    links: &Links<K, DIM>,
+    edit: &Edit,
+    dim: usize,
+) -> Result<Vec<Dart>, AllocError>
+    requires births { edit.now.births ≤ made links.now.rows }
+    requires dim { dim ≤ DIM }
+    ensures live { IfOk result (λ touched. (x : ℕ) → Contains touched.items x → IsLive links.now.rows x) }
+    ensures all { IfOk result (λ touched. (old : Rows) → IsLed K.kind DIM edit.now old links.now.rows
+        → Laws K.kind (links_of old) → Laws K.kind (links_of links.now.rows) → (x : ℕ)
+        → IsReroutedDart K.kind dim old links.now.rows x
         → Contains touched.items x) }
 {
     let mut touched = Vec::new(alloc);
-    let made = links.made();
-    add_born(links, made - edit.births, made, &mut touched)?;
+    let words = K::words(alloc, links.dimension(), dim)?;
     for change in &edit.changes {
-        add_at_change(links, *change, &mut touched)?;
+        add_at_change(links, edit, &words, *change, &mut touched)?;
     }
     Ok(touched)
 }
 
-/// Adds the live darts above `after`, up to `made`.
-fn add_born<K: Kind, const DIM: usize>(
+/// Adds the darts that a change of a link reroutes along some words. A change of a dart that was born, or has ended, tells
+/// nothing of other darts.
+fn add_at_change<K: Kind, const DIM: usize>(
     links: &Links<K, DIM>,
-    after: u32,
-    made: u32,
-    touched: &mut Vec<Dart>,
-) -> Result<(), AllocError>
-    requires { IsSound K.kind DIM links.now.rows }
-    ensures { OnOk result (AreAdded links.now.rows (λ x. (after < x) × (x ≤ made)) touched.old.items touched.new.items) }
-{
-    for number in after..made {
-        add_live(links, number + 1, touched)?;
-    }
-    Ok(())
-}
-
-/// Adds the darts that a change touched.
-pub(crate) fn add_at_change<K: Kind, const DIM: usize>(
-    links: &Links<K, DIM>,
+    edit: &Edit,
+    words: &[LinkWord],
     change: Change,
     touched: &mut Vec<Dart>,
 ) -> Result<(), AllocError>
-    requires { IsSound K.kind DIM links.now.rows }
-    ensures { OnOk result (AreAdded links.now.rows (IsAtChange K.kind links.now.rows change) touched.old.items touched.new.items) }
+    requires low { 2 ≤ DIM }
+    requires sound { IsSound K.kind DIM links.now.rows }
+    requires births { edit.now.births ≤ made links.now.rows }
+    requires words { (w : MapWord) → Contains words.now w → IsWithin DIM w }
+    ensures { OnOk result (AreAdded links.now.rows (λ x. (change.dart + edit.now.births ≤ made links.now.rows)
+        × IsLive links.now.rows change.dart
+        × ((w : MapWord) × Contains words.now w × IsReroutedAt K.kind DIM edit.now links.now.rows w change x))
+        touched.old.items touched.new.items) }
 {
-    add_live(links, change.dart.number(), touched)?;
-    if K::inverse(0) == 0 {
+    if change.dart.number() > links.made() - edit.births || !links.is_live(change.dart) {
         return Ok(());
     }
-    add_live(links, change.old, touched)?;
-    add_beside(links, change.dart, touched)
+    add_along_words(links, edit, words, change, touched)
 }
 
-/// Adds the darts at the links of a dart.
-fn add_beside<K: Kind, const DIM: usize>(
+/// Adds the darts that a change of a link of a live dart reroutes along some words.
+fn add_along_words<K: Kind, const DIM: usize>(
     links: &Links<K, DIM>,
-    dart: Dart,
+    edit: &Edit,
+    words: &[LinkWord],
+    change: Change,
     touched: &mut Vec<Dart>,
 ) -> Result<(), AllocError>
-    ensures { OnOk result (AreAdded links.now.rows (IsBeside links.now.rows dart) touched.old.items touched.new.items) }
+    requires low { 2 ≤ DIM }
+    requires sound { IsSound K.kind DIM links.now.rows }
+    requires live { IsLive links.now.rows change.dart }
+    requires words { (w : MapWord) → Contains words.now w → IsWithin DIM w }
+    ensures { OnOk result (AreAdded links.now.rows (λ x. (w : MapWord) × Contains words.now w
+        × IsReroutedAt K.kind DIM edit.now links.now.rows w change x) touched.old.items touched.new.items) }
 {
-    for link in 0..links.dimension() + 1 {
-        add_linked(links, dart, link, touched)?;
+    for word in words {
+        add_along(links, edit, *word, change, touched)?;
     }
     Ok(())
 }
 
-/// Adds the dart at a link of a dart.
-fn add_linked<K: Kind, const DIM: usize>(
+/// Adds the darts that a change of a link of a live dart reroutes along a word.
+fn add_along<K: Kind, const DIM: usize>(
     links: &Links<K, DIM>,
-    dart: Dart,
-    link: usize,
+    edit: &Edit,
+    word: LinkWord,
+    change: Change,
     touched: &mut Vec<Dart>,
 ) -> Result<(), AllocError>
-    requires { link ≤ DIM }
-    ensures { OnOk result (AreAdded links.now.rows (λ x. links_of links.now.rows link dart ≡ x) touched.old.items touched.new.items) }
+    requires low { 2 ≤ DIM }
+    requires sound { IsSound K.kind DIM links.now.rows }
+    requires live { IsLive links.now.rows change.dart }
+    requires word { IsWithin DIM word }
+    ensures { OnOk result (AreAdded links.now.rows (IsReroutedAt K.kind DIM edit.now links.now.rows word change)
+        touched.old.items touched.new.items) }
 {
-    match links.link(dart, link) {
-        Some(other) => add_live(links, other.number(), touched),
-        None => Ok(()),
+    add_at_first(links, edit, word, change, touched)?;
+    add_at_second(links, edit, word, change, touched)
+}
+
+/// Adds the changed dart, where a word follows the changed link first and then leads elsewhere than before.
+fn add_at_first<K: Kind, const DIM: usize>(
+    links: &Links<K, DIM>,
+    edit: &Edit,
+    word: LinkWord,
+    change: Change,
+    touched: &mut Vec<Dart>,
+) -> Result<(), AllocError>
+    requires sound { IsSound K.kind DIM links.now.rows }
+    requires live { IsLive links.now.rows change.dart }
+    requires word { IsWithin DIM word }
+    ensures { OnOk result (AreAdded links.now.rows (IsFirstRerouted K.kind DIM edit.now links.now.rows word change)
+        touched.old.items touched.new.items) }
+{
+    if word.first != change.link || !leads_elsewhere(links, edit, word.second, change) {
+        return Ok(());
+    }
+    touched.push(change.dart)?;
+    Ok(())
+}
+
+/// Adds the dart from which a word comes to the changed dart, before and after, where it follows the changed link then.
+fn add_at_second<K: Kind, const DIM: usize>(
+    links: &Links<K, DIM>,
+    edit: &Edit,
+    word: LinkWord,
+    change: Change,
+    touched: &mut Vec<Dart>,
+) -> Result<(), AllocError>
+    requires low { 2 ≤ DIM }
+    requires sound { IsSound K.kind DIM links.now.rows }
+    requires live { IsLive links.now.rows change.dart }
+    requires word { IsWithin DIM word }
+    ensures { OnOk result (AreAdded links.now.rows (IsThenRerouted K.kind DIM edit.now links.now.rows word change)
+        touched.old.items touched.new.items) }
+{
+    if word.second != Some(change.link) {
+        return Ok(());
+    }
+    add_before(links, edit, word.first, change.dart, touched)
+}
+
+/// Whether what follows a changed link leads elsewhere than before, if anything does; and in an edit of many changes, always.
+fn leads_elsewhere<K: Kind, const DIM: usize>(
+    links: &Links<K, DIM>,
+    edit: &Edit,
+    second: Option<usize>,
+    change: Change,
+) -> bool
+    requires sound { IsSound K.kind DIM links.now.rows }
+    requires link { IfSome second (λ link. link ≤ DIM) }
+    ensures { (old : Rows) → IsLed K.kind DIM edit.now old links.now.rows
+        → through_second (links_of old) second change.old ≢ through_second (links_of links.now.rows) second change.new
+        → IsTrue result }
+{
+    let Some(link) = second else {
+        return true;
+    };
+    if edit.changes.len() > FEW {
+        return true;
+    }
+    number_before(links, edit, change.old, link) != number_now(links, change.new, link)
+}
+
+/// Adds the dart from which a link leads to a dart, if it led there before; and in an edit of many changes, always.
+fn add_before<K: Kind, const DIM: usize>(
+    links: &Links<K, DIM>,
+    edit: &Edit,
+    link: usize,
+    dart: Dart,
+    touched: &mut Vec<Dart>,
+) -> Result<(), AllocError>
+    requires low { 2 ≤ DIM }
+    requires sound { IsSound K.kind DIM links.now.rows }
+    requires live { IsLive links.now.rows dart }
+    requires link { link ≤ DIM }
+    ensures { OnOk result (AreAdded links.now.rows (λ x. (old : Rows) × IsLed K.kind DIM edit.now old links.now.rows
+        × (links_of links.now.rows link x ≡ dart) × (links_of old link x ≡ dart)) touched.old.items touched.new.items) }
+{
+    let Some(before) = links.link(dart, K::inverse(link)) else {
+        return Ok(());
+    };
+    if edit.changes.len() <= FEW
+        && number_before(links, edit, before.number(), link) != dart.number()
+    {
+        return Ok(());
+    }
+    touched.push(before)?;
+    Ok(())
+}
+
+/// The number of the dart that stood at a link of the dart of a number before an edit; 0 for none, and for the number 0.
+fn number_before<K: Kind, const DIM: usize>(
+    links: &Links<K, DIM>,
+    edit: &Edit,
+    number: u32,
+    link: usize,
+) -> u32
+    requires sound { IsSound K.kind DIM links.now.rows }
+    requires link { link ≤ DIM }
+    ensures { (old : Rows) → IsLed K.kind DIM edit.now old links.now.rows → result ≡ links_of old link number }
+{
+    match change_of(&edit.changes, number, link) {
+        Some(change) => change.old,
+        None => number_now(links, number, link),
+    }
+}
+
+/// The change of a link of the dart of a number, if there is one.
+fn change_of(changes: &[Change], number: u32, link: usize) -> Option<Change>
+    ensures some { IfSome result (λ c. Contains changes.now c × (c.dart ≡ number) × (c.link ≡ link)) }
+    ensures none { IsNone result → (c : LinkChange) → Contains changes.now c → c.dart ≡ number → c.link ≡ link → ⊥ }
+{
+    for change in changes {
+        if change.dart.number() == number && change.link == link {
+            return Some(*change);
+        }
+    }
+    None
+}
+
+/// The number of the dart at a link of the dart of a number; 0 for none, and for the number 0.
+fn number_now<K: Kind, const DIM: usize>(links: &Links<K, DIM>, number: u32, link: usize) -> u32
+    requires sound { IsSound K.kind DIM links.now.rows }
+    requires link { link ≤ DIM }
+    ensures { result ≡ links_of links.now.rows link number }
+{
+    match Dart::new(number) {
+        Some(dart) => links.number_at(dart, link),
+        None => 0,
     }
 }
 

@@ -5,4 +5,4 @@ use Rattle.valued_map.specs.Undoing.{IsNearChange}
 use Rattle.valued_map.proofs.restore.add_at_changes.Given as goal
 
 abbrev pub invariant-loop-change : goal.invariant-loop-change
-invariant-loop-change g l = AreAdded l.links.rows (λ x. (c : Change) × Contains (take l.change-index l.changes) c × IsNearChange g.K.Kind.kind l.links.rows c x) l.fn.darts.items l.darts.items
+invariant-loop-change g l = AreAdded l.links.rows (λ x. (c : Change) × Contains (take l.change-index l.changes) c × IsNearChange (Contains l.words) l.links.rows c x) l.fn.darts.items l.darts.items

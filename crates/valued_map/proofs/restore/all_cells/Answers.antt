@@ -1,9 +1,9 @@
-use Rattle.std.proofs.Common.{ℕ, ◌⊎◌, ◌+◌, ◌<◌, List, IsSome, Contains, refl, sym, subst, arith}
+use Rattle.std.proofs.Common.{ℕ, ◌+◌, ◌<◌, List, IsSome, refl, sym, subst, arith}
 use Rattle.map_defs.specs.Rows.{Rows, IsLive, links_of}
 use Rattle.store_defs.specs.Groups.{Group, rule_at}
 use Rattle.label_laws.specs.Stored.{stored_value}
 use Rattle.label_laws.specs.Restoring.{AreRestored}
-use Rattle.valued_map.specs.Undoing.{IsRevalued, value_before}
+use Rattle.valued_map.specs.Undoing.{IsStepped, value_before}
 use Rattle.valued_map.proofs.RestoredGroups.{restored-as, restored-append, rule-low}
 use Rattle.valued_map.proofs.restore.all_cells.Goals as goal
 
@@ -11,17 +11,16 @@ pub loop-dim-preserved : goal.loop-dim-preserved
 loop-dim-preserved g c =
     let rows : Rows = c.args.links.now.rows in
     let m : ℕ = c.loop-dim.dim in
-    let wanted : ℕ → ℕ → Type 0 = λ j d. Contains c.args.touched.now d ⊎ IsRevalued c.args.steps.now j d in
-    subst (λ (gs : List Group). AreRestored g.K.Kind.kind (links_of rows) (IsLive rows) (λ j. (j < m + 1) × IsSome (rule_at c.args.rules.now j)) (λ j d. Contains c.args.touched.now d ⊎ IsRevalued c.args.steps.now j d)
+    subst (λ (gs : List Group). AreRestored g.K.Kind.kind (links_of rows) (IsLive rows) (λ j. (j < m + 1) × IsSome (rule_at c.args.rules.now j)) (IsStepped g.K.Kind.kind g.row.DIM rows c.args.steps.now)
     (λ j d. value_before c.args.steps.now j d (stored_value c.args.pool.now c.args.labels.now j d)) gs) (sym c.in_ok-append.ensures.items)
-    (restored-append g.K.Kind.kind rows m (λ j. IsSome (rule_at c.args.rules.now j)) (λ j d. Contains c.args.touched.now d ⊎ IsRevalued c.args.steps.now j d)
+    (restored-append g.K.Kind.kind rows m (λ j. IsSome (rule_at c.args.rules.now j)) (IsStepped g.K.Kind.kind g.row.DIM rows c.args.steps.now)
     (λ j d. value_before c.args.steps.now j d (stored_value c.args.pool.now c.args.labels.now j d)) c.loop-dim.groups.items c.in_ok-cells.cells.items c.loop-dim.invariant c.in_ok-cells.ensures)
 
 pub returns : goal.returns
 returns g c =
     let rows : Rows = c.args.links.now.rows in
     restored-as g.K.Kind.kind rows (λ j. (j < c.loop-dim.dim) × IsSome (rule_at c.args.rules.now j)) (λ j. IsSome (rule_at c.args.rules.now j))
-    (λ j d. Contains c.args.touched.now d ⊎ IsRevalued c.args.steps.now j d) (λ j d. Contains c.args.touched.now d ⊎ IsRevalued c.args.steps.now j d)
+    (IsStepped g.K.Kind.kind g.row.DIM rows c.args.steps.now) (IsStepped g.K.Kind.kind g.row.DIM rows c.args.steps.now)
     (λ j d. value_before c.args.steps.now j d (stored_value c.args.pool.now c.args.labels.now j d)) (λ j d. value_before c.args.steps.now j d (stored_value c.args.pool.now c.args.labels.now j d))
     c.loop-dim.groups.items
     (λ j. (λ h. h.1, λ h. (let low = rule-low c.args.rules.now j h in omega (arith, c.requires.long, c.dimension-dim-end.ensures.dimension), h)))

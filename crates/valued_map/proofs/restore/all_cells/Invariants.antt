@@ -1,12 +1,12 @@
-use Rattle.std.proofs.Common.{◌<◌, ◌⊎◌, IsSome, Contains}
+use Rattle.std.proofs.Common.{◌<◌, IsSome}
 use Rattle.map_defs.specs.Rows.{IsLive, links_of}
 use Rattle.store_defs.specs.Groups.{rule_at}
 use Rattle.label_laws.specs.Stored.{stored_value}
 use Rattle.label_laws.specs.Restoring.{AreRestored}
-use Rattle.valued_map.specs.Undoing.{IsRevalued, value_before}
+use Rattle.valued_map.specs.Undoing.{IsStepped, value_before}
 use Rattle.valued_map.proofs.restore.all_cells.Given as goal
 
 abbrev pub invariant-loop-dim : goal.invariant-loop-dim
 invariant-loop-dim g l =
     AreRestored g.K.Kind.kind (links_of l.links.rows) (IsLive l.links.rows) (λ i. (i < l.dim) × IsSome (rule_at l.rules i))
-    (λ i d. Contains l.touched d ⊎ IsRevalued l.steps i d) (λ i d. value_before l.steps i d (stored_value l.pool l.labels i d)) l.groups.items
+    (IsStepped g.K.Kind.kind g.row.DIM l.links.rows l.steps) (λ i d. value_before l.steps i d (stored_value l.pool l.labels i d)) l.groups.items

@@ -1,10 +1,10 @@
-use Rattle.std.proofs.Common.{◌≡◌, ◌⊎◌, ◌+◌, ◌<◌, List, length, Option, IsSome, Contains, inl, inr, refl, ap, lit<, arith, rules}
+use Rattle.std.proofs.Common.{◌≡◌, ◌+◌, ◌<◌, List, length, Option, IsSome, inl, inr, refl, ap, lit<, arith, rules}
 use Rattle.map_defs.specs.Rows.{Rows}
 use Rattle.map_defs.specs.Values.{Rule}
 use Rattle.store_defs.specs.Groups.{rule_at}
 use Rattle.label_laws.specs.Stored.{stored_value}
 use Rattle.label_laws.proofs.Same.{stored_value-alike}
-use Rattle.valued_map.specs.Undoing.{IsRevalued, IsStepped, value_before}
+use Rattle.valued_map.specs.Undoing.{IsStepped, value_before}
 use Rattle.valued_map.proofs.RestoredGroups.{restored-as}
 use Rattle.valued_map.proofs.restore.cells_before.Goals as goal
 
@@ -17,12 +17,11 @@ open_places-requires g c =
 pub returns-clause-cells : goal.returns-clause-cells
 returns-clause-cells g c =
     let rows : Rows = c.args.links.now.rows in
-    let cells = rw c.deref.ensures.value at c.in_ok-groups.ensures in
     restored-as g.K.Kind.kind rows (λ j. IsSome (rule_at c.args.rules.now j)) (λ j. IsSome (rule_at c.args.rules.now j))
-    (λ j d. Contains c.in_ok-touched.touched.items d ⊎ IsRevalued c.args.steps.now j d) (IsStepped g.K.Kind.kind rows c.args.steps.now)
+    (IsStepped g.K.Kind.kind g.row.DIM rows c.args.steps.now) (IsStepped g.K.Kind.kind g.row.DIM rows c.args.steps.now)
     (λ j d. value_before c.args.steps.now j d (stored_value c.args.pool.now c.open_places.new.labels j d)) (λ j d. value_before c.args.steps.now j d (stored_value c.args.pool.now c.args.labels.now j d))
     c.in_ok-groups.groups.items
     (λ j. (λ h. h, λ h. h))
-    (λ j d w live. elim w [ inl near ↦ inl (c.in_ok-touched.ensures.all d near live) | inr changed ↦ inr changed ])
+    (λ j d w live. w)
     (λ j d. ap (value_before c.args.steps.now j d) (stored_value-alike c.args.labels.now c.open_places.new.labels c.args.pool.now c.args.pool.now c.in_ok-open_places.ensures.ids refl j d))
-    cells
+    c.in_ok-groups.ensures

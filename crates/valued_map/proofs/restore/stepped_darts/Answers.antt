@@ -1,4 +1,5 @@
-use Rattle.std.proofs.Common.{ℕ, ◌⊎◌, ◌+◌, List, [], inl, inr, sym, ap, take, subst, take_all}
+use Rattle.std.proofs.Common.{ℕ, ◌⊎◌, ◌+◌, List, [], inl, inr, sym, ap, take, subst, take_all, Contains}
+use Rattle.map_defs.specs.LinkWords.{LinkWord}
 use Rattle.map_defs.specs.Rows.{Rows}
 use Rattle.map_defs.specs.Edits.{Edit}
 use Rattle.machine_defs.specs.Difference.{Difference}
@@ -10,25 +11,25 @@ use Rattle.valued_map.proofs.restore.stepped_darts.Goals as goal
 
 pub loop-step-init : goal.loop-step-init
 loop-step-init g c =
-    subst (λ (xs : List ℕ). AreAdded c.args.links.now.rows (IsNearStep g.K.Kind.kind c.args.links.now.rows (take 0 c.args.steps.now)) [] xs) (sym c.new-darts.ensures.items)
-    (added-none c.args.links.now.rows (IsNearStep g.K.Kind.kind c.args.links.now.rows (take 0 c.args.steps.now)) []
+    subst (λ (xs : List ℕ). AreAdded c.args.links.now.rows (IsNearStep (Contains c.args.words.now) c.args.links.now.rows (take 0 c.args.steps.now)) [] xs) (sym c.new-darts.ensures.items)
+    (added-none c.args.links.now.rows (IsNearStep (Contains c.args.words.now) c.args.links.now.rows (take 0 c.args.steps.now)) []
     (λ x w h. among-none c.args.steps.now w.0 w.1))
 
 pub loop-step-preserved : goal.loop-step-preserved
 loop-step-preserved g c =
     let rows : Rows = c.args.links.now.rows in
-    let kind = g.K.Kind.kind in
+    let Words : LinkWord → Type 0 = Contains c.args.words.now in
     let xs : List Difference = c.args.steps.now in
     let k : ℕ = c.loop-step.step-index in
     let s : Difference = c.step-item.result in
     let edit = ap (λ (d : Difference). d.edit) c.step.view_is in
-    let added = subst (λ (e : Edit). AreAdded rows (IsNearEdit kind rows e) c.loop-step.darts.items c.add_near.new.darts.items) edit c.in_ok-add_near.ensures in
-    added-told rows (λ x. IsNearStep kind rows (take k xs) x ⊎ IsNearEdit kind rows s.edit x) (IsNearStep kind rows (take (k + 1) xs)) [] c.add_near.new.darts.items
+    let added = subst (λ (e : Edit). AreAdded rows (IsNearEdit Words rows e) c.loop-step.darts.items c.add_near.new.darts.items) edit c.in_ok-add_near.ensures in
+    added-told rows (λ x. IsNearStep Words rows (take k xs) x ⊎ IsNearEdit Words rows s.edit x) (IsNearStep Words rows (take (k + 1) xs)) [] c.add_near.new.darts.items
     (λ x w h. elim (among-more xs k s w.0 c.loop-step-test.true c.step-item.is w.1) [
       | inl before ↦ inl (w.0, before, w.2)
-      | inr e ↦ inr (subst (λ (b : Difference). IsNearEdit kind rows b.edit x) (sym e) w.2)
+      | inr e ↦ inr (subst (λ (b : Difference). IsNearEdit Words rows b.edit x) (sym e) w.2)
     ])
-    (added-then rows (IsNearStep kind rows (take k xs)) (IsNearEdit kind rows s.edit) [] c.loop-step.darts.items
+    (added-then rows (IsNearStep Words rows (take k xs)) (IsNearEdit Words rows s.edit) [] c.loop-step.darts.items
     c.add_near.new.darts.items c.loop-step.invariant added)
 
 pub returns-clause-live : goal.returns-clause-live
@@ -39,6 +40,6 @@ returns-clause-live g c = λ x h. elim (c.loop-step.invariant.live x h) [
 
 pub returns-clause-all : goal.returns-clause-all
 returns-clause-all g c =
-    let kept = subst (λ (xs : List Difference). AreAdded c.args.links.now.rows (IsNearStep g.K.Kind.kind c.args.links.now.rows xs) [] c.loop-step.darts.items)
+    let kept = subst (λ (xs : List Difference). AreAdded c.args.links.now.rows (IsNearStep (Contains c.args.words.now) c.args.links.now.rows xs) [] c.loop-step.darts.items)
     (take_all c.loop-step.step-index c.args.steps.now c.loop-step-test.false) c.loop-step.invariant in
     kept.all

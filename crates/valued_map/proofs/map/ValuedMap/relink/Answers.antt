@@ -51,8 +51,10 @@ relabel-requires g c =
     let laws = rw (← c.self.view_is) at c.requires.laws in
     let here : IsLed k n e rows c.apply.new.self.rows =
     subst (λ (r : Rows). IsLed k n e rows r) (sym is) (led k n rows e c.self.inside.labels c.self.inside.pool rules c.self.invariant fits few laws) in
-    let touched : AreAllTouched k rows (after_edit n e rows) rules c.in-Ok.groups.items =
-    subst (λ (r : Rows). AreAllTouched k rows r rules c.in-Ok.groups.items) is (c.in-Ok.ensures.cells rows here c.self.invariant.laws) in
+    let stored = stored-grown k n rows c.self.inside.labels c.grow.new.self c.self.inside.pool c.self.inside.pool rules c.self.invariant c.grow.ensures.ids c.grow.ensures.places
+    (omega (arith, grown)) refl in
+    let touched : AreAllTouched k rows (after_edit n e rows) rules c.grow.new.self c.in-Ok.groups.items =
+    subst (λ (r : Rows). AreAllTouched k rows r rules c.grow.new.self c.in-Ok.groups.items) is (c.in-Ok.ensures.cells rows here stored) in
     let deaths : c.deref.result.now ≡ e.deaths = c.deref.ensures.value ∙ ap (λ (x : Edit). x.deaths) c.edit.view_is in
     rw (deaths, c.deref-in-Ok.ensures.value) (
       lit< tt,
@@ -84,8 +86,10 @@ invariant_of-self-in-Ok g c =
     let laws = rw (← c.self.view_is) at c.requires.laws in
     let here : IsLed k n e rows c.apply.new.self.rows =
     subst (λ (r : Rows). IsLed k n e rows r) (sym is) (led k n rows e c.self.inside.labels c.self.inside.pool rules c.self.invariant fits few laws) in
-    let touched : AreAllTouched k rows (after_edit n e rows) rules c.in-Ok.groups.items =
-    subst (λ (r : Rows). AreAllTouched k rows r rules c.in-Ok.groups.items) is (c.in-Ok.ensures.cells rows here c.self.invariant.laws) in
+    let stored = stored-grown k n rows c.self.inside.labels c.grow.new.self c.self.inside.pool c.self.inside.pool rules c.self.invariant c.grow.ensures.ids c.grow.ensures.places
+    (omega (arith, grown)) refl in
+    let touched : AreAllTouched k rows (after_edit n e rows) rules c.grow.new.self c.in-Ok.groups.items =
+    subst (λ (r : Rows). AreAllTouched k rows r rules c.grow.new.self c.in-Ok.groups.items) is (c.in-Ok.ensures.cells rows here stored) in
     let deaths : c.deref.result.now ≡ e.deaths = c.deref.ensures.value ∙ ap (λ (x : Edit). x.deaths) c.edit.view_is in
     let relabelled = rw (deaths, c.deref-in-Ok.ensures.value) at c.relabel.ensures in
     subst (λ (r : Rows). IsStoredMap k n r c.relabel.new.labels c.relabel.new.pool rules) (sym is)
@@ -127,8 +131,10 @@ returns-in-Ok-clause-carried g c =
     let laws = rw (← c.self.view_is) at c.requires.laws in
     let here : IsLed k n e rows c.apply.new.self.rows =
     subst (λ (r : Rows). IsLed k n e rows r) (sym is) (led k n rows e c.self.inside.labels c.self.inside.pool rules c.self.invariant fits few laws) in
-    let touched : AreAllTouched k rows (after_edit n e rows) rules c.in-Ok.groups.items =
-    subst (λ (r : Rows). AreAllTouched k rows r rules c.in-Ok.groups.items) is (c.in-Ok.ensures.cells rows here c.self.invariant.laws) in
+    let stored = stored-grown k n rows c.self.inside.labels c.grow.new.self c.self.inside.pool c.self.inside.pool rules c.self.invariant c.grow.ensures.ids c.grow.ensures.places
+    (omega (arith, grown)) refl in
+    let touched : AreAllTouched k rows (after_edit n e rows) rules c.grow.new.self c.in-Ok.groups.items =
+    subst (λ (r : Rows). AreAllTouched k rows r rules c.grow.new.self c.in-Ok.groups.items) is (c.in-Ok.ensures.cells rows here stored) in
     let deaths : c.deref.result.now ≡ e.deaths = c.deref.ensures.value ∙ ap (λ (x : Edit). x.deaths) c.edit.view_is in
     let relabelled = rw (deaths, c.deref-in-Ok.ensures.value) at c.relabel.ensures in
     let hook = g.H.Rule.meaning c.args.hook.now in
@@ -157,8 +163,10 @@ returns-in-Ok-clause-step g c =
     let laws = rw (← c.self.view_is) at c.requires.laws in
     let here : IsLed k n e rows c.apply.new.self.rows =
     subst (λ (r : Rows). IsLed k n e rows r) (sym is) (led k n rows e c.self.inside.labels c.self.inside.pool rules c.self.invariant fits few laws) in
-    let touched : AreAllTouched k rows (after_edit n e rows) rules c.in-Ok.groups.items =
-    subst (λ (r : Rows). AreAllTouched k rows r rules c.in-Ok.groups.items) is (c.in-Ok.ensures.cells rows here c.self.invariant.laws) in
+    let stored = stored-grown k n rows c.self.inside.labels c.grow.new.self c.self.inside.pool c.self.inside.pool rules c.self.invariant c.grow.ensures.ids c.grow.ensures.places
+    (omega (arith, grown)) refl in
+    let touched : AreAllTouched k rows (after_edit n e rows) rules c.grow.new.self c.in-Ok.groups.items =
+    subst (λ (r : Rows). AreAllTouched k rows r rules c.grow.new.self c.in-Ok.groups.items) is (c.in-Ok.ensures.cells rows here stored) in
     let deaths : c.deref.result.now ≡ e.deaths = c.deref.ensures.value ∙ ap (λ (x : Edit). x.deaths) c.edit.view_is in
     let relabelled = rw (deaths, c.deref-in-Ok.ensures.value) at c.relabel.ensures in
     let begun = rw (c.made-made.ensures.made) at c.in_ok-draft.ensures in

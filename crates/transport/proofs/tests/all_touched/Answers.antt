@@ -1,0 +1,20 @@
+use Rattle.std.proofs.Common.{ℕ, zero, suc, ◌≡◌, ◌∙◌, ◌<◌, ◌++◌, List, [], ◌∷◌, Contains, map, sym, ap, subst, arith}
+use Rattle.store_defs.specs.Groups.{darts_in}
+use Rattle.transport.proofs.tests.all_touched.Goals as goal
+
+one-of-three : (a b e : List ℕ) (i d : ℕ) → i < 3 → Contains a d → Contains b d → Contains e d → Contains (darts_in (a ∷ b ∷ e ∷ []) i) d
+one-of-three a b e zero d low x y z = x
+one-of-three a b e (suc zero) d low x y z = y
+one-of-three a b e (suc (suc zero)) d low x y z = z
+one-of-three a b e (suc (suc (suc i))) d low x y z = absurd (omega arith)
+
+pub returns-clause-all : goal.returns-clause-all
+returns-clause-all c = λ i d low live.
+    let one = c.in_ok-live_darts.field-0 in
+    let two = c.in_ok-live_darts-2.field-0 in
+    let three = c.in_ok-live_darts-3.field-0 in
+    let first = c.in_ok-push.ensures.items ∙ ap (λ xs. xs ++ one ∷ []) c.new-by_dim.ensures.items in
+    let second = c.in_ok-push-2.ensures.items ∙ ap (λ xs. xs ++ two ∷ []) first in
+    let all = c.in_ok-push-3.ensures.items ∙ ap (λ xs. xs ++ three ∷ []) second in
+    subst (λ xs. Contains (darts_in (map (λ darts. darts.items) xs) i) d) (sym all)
+    (one-of-three one.items two.items three.items i d low ((c.in_ok-live_darts.ensures d).1 live) ((c.in_ok-live_darts-2.ensures d).1 live) ((c.in_ok-live_darts-3.ensures d).1 live))

@@ -1,0 +1,205 @@
+-- Which darts an edit touches in a dimension, by its changes.
+use Rattle.std.proofs.Common.{ℕ, zero, suc, ◌≡◌, ◌≢◌, ◌⊎◌, ◌+◌, ◌<◌, ◌≤◌, inl, inr, refl, sym, ap, subst, ◌∙◌, List, [], ◌∷◌, ◌++◌, length, length-append, get_or, take, Option, Some, None, Contains, IsSome, arith}
+use Rattle.std.specs.Prelude.{IfSome}
+use Rattle.std.proofs.lemmas.Bool.{cases_eq, cases_lt}
+use Rattle.std.proofs.lemmas.List.{get_or_default, get_or_past, get_or_append_left, get_or-append-add}
+use Rattle.map_defs.specs.Kind.{Kind, alpha, beta, inverse}
+use Rattle.map_defs.specs.Links.{Links, HasDimension}
+use Rattle.map_defs.specs.LinkWords.{LinkWord, through, through_second, IsCellWord, IsWithin}
+use Rattle.map_defs.specs.Laws.{Laws}
+use Rattle.map_defs.specs.Rows.{Rows, IsLive, IsSound, links_of, made}
+use Rattle.map_defs.specs.Edits.{Change, Edit, IsLed}
+use Rattle.edit_laws.proofs.RowWrites.{live-within}
+use Rattle.edit_laws.proofs.EditLinks.{links-at}
+use Rattle.link_laws.proofs.RowFacts.{rows_dimension, rows_lead_to_live}
+use Rattle.map_defs.specs.Values.{Rule}
+use Rattle.store_defs.specs.Groups.{darts_in, rule_at}
+use Rattle.label_laws.specs.Touching.{IsReroutedDart}
+use Rattle.valued_map.specs.Changing.{IsReroutedAt}
+use Rattle.valued_map.proofs.Heads.{among-more}
+use Rattle.valued_map.proofs.Adding.{no_change, change_at, find-link, same-else, long}
+
+pub inverse-within : (k : Kind) (n i : ℕ) → 2 ≤ n → i ≤ n → inverse k i ≤ n
+inverse-within alpha n i low within = within
+inverse-within beta n zero low within = omega arith
+inverse-within beta n (suc zero) low within = omega arith
+inverse-within beta n (suc (suc i)) low within = within
+
+-- no change is one of this link of the dart
+abbrev pub IsUnchanged : List Change → ℕ → ℕ → Type 0
+IsUnchanged cs d i = (c : Change) → Contains cs c → c.dart ≡ d → c.link ≡ i → ⊥
+
+module _ (k : Kind) (n : ℕ) (e : Edit) (old new : Rows) (led : IsLed k n e old new) where
+  -- the old entry of a change is the link before the edit
+  pub stood : (c : Change) (d i : ℕ) → Contains e.changes c → c.dart ≡ d → c.link ≡ i → c.old ≡ links_of old i d
+  stood c d i here dart link =
+      let at : links_of old c.link c.dart ≡ c.old = subst (λ (b : Change). links_of old b.link b.dart ≡ b.old) here.2 (led.fits.stands here.0 c here.1) in
+      sym at ∙ ap (λ (j : ℕ). links_of old j c.dart) link ∙ ap (links_of old i) dart
+
+  -- a link that no change names is as it was
+  pub unchanged : (d i : ℕ) → IsUnchanged e.changes d i → links_of new i d ≡ links_of old i d
+  unchanged d i none = same-else k n e old new led i d (λ j z h dart link. none (get_or e.changes j z) (j, h, get_or_default e.changes j (get_or e.changes j z) z h) (sym dart) (sym link))
+
+-- the change is of a dart that lived before and lives on, and reroutes x along a word of the i-cells
+abbrev pub IsReroutedOf : Kind → ℕ → Edit → Rows → ℕ → Change → ℕ → Type 0
+IsReroutedOf k n e rows i c x = (c.dart + e.births ≤ made rows) × IsLive rows c.dart × ((w : LinkWord) × (IsCellWord k i w × IsWithin n w) × IsReroutedAt k n e rows w c x)
+
+-- one of the first `below` changes does
+abbrev pub AreReroutedBelow : Kind → ℕ → Edit → Rows → ℕ → ℕ → ℕ → Type 0
+AreReroutedBelow k n e rows i below x = (j : ℕ) × (j < below) × IsReroutedOf k n e rows i (change_at e.changes j) x
+
+pub rerouted-more : (k : Kind) (n : ℕ) (e : Edit) (rows : Rows) (i j x : ℕ) → AreReroutedBelow k n e rows i (j + 1) x
+    → AreReroutedBelow k n e rows i j x ⊎ IsReroutedOf k n e rows i (change_at e.changes j) x
+rerouted-more k n e rows i j x (h, lt, rest) = elim (cases_eq h j) [
+  | inl same ↦ inr (subst (λ (m : ℕ). IsReroutedOf k n e rows i (change_at e.changes m) x) same rest)
+  | inr other ↦ inl (h, omega arith, rest)
+]
+
+-- the changes that a walk has come to, and one more
+pub unchanged-more : (cs : List Change) (k d i : ℕ) (c : Change) → k < length cs → c ≡ get_or cs k c → (c.dart ≡ d → c.link ≡ i → ⊥) → IsUnchanged (take k cs) d i → IsUnchanged (take (k + 1) cs) d i
+unchanged-more cs k d i c lt is other none b here dart link = elim (among-more cs k c b lt is here) [
+  | inl before ↦ none b before dart link
+  | inr same ↦ other (ap (λ (x : Change). x.dart) same ∙ dart) (ap (λ (x : Change). x.link) same ∙ link)
+]
+
+-- a word with a link above the dimension leads nowhere
+pub word-within : (n : ℕ) (L N : Links) → HasDimension n L → HasDimension n N → ((t : ℕ) → L t 0 ≡ 0) → ((t : ℕ) → N t 0 ≡ 0) → (v : LinkWord) (x : ℕ)
+    → (through N v x ≢ through L v x) → IsWithin n v
+word-within n L N free-old free-new nil-old nil-new v x apart = (first, second v.second refl)
+  where
+    nowhere : (s : Option ℕ) → through_second L s 0 ≡ through_second N s 0
+    nowhere None = refl
+    nowhere (Some s) = nil-old s ∙ sym (nil-new s)
+
+    first : v.first ≤ n
+    first = elim (cases_lt n v.first) [
+      | inl above ↦ absurd (apart (ap (through_second N v.second) (free-new v.first x above) ∙ sym (nowhere v.second) ∙ sym (ap (through_second L v.second) (free-old v.first x above))))
+      | inr low ↦ omega arith
+    ]
+
+    second : (s : Option ℕ) → v.second ≡ s → IfSome s (λ t. t ≤ n)
+    second None is = tt
+    second (Some t) is = elim (cases_lt n t) [
+      | inl above ↦ absurd (apart (ap (λ (s : Option ℕ). through_second N s (N v.first x)) is ∙ free-new t (N v.first x) above ∙ sym (free-old t (L v.first x) above) ∙ sym (ap (λ (s : Option ℕ). through_second L s (L v.first x)) is)))
+      | inr low ↦ omega arith
+    ]
+
+-- The darts that are rerouted are so by a change.
+module _ (k : Kind) (n : ℕ) (e : Edit) (old new : Rows) (led : IsLed k n e old new) (sound : IsSound k n new) (w : Laws k (links_of old)) (wn : Laws k (links_of new)) (i : ℕ) where
+  abbrev L : Links
+  L = links_of old
+
+  abbrev N : Links
+  N = links_of new
+
+  abbrev Goal : ℕ → Type 0
+  Goal x = AreReroutedBelow k n e new i (length e.changes) x
+
+  -- a change tells the link before and after
+  old-at : (j : ℕ) → j < length e.changes → L (change_at e.changes j).link (change_at e.changes j).dart ≡ (change_at e.changes j).old
+  old-at j lt = led.fits.stands j no_change lt
+
+  new-at : (j : ℕ) → j < length e.changes → N (change_at e.changes j).link (change_at e.changes j).dart ≡ (change_at e.changes j).new
+  new-at j lt = ap (λ (r : Rows). links_of r (change_at e.changes j).link (change_at e.changes j).dart) (sym led.after) ∙ links-at k n old e led.sound led.fits j no_change lt
+
+  stays : (x : ℕ) → IsLive old x → x + e.births ≤ made new
+  stays x live = let within : x < length old = live-within old x live in let more : length new ≡ length old + e.births = long k n e old new led in omega (arith, more)
+
+  module _ (x : ℕ) (before : IsLive old x) (after : IsLive new x) (v : LinkWord) (cell : IsCellWord k i v) (apart : through N v x ≢ through L v x) where
+    -- the first link of the word changed
+    by-first : (j : ℕ) → j < length e.changes → (change_at e.changes j).dart ≡ x → (change_at e.changes j).link ≡ v.first → Goal x
+    by-first j lt dart link = (j, lt, (subst (λ d. d + e.births ≤ made new) (sym dart) (stays x before), subst (IsLive new) (sym dart) after, (v, (cell, word-within n L N (rows_dimension n old led.sound.wide) (rows_dimension n new sound.wide) w.nil wn.nil v x apart), inl (old, led, (sym link, sym dart, other)))))
+      where
+        was : L v.first x ≡ (change_at e.changes j).old
+        was = ap (L v.first) (sym dart) ∙ ap (λ t. L t (change_at e.changes j).dart) (sym link) ∙ old-at j lt
+
+        is : N v.first x ≡ (change_at e.changes j).new
+        is = ap (N v.first) (sym dart) ∙ ap (λ t. N t (change_at e.changes j).dart) (sym link) ∙ new-at j lt
+
+        other : through_second L v.second (change_at e.changes j).old ≢ through_second N v.second (change_at e.changes j).new
+        other same = apart (ap (through_second N v.second) is ∙ sym same ∙ sym (ap (through_second L v.second) was))
+
+    -- it did not, so the second did
+    by-second : N v.first x ≡ L v.first x → (s : Option ℕ) → v.second ≡ s → Goal x
+    by-second same None none = absurd (apart (ap (λ (t : Option ℕ). through_second N t (N v.first x)) none ∙ same ∙ sym (ap (λ (t : Option ℕ). through_second L t (L v.first x)) none)))
+    by-second same (Some s) some = go (find-link e.changes (N v.first x) s)
+      where
+        beyond : N s (N v.first x) ≢ L s (N v.first x)
+        beyond e2 = apart (ap (λ (t : Option ℕ). through_second N t (N v.first x)) some ∙ e2 ∙ ap (L s) same ∙ sym (ap (λ (t : Option ℕ). through_second L t (L v.first x)) some))
+
+        there : N v.first x ≢ 0
+        there z = beyond (ap (N s) z ∙ wn.nil s ∙ sym (ap (L s) z ∙ w.nil s))
+
+        live-there : IsLive new (N v.first x)
+        live-there = rows_lead_to_live k new wn v.first x there
+
+        lived-there : IsLive old (N v.first x)
+        lived-there = subst (IsLive old) (sym same) (rows_lead_to_live k old w v.first x (λ z. there (same ∙ z)))
+
+        go : ((j : ℕ) × (j < length e.changes) × ((change_at e.changes j).dart ≡ N v.first x) × ((change_at e.changes j).link ≡ s)) ⊎ ((j : ℕ) (z : Change) → j < length e.changes → N v.first x ≡ (get_or e.changes j z).dart → s ≡ (get_or e.changes j z).link → ⊥) → Goal x
+        go (inr none) = absurd (beyond (same-else k n e old new led s (N v.first x) none))
+        go (inl (j, lt, dart, link)) = (
+          j,
+          lt,
+          (
+            subst (λ d. d + e.births ≤ made new) (sym dart) (stays (N v.first x) lived-there),
+            subst (IsLive new) (sym dart) live-there,
+            (v, (cell, word-within n L N (rows_dimension n old led.sound.wide) (rows_dimension n new sound.wide) w.nil wn.nil v x apart), inr (old, led, (some ∙ ap Some (sym link), sym dart, sym same ∙ sym dart))),
+          ),
+        )
+
+    rerouted-by : Goal x
+    rerouted-by = go (find-link e.changes x v.first)
+      where
+        go : ((j : ℕ) × (j < length e.changes) × ((change_at e.changes j).dart ≡ x) × ((change_at e.changes j).link ≡ v.first)) ⊎ ((j : ℕ) (z : Change) → j < length e.changes → x ≡ (get_or e.changes j z).dart → v.first ≡ (get_or e.changes j z).link → ⊥) → Goal x
+        go (inl (j, lt, dart, link)) = by-first j lt dart link
+        go (inr none) = by-second (same-else k n e old new led v.first x none) v.second refl
+
+  pub touched-are-rerouted : (x : ℕ) → IsReroutedDart k i old new x → Goal x
+  touched-are-rerouted x (before, after, (v, cell, apart)) = rerouted-by x before after v cell apart
+
+-- the darts touched in each of the first dimensions, by the lists of these
+pub record AreTouchedBelow (k : Kind) (n : ℕ) (e : Edit) (rows : Rows) (rules : List (Option Rule)) (dim : ℕ) (lists : List (List ℕ)) : Type 0 where
+  pub size : length lists ≡ dim
+  pub live : (i x : ℕ) → Contains (darts_in lists i) x → IsLive rows x
+  pub all : (old : Rows) → IsLed k n e old rows → Laws k (links_of old) → Laws k (links_of rows) → (i x : ℕ) → i < dim → IsSome (rule_at rules i)
+      → IsReroutedDart k i old rows x → Contains (darts_in lists i) x
+
+module _ (k : Kind) (n : ℕ) (e : Edit) (rows : Rows) (rules : List (Option Rule)) where
+  pub touched-none : AreTouchedBelow k n e rows rules 0 []
+  touched-none = record { size = refl; live = λ i x here. (let lt : here.0 < 0 = here.1 in absurd (omega arith)); all = λ old led w wn i x lt. absurd (omega arith) }
+
+  pub touched-more : (dim : ℕ) (lists : List (List ℕ)) (darts : List ℕ) → AreTouchedBelow k n e rows rules dim lists → ((x : ℕ) → Contains darts x → IsLive rows x)
+      → (IsSome (rule_at rules dim) → (old : Rows) → IsLed k n e old rows → Laws k (links_of old) → Laws k (links_of rows) → (x : ℕ)
+      → IsReroutedDart k dim old rows x → Contains darts x)
+      → AreTouchedBelow k n e rows rules (dim + 1) (lists ++ darts ∷ [])
+  touched-more dim lists darts a live all = record {
+    size = length-append lists (darts ∷ []) ∙ ap (λ (m : ℕ). m + 1) a.size;
+    live = λ i x here. (elim (three i dim) [
+      | inl low ↦ a.live i x (subst (λ ds. Contains ds x) (early i low) here)
+      | inr rest ↦ elim rest [ inl same ↦ live x (subst (λ ds. Contains ds x) (last i same) here) | inr high ↦ absurd (none i x high here) ]
+    ]);
+    all = λ old led w wn i x lt ruled t. (elim (three i dim) [
+      | inl low ↦ subst (λ ds. Contains ds x) (sym (early i low)) (a.all old led w wn i x low ruled t)
+      | inr rest ↦ elim rest [
+        | inl same ↦ subst (λ ds. Contains ds x) (sym (last i same)) (all (subst (λ j. IsSome (rule_at rules j)) same ruled) old led w wn x
+            (subst (λ j. IsReroutedDart k j old rows x) same t))
+        | inr high ↦ absurd (omega arith)
+      ]
+    ]);
+  }
+    where
+      three : (i d : ℕ) → (i < d) ⊎ ((i ≡ d) ⊎ (d < i))
+      three i d = grind arith
+
+      early : (i : ℕ) → i < dim → darts_in (lists ++ darts ∷ []) i ≡ darts_in lists i
+      early i low = get_or_append_left lists (darts ∷ []) [] i (omega (arith, a.size))
+
+      last : (i : ℕ) → i ≡ dim → darts_in (lists ++ darts ∷ []) i ≡ darts
+      last i same = ap (darts_in (lists ++ darts ∷ [])) (omega (arith, a.size, same)) ∙ get_or-append-add lists (darts ∷ []) 0 []
+
+      none : (i x : ℕ) → dim < i → Contains (darts_in (lists ++ darts ∷ []) i) x → ⊥
+      none i x high here =
+          let past : darts_in (lists ++ darts ∷ []) i ≡ [] = get_or_past (lists ++ darts ∷ []) i [] (let s = length-append lists (darts ∷ []) in omega (arith, a.size)) in
+          let nothing : Contains [] x = subst (λ ds. Contains ds x) past here in
+          let lt : nothing.0 < 0 = nothing.1 in omega arith
