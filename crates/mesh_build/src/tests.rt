@@ -7,7 +7,7 @@ use crate::build::sew_few;
 use crate::edit::edit_of;
 use crate::{MeshFault, mesh_map, mesh_rows};
 use link_rows::Edit;
-use map_kind::{Alpha, Dart, Value};
+use map_kind::{Alpha, Beta, Dart, Value};
 use off_text::{Mesh, read_off};
 use std::alloc::Global;
 use std::test::Fail;
@@ -118,6 +118,21 @@ fn links_of_a_cube(rt: HostRuntime) -> Result<(), Fail> {
     assert_eq!(rt; built.links.made(), 48);
     assert_eq!(rt; built.links.link(first, 0), Dart::new(2));
     assert_eq!(rt; built.links.link(first, 2), Dart::new(42));
+    assert_eq!(rt; (built.places.len(), built.cells.len()), (8, 8));
+    Ok(())
+}
+
+#[test]
+fn links_of_a_cube_in_a_combinatorial_map(rt: HostRuntime) -> Result<(), Fail> {
+    let mesh = mesh_of(rt.alloc(), CUBE)?;
+    let built = mesh_map::<Beta, 2>(rt.alloc(), &mesh)
+        .ok()
+        .ok_or("not built")?;
+    let first = Dart::new(1).unwrap();
+    assert_eq!(rt; built.links.made(), 24);
+    assert_eq!(rt; built.links.link(first, 0), Dart::new(4));
+    assert_eq!(rt; built.links.link(first, 1), Dart::new(2));
+    assert_eq!(rt; built.links.link(first, 2), Dart::new(21));
     assert_eq!(rt; (built.places.len(), built.cells.len()), (8, 8));
     Ok(())
 }

@@ -8,7 +8,7 @@ use crate::{Group, RuleRow, TouchedDarts, carry};
 use attr_pool::{AttrId, Labels, Pool};
 use attr_rules::{FirstCopy, Merge, Split, TableRule};
 use link_rows::{Links, polygon_edit};
-use map_kind::{Alpha, Dart, Value};
+use map_kind::{Alpha, Beta, Dart, Kind, Value};
 use std::alloc::{AllocError, Global};
 use std::test::Fail;
 
@@ -17,7 +17,7 @@ fn value(a: i64, b: i64, c: i64) -> Value {
 }
 
 /// All live darts, ascending.
-fn live_darts(alloc: Global, links: &Links<Alpha, 2>) -> Result<Vec<Dart>, AllocError>
+fn live_darts<K: Kind>(alloc: Global, links: &Links<K, 2>) -> Result<Vec<Dart>, AllocError>
     ensures { IfOk result (λ darts. (d : ℕ) → Contains darts.items d ↔ IsLive links.now.rows d) }
 {
     let mut darts = Vec::new(alloc);
@@ -27,7 +27,11 @@ fn live_darts(alloc: Global, links: &Links<Alpha, 2>) -> Result<Vec<Dart>, Alloc
     Ok(darts)
 }
 
-fn add_live(links: &Links<Alpha, 2>, dart: Dart, darts: &mut Vec<Dart>) -> Result<(), AllocError>
+fn add_live<K: Kind>(
+    links: &Links<K, 2>,
+    dart: Dart,
+    darts: &mut Vec<Dart>,
+) -> Result<(), AllocError>
     ensures { OnOk result ((d : ℕ)
         → Contains darts.new.items d ↔ (Contains darts.old.items d ⊎ ((dart ≡ d) × IsLive links.now.rows d))) }
 {
@@ -93,7 +97,7 @@ fn rules(alloc: Global) -> Result<RuleRow, AllocError>
 }
 
 /// Carries the values of a triangle by these labels and rules.
-fn carried(alloc: Global, links: &Links<Alpha, 2>) -> Result<Vec<Group>, AllocError> {
+fn carried<K: Kind>(alloc: Global, links: &Links<K, 2>) -> Result<Vec<Group>, AllocError> {
     let mut pool = Pool::new(alloc);
     pool.reserve(3)?;
     let three = pool.make(value(7, -7, 0));
@@ -106,7 +110,7 @@ fn carried(alloc: Global, links: &Links<Alpha, 2>) -> Result<Vec<Group>, AllocEr
 }
 
 /// All live darts in each dimension.
-fn all_touched(alloc: Global, links: &Links<Alpha, 2>) -> Result<TouchedDarts, AllocError>
+fn all_touched<K: Kind>(alloc: Global, links: &Links<K, 2>) -> Result<TouchedDarts, AllocError>
     ensures long { IfOk result (λ touched. length touched ≡ 3) }
     ensures live { IfOk result (λ touched. (i d : ℕ) → Contains (darts_in touched i) d → IsLive links.now.rows d) }
     ensures all { IfOk result (λ touched. (i d : ℕ) → i < 3 → IsLive links.now.rows d → Contains (darts_in touched i) d) }
@@ -130,6 +134,14 @@ fn is_vertex(group: Option<&Group>, one: u32, other: u32, value: Value) -> bool 
     group.dim == 0 && numbers == (one, other) && group.value == Some(value)
 }
 
+/// Whether a group has this least dart and this value.
+fn has_value(group: Option<&Group>, least: u32, value: Option<Value>) -> bool {
+    match group {
+        Some(group) => group.least() == least && group.value == value,
+        None => false,
+    }
+}
+
 // The vertices of a triangle are 1 6, 2 3 and 4 5.
 #[test]
 fn splits_and_merges_the_values_of_vertices(rt: HostRuntime) -> Result<(), Fail> {
@@ -147,5 +159,23 @@ fn splits_and_merges_the_values_of_vertices(rt: HostRuntime) -> Result<(), Fail>
         .get(3)
         .map(|face| (face.dim, face.darts.len(), face.value));
     assert_eq!(&rt; face, Some((2, 6, None)));
+    Ok(())
+}
+
+// A triangle of a combinatorial map has the darts 1, 2 and 3, each a vertex by itself. Of the darts with one id only the first
+// lives, so no value is shared.
+#[test]
+fn carries_the_values_of_a_combinatorial_map(rt: HostRuntime) -> Result<(), Fail> {
+    let alloc = rt.alloc();
+    let mut links = Links::<Beta, 2>::new(alloc);
+    assert!(&rt; links.reserve(3).is_ok());
+    let triangle = polygon_edit(alloc, &links, 3)?;
+    links.apply(&triangle);
+    let groups = carried(alloc, &links)?;
+    assert_eq!(&rt; groups.len(), 4);
+    assert!(&rt; has_value(groups.first(), 1, Some(value(7, -7, 0))));
+    assert!(&rt; has_value(groups.get(1), 2, Some(value(1, 2, 3))));
+    assert!(&rt; has_value(groups.get(2), 3, Some(value(10, 20, 30))));
+    assert!(&rt; has_value(groups.get(3), 1, None));
     Ok(())
 }

@@ -18,18 +18,18 @@ held-made : (old new : Store) (id : ℕ) (value : Value) → IsPut old new id (S
 held-made old new id value put = subst (λ o. IsSome o) (sym put.here) refl
 
 pub labels_of-requires-clause-three : goal.labels_of-requires-clause-three
-labels_of-requires-clause-three c =
+labels_of-requires-clause-three g c =
     let one = held-made _ _ _ _ c.make-three.ensures.made in
     let two = held-on _ _ _ _ _ one c.make-two.ensures.fresh c.make-two.ensures.made in
     held-on _ _ _ _ _ two c.make-other.ensures.fresh c.make-other.ensures.made
 
 pub labels_of-requires-clause-two : goal.labels_of-requires-clause-two
-labels_of-requires-clause-two c =
+labels_of-requires-clause-two g c =
     let one = held-made _ _ _ _ c.make-two.ensures.made in
     held-on _ _ _ _ _ one c.make-other.ensures.fresh c.make-other.ensures.made
 
 pub carry-requires : goal.carry-requires
-carry-requires c = (
+carry-requires g c = (
   lit< tt,
   (
     lit< tt,

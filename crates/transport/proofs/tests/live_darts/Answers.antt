@@ -19,12 +19,12 @@ one_more Has New Live n x e grown so d = (λ h. to ((grown d).0 h), λ p. (grown
     from (inr f) l = inr (omega arith, l)
 
 pub loop-number-preserved : goal.loop-number-preserved
-loop-number-preserved c =
+loop-number-preserved g c =
     let same : c.unwrap.result ≡ c.loop-number.number = rw c.unwrap.ensures at c.new.ensures.same in
     one_more _ _ (IsLive c.args.links.now.rows) c.loop-number.number c.unwrap.result same c.in_ok-add_live.ensures c.loop-number.invariant
 
 pub returns : goal.returns
-returns c = λ d. (
+returns g c = λ d. (
   λ h. ((c.loop-number.invariant d).0 h).1,
   λ l. (c.loop-number.invariant d).1 (
     let w = some-within c.args.links.now.rows d l in

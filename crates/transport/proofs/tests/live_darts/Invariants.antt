@@ -3,4 +3,4 @@ use Rattle.map_defs.specs.Rows.{IsLive}
 use Rattle.transport.proofs.tests.live_darts.Given as goal
 
 abbrev pub invariant-loop-number : goal.invariant-loop-number
-invariant-loop-number l = (d : ℕ) → Contains l.darts.items d ↔ ((d < l.number) × IsLive l.links.rows d)
+invariant-loop-number g l = (d : ℕ) → Contains l.darts.items d ↔ ((d < l.number) × IsLive l.links.rows d)
