@@ -1,5 +1,6 @@
 -- What the walk of a pairing has found so far.
-use Rattle.std.specs.Prelude.{ℕ, ◌≡◌, ◌≢◌, ◌⊎◌, ◌↔◌, List, [], ◌∷◌, ◌++◌, length, take, Contains, Option, Some}
+use Rattle.std.specs.Prelude.{ℕ, ◌≡◌, ◌≢◌, ◌⊎◌, ◌↔◌, Bool, nat_eq, ◌&&◌, List, [], ◌∷◌, ◌++◌, length, take, drop, Contains, Option, Some}
+use Rattle.std.specs.List.{IsDistinct}
 use Rattle.map_defs.specs.Kind.{Kind, inverse}
 use Rattle.map_defs.specs.Links.{Links}
 use Rattle.map_defs.specs.Pairs.{InPairs}
@@ -8,6 +9,15 @@ use Rattle.sewing.specs.Triples.{Triple, Lists}
 -- a dart's partner at a link is told exactly where the list has the triple
 abbrev pub TellsTriples : (ℕ × ℕ → Option ℕ) → List Triple → Type 0
 TellsTriples partner triples = (x y t : ℕ) → (partner (x, t) ≡ Some y) ↔ Lists triples x y t
+
+-- whether a triple is that of dart x at link t
+abbrev pub is_of : ℕ → ℕ → Triple → Bool
+is_of x t triple = nat_eq triple.x x && nat_eq triple.t t
+
+-- No two triples are of one dart and link, and the partners are told of just the triples beyond the first 16.
+pub record IsKept (partner : ℕ × ℕ → Option ℕ) (triples : List Triple) : Type 0 where
+  pub apart : IsDistinct (λ p q. is_of p.x p.t q) triples
+  pub told : TellsTriples partner (drop 16 triples)
 
 -- the triple stands at the end of the list, unless the list had it
 abbrev pub IsTripleAdded : List Triple → List Triple → Triple → Type 0

@@ -1,8 +1,6 @@
-ghost use Rattle.std.specs.Prelude.{◌≡◌, ℕ, ◌<◌, ◌↔◌, [], length, slice_get, Some, map, IfOk, OnOk, IsErrOf};
-ghost use Rattle.std.specs.Ordering.{nat_cmp, ordering_then};
-ghost use Rattle.std.specs.BTreeMap as tree;
+ghost use Rattle.std.specs.Prelude.{◌≡◌, ℕ, ◌<◌, ◌↔◌, [], ◌∷◌, ◌++◌, length, take, position, slice_get, Some, OnOk, IsErrOf};
 ghost use Rattle.sewing.specs.Triples.{Lists, IsAscending};
-ghost use Rattle.sewing.specs.PairSteps.{IsTripleAdded, HasOther};
+ghost use Rattle.sewing.specs.PairSteps.{IsTripleAdded, HasOther, is_of};
 
 use crate::pairing::PairFault;
 use crate::triple::Triple;
@@ -11,13 +9,19 @@ use std::alloc::{AllocError, Global};
 use std::collections::BTreeMap;
 use std::marker::Model;
 
+/// How many triples are looked through before the map is asked.
+const FEW: usize = 16;
+
 /// The triples that a pairing has found, each once, in the order in which they were found. At a link each dart has one
 /// partner at most.
+///
+/// Most pairings find few triples, and these are quickly looked through. A map tells the partners only of the triples
+/// beyond the first few.
 #[derive(Drop)]
 pub(crate) struct Book {
     triples: Vec<Triple>,
-    // The partner of a dart at a link.
-    partners: BTreeMap<(Dart, usize), Dart>,
+    // The partner of a dart at a link, where the triple is not one of the first few.
+    more: BTreeMap<(Dart, usize), Dart>,
 }
 
 impl Model for Book {
@@ -25,14 +29,14 @@ impl Model for Book {
     ghost use Rattle.std.specs.Ordering.{nat_cmp, ordering_then};
     ghost use Rattle.std.specs.BTreeMap as tree;
     ghost use Rattle.sewing.specs.Triples.{Triple};
-    ghost use Rattle.sewing.specs.PairSteps.{TellsTriples};
+    ghost use Rattle.sewing.specs.PairSteps.{IsKept};
 
     ghost Value = { List Triple };
 
     ghost view = { λ book. book.triples.items };
 
-    ghost invariant = { λ book. TellsTriples
-        (tree.get (λ (p q : ℕ × ℕ). ordering_then (nat_cmp p.0 q.0) (nat_cmp p.1 q.1)) book.partners) book.triples.items };
+    ghost invariant = { λ book. IsKept
+        (tree.get (λ (p q : ℕ × ℕ). ordering_then (nat_cmp p.0 q.0) (nat_cmp p.1 q.1)) book.more) book.triples.items };
 }
 
 impl Book {
@@ -42,7 +46,7 @@ impl Book {
     {
         Book {
             triples: Vec::new(alloc),
-            partners: BTreeMap::new(alloc),
+            more: BTreeMap::new(alloc),
         }
     }
 
@@ -67,43 +71,61 @@ impl Book {
         ensures added { OnOk result (IsTripleAdded self.old self.new triple) }
         ensures unpaired { IsErrOf result PairFault.Unpaired → HasOther self.old triple.x triple.y triple.t }
     {
-        if let Some(partner) = self.partners.get(&(triple.x, triple.t)).copied() {
+        if let Some(partner) = self.partner(triple.x, triple.t) {
             if partner == triple.y {
                 return Ok(());
             }
             return Err(PairFault::Unpaired);
         }
+        self.put(triple)?;
+        Ok(())
+    }
+
+    /// The triples that were found, ascending by `x`, then by `t`. It takes no memory.
+    pub(crate) fn into_ascending(self) -> Vec<Triple>
+        ensures members { (x y t : ℕ) → Lists result.items x y t ↔ Lists self x y t }
+        ensures ascending { IsAscending result.items }
+        ensures one { (x y z t : ℕ) → Lists self x y t → Lists self x z t → y ≡ z }
+    {
+        let Book { mut triples, more } = self;
+        drop(more);
+        triples.sort_unstable_by_key(|triple| (triple.x, triple.t));
+        triples
+    }
+
+    /// Adds a triple whose dart `x` has no partner yet at link `t`. All memory is taken before the triple is added, so
+    /// that nothing is half done.
+    fn put(&mut self, triple: Triple) -> Result<(), AllocError>
+        requires { (y : ℕ) → Lists self.old triple.x y triple.t → ⊥ }
+        ensures { OnOk result (self.new ≡ self.old ++ triple ∷ []) }
+    {
         self.triples.reserve(1)?;
-        self.partners.insert((triple.x, triple.t), triple.y)?;
+        if self.triples.len() < FEW {
+            self.triples.push_reserved(triple);
+            return Ok(());
+        }
+        self.more.insert((triple.x, triple.t), triple.y)?;
         self.triples.push_reserved(triple);
         Ok(())
     }
 
-    /// The triples that were found, ascending by `x`, then by `t`.
-    pub(crate) fn into_ascending(self, alloc: Global) -> Result<Vec<Triple>, AllocError>
-        ensures members { IfOk result (λ triples. (x y t : ℕ) → Lists triples.items x y t ↔ Lists self x y t) }
-        ensures ascending { IfOk result (λ triples. IsAscending triples.items) }
-        ensures one { (x y z t : ℕ) → Lists self x y t → Lists self x z t → y ≡ z }
+    /// The partner of a dart at a link, if it has one.
+    fn partner(&self, x: Dart, t: usize) -> Option<Dart>
+        ensures { (y : ℕ) → (result ≡ Some y) ↔ Lists self.now x y t }
     {
-        ascending(alloc, &self.partners)
+        match self.place(x, t) {
+            Some(place) => Some(self.triples[place].y),
+            None => self.more.get(&(x, t)).copied(),
+        }
     }
-}
 
-/// The triples that a book's partners tell, in the order of the map.
-fn ascending(
-    alloc: Global,
-    partners: &BTreeMap<(Dart, usize), Dart>,
-) -> Result<Vec<Triple>, AllocError>
-    ensures triples { IfOk result (λ triples. triples.items
-        ≡ map (λ entry. record { x = entry.0.0; y = entry.1; t = entry.0.1 }) partners.now.entries) }
-    ensures ordered { tree.IsOrdered (λ p q. ordering_then (nat_cmp p.0 q.0) (nat_cmp p.1 q.1)) partners.now }
-{
-    partners
-        .iter()
-        .map(|((x, t), y)| Triple {
-            x: *x,
-            y: *y,
-            t: *t,
-        })
-        .collect(alloc)
+    /// The place of the triple of a dart at a link, if it is one of the first few.
+    fn place(&self, x: Dart, t: usize) -> Option<usize>
+        ensures { result ≡ position (is_of x t) (take 16 self.now) }
+    {
+        self.triples
+            .iter()
+            .take(FEW)
+            .position(|triple| triple.x == x && triple.t == t)
+    }
 }

@@ -69,7 +69,7 @@ pub fn pair<K: Kind, const DIM: usize>(
         visit(links, set, book.at(next), &mut book)?;
         next += 1;
     }
-    Ok(book.into_ascending(alloc)?)
+    Ok(book.into_ascending())
 }
 
 /// A book of these triples.

@@ -33,7 +33,7 @@ loop-next-preserved g c =
 
 pub returns-clause-members : goal.returns-clause-members
 returns-clause-members g c = λ x y t.
-    let same = c.in_ok-into_ascending.ensures.members x y t in
+    let same = c.into_ascending.ensures.members x y t in
     let pairs = walked-pairs g.K.Kind.kind (links_of c.args.links.now.rows) (Contains c.args.set.now) (Lists c.args.seeds.now) c.loop-next.next c.loop-next.book (omega (arith, c.len.ensures)) c.loop-next.invariant x y t in
     (λ has. pairs.0 (same.0 has), λ paired. same.1 (pairs.1 paired))
 
