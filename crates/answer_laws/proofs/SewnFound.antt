@@ -1,6 +1,6 @@
 -- Two darts that can be sewn are sewn, and each link is unsewn.
-use Rattle.std.proofs.Common.{◌≡◌, ℕ, zero, suc, ◌<◌, ◌≤◌, refl, sym, inl, inr, arith}
-use Rattle.map_defs.specs.Kind.{Kind, alpha, beta, inverse}
+use Rattle.std.proofs.Common.{◌≡◌, ℕ, ◌<◌, ◌≤◌, refl, sym, inl, inr, arith}
+use Rattle.map_defs.specs.Kind.{inverse}
 use Rattle.map_defs.specs.Rows.{IsLive, links_of}
 use Rattle.map_defs.specs.Pairs.{seed, turned, across}
 use Rattle.map_defs.specs.Sewing.{SewnPairs, IsSewn, IsFreed, IsUnsewn}
@@ -9,19 +9,13 @@ use Rattle.machine_defs.specs.State.{Content}
 use Rattle.machine_defs.specs.Kept.{IsLawfulContent}
 use Rattle.machine_defs.specs.Relinking.{IsRelinked, NoDart}
 use Rattle.machine_defs.specs.Machine.{ArePaired}
-use Rattle.link_laws.proofs.Basics.{stable}
+use Rattle.link_laws.proofs.Basics.{stable, inverse_within}
 use Rattle.link_laws.proofs.RowFacts.{linked_live, rows_dimension, rows_lead_to_live}
 use Rattle.machine_laws.proofs.Keeping.{laws-of}
 use Rattle.answer_laws.specs.Answering.{NotNot}
 use Rattle.answer_laws.proofs.Choosing.{either_way}
 use Rattle.answer_laws.proofs.RelinkedFound.{LivesAfter}
 use Rattle.answer_laws.proofs.LinksFound.{TellsLinks, links_found, content_found}
-
-pub inverse-low : (k : Kind) (n t : ℕ) → 2 ≤ n → t ≤ n → inverse k t ≤ n
-inverse-low alpha n t flat l = l
-inverse-low beta n zero flat l = omega arith
-inverse-low beta n (suc zero) flat l = omega arith
-inverse-low beta n (suc (suc t)) flat l = l
 
 module _ (c : Content) (kept : IsLawfulContent c) where
   -- links above the dimension, and those of a dart that does not live, are free
@@ -41,11 +35,11 @@ module _ (c : Content) (kept : IsLawfulContent c) where
 
     pair-darts : (x y t : ℕ) → P x y t → IsLive c.rows x × IsLive c.rows y × (t ≤ c.dim)
     pair-darts x y t (seed (a, b, u)) = rw (a, b, u) (live, live', within)
-    pair-darts x y t (turned {x = u} {y = v} {t = r} p) = let h = pair-darts u v r p in (h.1, h.0, inverse-low c.kind c.dim r kept.flat h.2)
+    pair-darts x y t (turned {x = u} {y = v} {t = r} p) = let h = pair-darts u v r p in (h.1, h.0, inverse_within c.kind c.dim r kept.flat h.2)
     pair-darts x y t (across {x = u} {y = v} {t = r} j f p some some') =
         let h = pair-darts u v r p in
         let leads = rows_lead_to_live c.kind c.rows (laws-of c kept) in
-        (leads j u some, leads (inverse c.kind j) v some', inverse-low c.kind c.dim r kept.flat h.2)
+        (leads j u some, leads (inverse c.kind j) v some', inverse_within c.kind c.dim r kept.flat h.2)
 
     Sewn : ℕ → ℕ → ℕ → Type 0
     Sewn t x y = ((z : ℕ) → P x z t → y ≡ z) × (((z : ℕ) → P x z t → ⊥) → y ≡ links_of c.rows t x)

@@ -11,7 +11,7 @@ use Rattle.map_defs.specs.Laws.{Laws}
 use Rattle.map_defs.specs.Rows.{Rows, links_of, IsLive, IsSound}
 use Rattle.map_defs.specs.Edits.{Change, Edit, with_births, with_changes, after_edit, Fits}
 use Rattle.map_defs.specs.Walks.{stop}
-use Rattle.link_laws.proofs.Basics.{same_or_not, inverse_twice}
+use Rattle.link_laws.proofs.Basics.{same_or_not, inverse_twice, inverse_within}
 use Rattle.link_laws.proofs.LawFacts.{dart_of_link}
 use Rattle.link_laws.proofs.Walking.{walk_one}
 use Rattle.link_laws.proofs.RowFacts.{rows_dimension}
@@ -23,12 +23,6 @@ use Rattle.cell_edit.proofs.Premises.{live-dart}
 use Rattle.cell_edit.proofs.WalkTurns.{listed-told}
 use Rattle.beta_edit.specs.Crossing.{drawn_step, DrawsTo}
 use Rattle.beta_edit.specs.Drawing.{IsDrawn, CanBeDrawn, IsCellEntry}
-
--- the inverse of a link of a map of dimension 2 or more is one of its links
-inverse-low : (n s : ℕ) → 2 ≤ n → s ≤ n → inverse beta s ≤ n
-inverse-low n zero low h = omega arith
-inverse-low n (suc zero) low h = omega arith
-inverse-low n (suc (suc s)) low h = h
 
 -- the same links are drawn too
 pub drawn-same : (C : ℕ → Type 0) (Step : ℕ → ℕ → ℕ) (L M N : Links) → ((t x : ℕ) → N t x ≡ M t x) → IsDrawn C Step L M → IsDrawn C Step L N
@@ -64,7 +58,7 @@ module _ (n : ℕ) (two : 2 ≤ n) (rows : Rows) (sound : IsSound beta n rows) (
 
   inside : (d t y : ℕ) → IsEntry d t y → t ≤ n
   inside d t y (x, has, (s, low, (some, inl e))) = omega (arith, e.1, low)
-  inside d t y (x, has, (s, low, (some, inr e))) = subst (λ r. r ≤ n) (sym e.2) (inverse-low n s two (omega arith))
+  inside d t y (x, has, (s, low, (some, inr e))) = subst (λ r. r ≤ n) (sym e.2) (inverse_within beta n s two (omega arith))
 
   -- each entry is the link after the changes, and all other links are as before
   written : (d t y : ℕ) → IsEntry d t y → links_of (with_changes n edit rows) t d ≡ y

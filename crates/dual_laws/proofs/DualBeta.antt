@@ -4,7 +4,7 @@ use Rattle.map_defs.specs.Kind.{beta, inverse}
 use Rattle.map_defs.specs.Links.{Links}
 use Rattle.map_defs.specs.Laws.{Laws}
 use Rattle.map_defs.specs.Dual.{IsBetaDual}
-use Rattle.link_laws.proofs.Basics.{stable, inverse_own, inverse_twice, distant_high, IsDistant-turned, IsDistant-inverse_right}
+use Rattle.link_laws.proofs.Basics.{stable, inverse_own, inverse_twice, inverse_within, distant_high, IsDistant-turned, IsDistant-inverse_right}
 use Rattle.link_laws.proofs.LawFacts.{dart_of_link}
 
 -- no link of x is free
@@ -22,9 +22,7 @@ module _ (n : ℕ) (L : Links) (c : IsClosedMap n L) where
   back_own i x h m = subst (λ s. L s (L i x) ≡ x) (inverse_own beta i h) (c.laws.back i x m)
 
   pub inverse_low : (i : ℕ) → i ≤ n → inverse beta i ≤ n
-  inverse_low zero h = let g = c.high in omega arith
-  inverse_low (suc zero) h = omega arith
-  inverse_low (suc (suc i)) h = h
+  inverse_low i h = inverse_within beta n i c.high h
 
   pub next_linked : (i x : ℕ) → IsAllLinked n L x → i ≤ n → IsAllLinked n L (L i x)
   next_linked i x l h = go (c.whole (L i x))

@@ -65,6 +65,13 @@ IsDistant-own beta (suc zero) (suc zero) h = absurd (⊎_elim (λ (p : 1 + 2 ≤
 IsDistant-own beta (suc zero) (suc (suc j)) h = inr refl
 IsDistant-own beta (suc (suc i)) j h = inl refl
 
+-- the inverse of a link of a map of dimension 2 or more is one of its links
+pub inverse_within : (k : Kind) (n i : ℕ) → 2 ≤ n → i ≤ n → inverse k i ≤ n
+inverse_within alpha n i low within = within
+inverse_within beta n zero low within = omega arith
+inverse_within beta n (suc zero) low within = omega arith
+inverse_within beta n (suc (suc i)) low within = within
+
 -- a link from 2 upwards is its own inverse
 pub inverse_own : (k : Kind) (i : ℕ) → 2 ≤ i → inverse k i ≡ i
 inverse_own alpha i h = refl

@@ -6,7 +6,7 @@ use Rattle.map_defs.specs.Kind.{Kind, alpha, beta, inverse, IsDistant}
 use Rattle.map_defs.specs.Links.{Links, HasDimension}
 use Rattle.map_defs.specs.Pairs.{InPairs, IsGood, JustOne}
 use Rattle.map_defs.specs.Sewing.{SewnPairs}
-use Rattle.link_laws.proofs.Basics.{inverse_own}
+use Rattle.link_laws.proofs.Basics.{inverse_own, inverse_within}
 use Rattle.sewing.specs.Triples.{Triple, Lists}
 use Rattle.sewing.proofs.PairFacts.{pairs-along}
 
@@ -37,13 +37,6 @@ distant-all P dim n js end same j = (
   λ has. let p = (same j).0 has in (omega (arith, p.0), p.1),
   λ p. (same j).1 (omega (arith, p.0), p.1),
 )
-
--- ---- the inverse of a link of the map is one of its links, and of one above them too
-pub inverse_within : (k : Kind) (n j : ℕ) → 2 ≤ n → j ≤ n → inverse k j ≤ n
-inverse_within alpha n j dim h = h
-inverse_within beta n zero dim h = omega arith
-inverse_within beta n (suc zero) dim h = omega arith
-inverse_within beta n (suc (suc j)) dim h = h
 
 -- ---- one seed in a list
 pub one_listed : (d e i x y t : ℕ) → Lists (record { x = d; y = e; t = i } ∷ []) x y t ↔ JustOne d e i x y t

@@ -8,6 +8,7 @@ use Rattle.map_defs.specs.Rows.{Rows, links_of, row_at, IsLive, IsSound}
 use Rattle.map_defs.specs.Edits.{after_edit, Fits}
 use Rattle.map_defs.specs.Pairs.{JustOne}
 use Rattle.map_defs.specs.Sewing.{SewnPairs, IsSewable, IsSewn, IsUnsewn}
+use Rattle.link_laws.proofs.Basics.{inverse_within}
 use Rattle.link_laws.proofs.RowFacts.{linked_live}
 use Rattle.link_laws.proofs.Relink.{IsEither}
 use Rattle.link_laws.proofs.Sewn.{sewn_triple, sewing_keeps}
@@ -15,7 +16,6 @@ use Rattle.link_laws.proofs.Unsewn.{unsewing_keeps}
 use Rattle.sewing.specs.Triples.{Triple, Lists, IsAscending}
 use Rattle.sewing.proofs.PairFacts.{pairs-live}
 use Rattle.sewing.proofs.PartedPairs.{parted-pair, freed-pair}
-use Rattle.sewing.proofs.DistantPairs.{inverse_within}
 use Rattle.sewing.proofs.PlanChanges.{relinks, changes, relinks-fit, are-changes, changed-at, changed-else}
 
 -- a live dart is not 0

@@ -19,12 +19,6 @@ use Rattle.valued_map.specs.Changing.{IsReroutedAt}
 use Rattle.valued_map.proofs.Heads.{among-more}
 use Rattle.valued_map.proofs.Adding.{no_change, change_at, find-link, same-else, long}
 
-pub inverse-within : (k : Kind) (n i : ℕ) → 2 ≤ n → i ≤ n → inverse k i ≤ n
-inverse-within alpha n i low within = within
-inverse-within beta n zero low within = omega arith
-inverse-within beta n (suc zero) low within = omega arith
-inverse-within beta n (suc (suc i)) low within = within
-
 -- no change is one of this link of the dart
 abbrev pub IsUnchanged : List Change → ℕ → ℕ → Type 0
 IsUnchanged cs d i = (c : Change) → Contains cs c → c.dart ≡ d → c.link ≡ i → ⊥
