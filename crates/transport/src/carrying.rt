@@ -26,7 +26,7 @@ use std::alloc::{AllocError, Global};
 ///
 /// The touched darts are live, and those of a dimension with a rule cover the labels there: a new cell without one of them has
 /// one id, which no other live dart has, or no id. All live darts do. Each id of a live dart is live in the pool. There is an
-/// entry in `rules`, and in `touched`, for each dimension from 0 to `DIM`.
+/// entry in `rules` for each dimension from 0 to `DIM`.
 ///
 /// It costs the cells of the touched darts times a logarithm, whatever the size of the map.
 pub fn carry<K: Kind, H: Hook, const DIM: usize>(
@@ -40,7 +40,6 @@ pub fn carry<K: Kind, H: Hook, const DIM: usize>(
 ) -> Result<Vec<Group>, AllocError>
     requires ready { H.ready hook.now }
     requires rules { length rules.now ≡ DIM + 1 }
-    requires touched { length touched.now ≡ DIM + 1 }
     requires live { (i d : ℕ) → Contains (darts_in touched.now i) d → IsLive links.now.rows d }
     requires held { (i d id : ℕ) → IsLive links.now.rows d → id_of labels.now i d ≡ Some id → IsHeld pool.now id }
     requires covered { (i : ℕ) → IsSome (rule_at rules.now i)
@@ -87,7 +86,6 @@ fn carried_cells<K: Kind, H: Hook, const DIM: usize>(
     requires sound { IsSound K.kind DIM links.now.rows }
     requires ready { H.ready hook.now }
     requires rules { length rules.now ≡ DIM + 1 }
-    requires touched { length touched.now ≡ DIM + 1 }
     requires live { (i d : ℕ) → Contains (darts_in touched.now i) d → IsLive links.now.rows d }
     requires held { (i d id : ℕ) → IsLive links.now.rows d → id_of labels.now i d ≡ Some id → IsHeld pool.now id }
     requires covered { (i : ℕ) → IsSome (rule_at rules.now i)

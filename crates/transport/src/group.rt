@@ -1,4 +1,4 @@
-ghost use Rattle.std.specs.Prelude.{◌≡◌, ◌<◌, length};
+ghost use Rattle.std.specs.Prelude.{◌≡◌};
 ghost use Rattle.store_defs.specs.Groups.{least_of, darts_in};
 
 use attr_rules::TableRule;
@@ -36,8 +36,8 @@ impl Model for RuleRow {
     ghost view = { λ row. row.rules.items };
 }
 
-/// The darts that a change of links touched in each dimension from 0 to `DIM`, in this order; some may stand there more than
-/// once.
+/// The darts that a change of links touched in each dimension, in the order of the dimensions from 0 on; none in a dimension
+/// that has no list. Some may stand in a list more than once.
 #[derive(Drop)]
 pub struct TouchedDarts {
     pub by_dim: Vec<Vec<Dart>>,
@@ -54,10 +54,12 @@ impl Model for TouchedDarts {
 impl TouchedDarts {
     /// The darts that were touched in a dimension.
     pub(crate) fn in_dim(&self, dim: usize) -> &[Dart]
-        requires { dim < length self.now }
         ensures { result.now ≡ darts_in self.now dim }
     {
-        &self.by_dim[dim]
+        match self.by_dim.get(dim) {
+            Some(darts) => darts,
+            None => &[],
+        }
     }
 }
 

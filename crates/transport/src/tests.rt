@@ -111,7 +111,6 @@ fn carried<K: Kind>(alloc: Global, links: &Links<K, 2>) -> Result<Vec<Group>, Al
 
 /// All live darts in each dimension.
 fn all_touched<K: Kind>(alloc: Global, links: &Links<K, 2>) -> Result<TouchedDarts, AllocError>
-    ensures long { IfOk result (λ touched. length touched ≡ 3) }
     ensures live { IfOk result (λ touched. (i d : ℕ) → Contains (darts_in touched i) d → IsLive links.now.rows d) }
     ensures all { IfOk result (λ touched. (i d : ℕ) → i < 3 → IsLive links.now.rows d → Contains (darts_in touched i) d) }
 {

@@ -38,13 +38,10 @@ carry-requires g c = (
       (
         c.in_ok-rules.ensures,
         (
-          c.in_ok-touched.ensures.long,
+          c.in_ok-touched.ensures.live,
           (
-            c.in_ok-touched.ensures.live,
-            (
-              λ i d id live. c.in_ok-labels.ensures i d id,
-              λ i ruled d live none. absurd (none d here (c.in_ok-touched.ensures.all i d (low i ruled) live)),
-            ),
+            λ i d id live. c.in_ok-labels.ensures i d id,
+            λ i ruled d live none. absurd (none d here (c.in_ok-touched.ensures.all i d (low i ruled) live)),
           ),
         ),
       ),
