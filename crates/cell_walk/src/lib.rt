@@ -12,6 +12,6 @@ mod ways;
 mod whole_map;
 
 pub use one_cell::{cell, cells_of, least, same};
-pub use orbits::{orbit, orbits_of};
+pub use orbits::{follow, orbit, orbits_of};
 pub use search::reaches;
 pub use whole_map::{CellLists, cell_lists, cells, components, counts};

@@ -152,9 +152,9 @@ fn step<S: Seen, K: Kind, const DIM: usize>(
     found.put(reached)
 }
 
-/// The dart to which a word leads; none exactly where a link on its way is free.
+/// The dart to which a word leads; none exactly where a link on its way is free. The word's links are links of the map.
 #[inline(always)]
-pub(crate) fn follow<K: Kind, const DIM: usize>(
+pub fn follow<K: Kind, const DIM: usize>(
     links: &Links<K, DIM>,
     word: LinkWord,
     dart: Dart,

@@ -1,5 +1,5 @@
 -- What an edit makes of a map, by the parts that the code has.
-use Rattle.std.proofs.Common.{ℕ, zero, suc, ◌≡◌, ◌≢◌, ◌⊎◌, ◌↔◌, ◌+◌, ◌<◌, ◌≤◌, inl, inr, refl, sym, ap, subst, ◌∙◌, List, [], ◌∷◌, ◌++◌, length, map, slice_set, max, Option, Some, None, IsSome, All, Contains, arith}
+use Rattle.std.proofs.Common.{ℕ, zero, suc, ◌≡◌, ◌≢◌, ◌⊎◌, ◌↔◌, ◌+◌, ◌<◌, ◌≤◌, inl, inr, refl, sym, ap, subst, List, [], ◌∷◌, ◌++◌, length, map, slice_set, max, Option, Some, None, IsSome, All, Contains, arith}
 use Rattle.std.proofs.lemmas.Bool.{false≢true, cases_eq}
 use Rattle.std.proofs.lemmas.List.{append-nil}
 use Rattle.map_defs.specs.Kind.{Kind}
@@ -14,12 +14,11 @@ use Rattle.edit_laws.proofs.EditLinks.{lives-on}
 use Rattle.edit_laws.proofs.EditPlain.{death_edit, death-fits}
 use Rattle.edit_laws.proofs.RowWrites.{live-within}
 use Rattle.edit_laws.proofs.KeptLaws.{death-keeps}
-use Rattle.value_laws.proofs.OfRows.{told_live}
 use Rattle.value_laws.proofs.Touching.{cell_live}
 use Rattle.store_defs.specs.Stores.{Store}
 use Rattle.store_defs.specs.Labelings.{Labeling, id_of, KeepsIds, KeepsPlaces}
 use Rattle.store_defs.specs.Groups.{Group, group_at, rule_at, HasCarriedValue}
-use Rattle.label_laws.specs.Stored.{AreStored, AreSmall, stored_value}
+use Rattle.label_laws.specs.Stored.{AreSmall, stored_value}
 use Rattle.label_laws.specs.Changing.{AreTaken, AreRelabelled, IsGroupedBelow}
 use Rattle.label_laws.specs.Contents.{content_of, IsCarriedOn}
 use Rattle.label_laws.specs.Maps.{IsStoredMap}

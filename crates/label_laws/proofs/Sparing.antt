@@ -1,5 +1,5 @@
 -- Cells that a change of links leaves alone: where a cell has no touched dart, its values need no look.
-use Rattle.std.proofs.Common.{ℕ, ◌≡◌, ◌≢◌, ◌⊎◌, ◌<◌, inl, inr, refl, sym, ap, subst, ◌∙◌, List, [], length, Option, Some, None, arith}
+use Rattle.std.proofs.Common.{ℕ, ◌≡◌, ◌≢◌, ◌⊎◌, ◌<◌, inl, inr, refl, sym, ap, subst, ◌∙◌, [], Option, Some, None, arith}
 use Rattle.map_defs.specs.Kind.{Kind}
 use Rattle.map_defs.specs.Links.{Links}
 use Rattle.map_defs.specs.LinkWords.{LinkWord, through, through_second, IsCellWord}
@@ -9,7 +9,8 @@ use Rattle.map_defs.specs.Cells.{InOrbit, here, onward, Leads, InCell}
 use Rattle.map_defs.specs.Touched.{IsOldCell, IsWhole, Covers}
 use Rattle.map_defs.specs.Values.{Value, Meaning}
 use Rattle.map_defs.specs.Carry.{IsCarried}
-use Rattle.link_laws.proofs.Basics.{stable}
+use Rattle.std.proofs.lemmas.Option.{none-some}
+use Rattle.link_laws.proofs.Basics.{stable, same_or_not}
 use Rattle.link_laws.proofs.CellFacts.{cell_back}
 use Rattle.link_laws.proofs.RowFacts.{rows_lead_to_live}
 use Rattle.value_laws.proofs.OfRows.{told_live}
@@ -17,7 +18,7 @@ use Rattle.value_laws.proofs.Touching.{cell_live}
 use Rattle.store_defs.specs.Stores.{Store}
 use Rattle.store_defs.specs.Labelings.{Labeling, id_of}
 use Rattle.label_laws.specs.Stored.{AreStored}
-use Rattle.label_laws.specs.Touching.{IsReroutedDart, Spares}
+use Rattle.label_laws.specs.Touching.{IsReroutedDart, Spares, OnlyJoins, LeadsApart}
 
 pub cell-own : (k : Kind) (L : Links) (i d : ℕ) → InCell k L i d d
 cell-own k L i d = here
@@ -37,6 +38,13 @@ nothing-carried rule value Live Old New d none = record {
 joined : {Step : ℕ → ℕ → Type 0} {d x y : ℕ} → InOrbit Step d x → InOrbit Step x y → InOrbit Step d y
 joined o here = o
 joined o (onward p s) = onward (joined o p) s
+
+-- ids that cannot differ are the same
+ids-stable : (a b : Option ℕ) → ((a ≢ b) → ⊥) → a ≡ b
+ids-stable None None nn = refl
+ids-stable (Some m) (Some n) nn = ap Some (stable m n (λ apart. nn (λ same. apart (cc same))))
+ids-stable None (Some n) nn = absurd (nn (λ same. none-some n same))
+ids-stable (Some m) None nn = absurd (nn (λ same. none-some m (sym same)))
 
 -- What the darts that an edit touched in a dimension are for: they spare its other cells, and so cover the ids.
 module _ (k : Kind) (i : ℕ) (old new : Rows) (lo : Laws k (links_of old)) (laws : Laws k (links_of new)) (l : Labeling) (p : Store) (s : AreStored k (links_of old) (IsLive old) l p) where
@@ -112,3 +120,52 @@ module _ (k : Kind) (i : ℕ) (old new : Rows) (lo : Laws k (links_of old)) (law
             let there = cell_live k (IsLive old) (links_of old) (links_of new) lo laws (IsLive new) (rows_lead_to_live k new laws) i x h o in
             let same = unmoved z there before (out z o) st.0 st.1 in
             lands st.0 z y (sym same ∙ st.2) st.3
+
+  -- Where a change only joins, they spare the other cells also without those from which all words lead to darts with the same
+  -- id: then a cell without one has one id, and so is the old cell with that id, or it has none.
+  module _ (joins : OnlyJoins old new) (T : ℕ → Type 0) (all : (x : ℕ) → IsReroutedDart k i old new x → LeadsApart k i new l x → T x) where
+    -- the darts of an old cell have the same id
+    same-id : (x y : ℕ) → InCell k (links_of old) i x y → id_of l i y ≡ id_of l i x
+    same-id x y cell = go (id_of l i x) (id_of l i y) refl refl
+      where
+        go : (a b : Option ℕ) → id_of l i x ≡ a → id_of l i y ≡ b → id_of l i y ≡ id_of l i x
+        go (Some c) b e f = s.whole i x y c e cell ∙ sym e
+        go None None e f = f ∙ sym e
+        go None (Some c) e f = f ∙ sym (s.whole i y x c f (cell_back k (links_of old) lo i x y cell))
+
+    -- a word that led somewhere leads there still
+    word-stays : (w : LinkWord) (x y : ℕ) → through (links_of old) w x ≡ y → y ≢ 0 → through (links_of new) w x ≡ y
+    word-stays w x y e there = go w.first w.second e
+      where
+        go : (f : ℕ) (j : Option ℕ) → through_second (links_of old) j (links_of old f x) ≡ y → through_second (links_of new) j (links_of new f x) ≡ y
+        go f None e2 = joins.stays f x (λ z. there (sym e2 ∙ z)) ∙ e2
+        go f (Some j) e2 =
+            let first = joins.stays f x (λ z. there (sym e2 ∙ ap (links_of old j) z ∙ lo.nil j)) in
+            ap (links_of new j) first ∙ joins.stays j (links_of old f x) (λ z. there (sym e2 ∙ z)) ∙ e2
+
+    pub joined-spare : Spares k i old new l T
+    joined-spare d live none = go (id_of l i d) refl
+      where
+        live-at : (x : ℕ) → InCell k (links_of new) i d x → IsLive new x
+        live-at x cell = cell_live k (IsLive old) (links_of old) (links_of new) lo laws (IsLive new) (rows_lead_to_live k new laws) i d live cell
+
+        -- a step of the new cell leads to a dart with the same id
+        steps-alike : (x y : ℕ) → InCell k (links_of new) i d x → (w : LinkWord) → IsCellWord k i w → through (links_of new) w x ≡ y → y ≢ 0 → id_of l i y ≡ id_of l i x
+        steps-alike x y cell w word e there = elim (same_or_not (through (links_of new) w x) (through (links_of old) w x)) [
+          | inl same ↦ same-id x y (onward here (w, word, sym same ∙ e, there))
+          | inr moved ↦ ids-stable _ _ (λ apart. none x cell (all x (joins.lived x (live-at x cell), live-at x cell, (w, word, moved))
+              (w, word, (λ z. there (sym e ∙ z)), λ same. apart (ap (id_of l i) (sym e) ∙ same))))
+        ]
+
+        alike : {x : ℕ} → InOrbit (Leads (links_of new) (IsCellWord k i)) d x → id_of l i x ≡ id_of l i d
+        alike here = refl
+        alike (onward {x = x} {y = y} o st) = steps-alike x y o st.0 st.1 st.2 st.3 ∙ alike o
+
+        back : {x : ℕ} → InOrbit (Leads (links_of old) (IsCellWord k i)) d x → InCell k (links_of new) i d x
+        back here = here
+        back (onward {x = x} {y = y} o st) = onward (back o) (st.0, st.1, word-stays st.0 x y st.2 st.3, st.3)
+
+        go : (o : Option ℕ) → id_of l i d ≡ o
+            → IsOldCell k i (links_of old) (IsLive old) (links_of new) d ⊎ ((x : ℕ) → InCell k (links_of new) i d x → id_of l i x ≡ None)
+        go None e = inr (λ x cell. alike cell ∙ e)
+        go (Some c) e = inl (record { lived = λ x cell. joins.lived x (live-at x cell); same = λ x. ((λ cell. (s.apart i d i x c e (alike cell ∙ e)).1), λ cell. back cell) })

@@ -52,8 +52,8 @@ impl Model for TouchedDarts {
 }
 
 impl TouchedDarts {
-    /// The darts that were touched in a dimension.
-    pub(crate) fn in_dim(&self, dim: usize) -> &[Dart]
+    /// The darts that were touched in a dimension; none where the dimension has no list.
+    pub fn in_dim(&self, dim: usize) -> &[Dart]
         ensures { result.now ≡ darts_in self.now dim }
     {
         match self.by_dim.get(dim) {

@@ -3,7 +3,9 @@ pub mod LiveDarts
 pub mod PlacedGroups
 pub mod Labelling
 pub mod Adding
+pub mod DimLists
 pub mod Rerouting
+pub mod Joining
 pub mod CellIds
 pub mod Earlier
 pub mod RowCounts

@@ -16,6 +16,7 @@ use Rattle.map_defs.specs.Values.{Rule}
 use Rattle.store_defs.specs.Groups.{darts_in, rule_at}
 use Rattle.label_laws.specs.Touching.{IsReroutedDart}
 use Rattle.valued_map.specs.Changing.{IsReroutedAt}
+use Rattle.valued_map.proofs.DimLists.{which, list-before, list-at, list-past}
 use Rattle.valued_map.proofs.Heads.{among-more}
 use Rattle.valued_map.proofs.Adding.{no_change, change_at, find-link, same-else, long}
 
@@ -169,11 +170,11 @@ module _ (k : Kind) (n : ℕ) (e : Edit) (rows : Rows) (rules : List (Option Rul
       → AreTouchedBelow k n e rows rules (dim + 1) (lists ++ darts ∷ [])
   touched-more dim lists darts a live all = record {
     size = length-append lists (darts ∷ []) ∙ ap (λ (m : ℕ). m + 1) a.size;
-    live = λ i x here. (elim (three i dim) [
+    live = λ i x here. (elim (which i dim) [
       | inl low ↦ a.live i x (subst (λ ds. Contains ds x) (early i low) here)
       | inr rest ↦ elim rest [ inl same ↦ live x (subst (λ ds. Contains ds x) (last i same) here) | inr high ↦ absurd (none i x high here) ]
     ]);
-    all = λ old led w wn i x lt ruled t. (elim (three i dim) [
+    all = λ old led w wn i x lt ruled t. (elim (which i dim) [
       | inl low ↦ subst (λ ds. Contains ds x) (sym (early i low)) (a.all old led w wn i x low ruled t)
       | inr rest ↦ elim rest [
         | inl same ↦ subst (λ ds. Contains ds x) (sym (last i same)) (all (subst (λ j. IsSome (rule_at rules j)) same ruled) old led w wn x
@@ -183,17 +184,14 @@ module _ (k : Kind) (n : ℕ) (e : Edit) (rows : Rows) (rules : List (Option Rul
     ]);
   }
     where
-      three : (i d : ℕ) → (i < d) ⊎ ((i ≡ d) ⊎ (d < i))
-      three i d = grind arith
-
       early : (i : ℕ) → i < dim → darts_in (lists ++ darts ∷ []) i ≡ darts_in lists i
-      early i low = get_or_append_left lists (darts ∷ []) [] i (omega (arith, a.size))
+      early i low = list-before lists darts i (omega (arith, a.size))
 
       last : (i : ℕ) → i ≡ dim → darts_in (lists ++ darts ∷ []) i ≡ darts
-      last i same = ap (darts_in (lists ++ darts ∷ [])) (omega (arith, a.size, same)) ∙ get_or-append-add lists (darts ∷ []) 0 []
+      last i same = list-at lists darts i (omega (arith, a.size, same))
 
       none : (i x : ℕ) → dim < i → Contains (darts_in (lists ++ darts ∷ []) i) x → ⊥
       none i x high here =
-          let past : darts_in (lists ++ darts ∷ []) i ≡ [] = get_or_past (lists ++ darts ∷ []) i [] (let s = length-append lists (darts ∷ []) in omega (arith, a.size)) in
+          let past : darts_in (lists ++ darts ∷ []) i ≡ [] = list-past lists darts i (omega (arith, a.size)) in
           let nothing : Contains [] x = subst (λ ds. Contains ds x) past here in
           let lt : nothing.0 < 0 = nothing.1 in omega arith

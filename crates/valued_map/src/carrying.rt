@@ -10,8 +10,8 @@ ghost use Rattle.label_laws.specs.Maps.{IsStoredMap};
 ghost use Rattle.label_laws.specs.Stored.{AreSmall};
 ghost use Rattle.label_laws.specs.Touching.{AreAllTouched};
 
+use crate::joined::changed_darts;
 use crate::rules::has_places;
-use crate::touched::touched_darts;
 use attr_pool::{Labels, Pool};
 use attr_rules::Hook;
 use link_rows::{Edit, Links};
@@ -19,7 +19,7 @@ use map_kind::Kind;
 use std::alloc::{AllocError, Global};
 use transport::{Group, RuleRow, carry};
 
-/// The cells whose darts the edit touched, with the values that are carried to them, and room in the pool for these
+/// The cells that the edit may have changed, with the values that are carried to them, and room in the pool for these
 /// values. Where no dimension has a rule there are none, and nothing is looked at.
 pub(crate) fn carried<K: Kind, H: Hook, const DIM: usize>(
     alloc: Global,
@@ -47,8 +47,8 @@ pub(crate) fn carried<K: Kind, H: Hook, const DIM: usize>(
     if !has_places(rules) {
         return Ok(Vec::new(alloc));
     }
-    let touched = touched_darts(alloc, links, rules, edit)?;
-    let groups = carry(alloc, links, labels, pool, rules, hook, &touched)?;
+    let changed = changed_darts(alloc, links, labels, rules, edit)?;
+    let groups = carry(alloc, links, labels, pool, rules, hook, &changed)?;
     make_room(pool, groups.len())?;
     Ok(groups)
 }

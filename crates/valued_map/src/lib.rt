@@ -9,6 +9,7 @@ mod carrying;
 mod change;
 mod dual;
 mod ids;
+mod joined;
 mod list;
 mod load;
 mod map;

@@ -28,7 +28,6 @@ pub(crate) fn touched_darts<K: Kind, const DIM: usize>(
 ) -> Result<TouchedDarts, AllocError>
     requires births { edit.now.births ≤ made links.now.rows }
     requires rules { length rules.now ≡ DIM + 1 }
-    ensures long { IfOk result (λ touched. length touched ≡ DIM + 1) }
     ensures live { IfOk result (λ touched. (i x : ℕ) → Contains (darts_in touched i) x → IsLive links.now.rows x) }
     ensures all { IfOk result (λ touched. (old : Rows) → IsLed K.kind DIM edit.now old links.now.rows → Laws K.kind (links_of old)
         → Laws K.kind (links_of links.now.rows) → (i x : ℕ) → IsSome (rule_at rules.now i)

@@ -5,7 +5,7 @@ use Rattle.edit_laws.proofs.EditSound.{length-after}
 use Rattle.store_defs.specs.Groups.{Group, rule_at, darts_in}
 use Rattle.label_laws.specs.Touching.{AreAllTouched}
 use Rattle.label_laws.proofs.Making.{none-touched}
-use Rattle.label_laws.proofs.Sparing.{spared-covered, rerouted-spare}
+use Rattle.label_laws.proofs.Sparing.{spared-covered}
 use Rattle.valued_map.proofs.carrying.carried.Goals as goal
 
 empty-list : (rules : List (Option Rule)) → (0 < length rules → ⊥) → rules ≡ []
@@ -22,12 +22,12 @@ rules-long : (n : ℕ) (rules : List (Option Rule)) → 0 < length rules → (ru
 rules-long n rules some (inl none) = absurd (omega (arith, some, ap (λ (rs : List (Option Rule)). length rs) none))
 rules-long n rules some (inr long) = long
 
-pub touched_darts-requires : goal.touched_darts-requires
-touched_darts-requires g c =
+pub changed_darts-requires : goal.changed_darts-requires
+changed_darts-requires g c =
     let led = c.requires.led.1 in
     let long : length c.args.links.now.rows ≡ length c.requires.led.0 + c.args.edit.now.births =
     ap (λ (r : Rows). length r) (sym led.after) ∙ length-after g.row.DIM c.args.edit.now c.requires.led.0 in
-    (lit< tt, (omega (arith, long, led.begun), rules-long g.row.DIM c.args.rules.now (c.has_places.ensures.0 (search rules)) c.requires.led.2.ruled))
+    (lit< tt, (lit< tt, (omega (arith, long, led.begun), rules-long g.row.DIM c.args.rules.now (c.has_places.ensures.0 (search rules)) c.requires.led.2.ruled)))
 
 pub carry-requires : goal.carry-requires
 carry-requires g c =
@@ -35,7 +35,7 @@ carry-requires g c =
     let stored = c.requires.led.2 in
     let old = c.requires.led.0 in
     let rows : Rows = c.args.links.now.rows in
-    let lists : List (List ℕ) = c.in_ok-touched.touched in (
+    let lists : List (List ℕ) = c.in_ok-changed.changed in (
       lit< tt,
       (
         lit< tt,
@@ -44,15 +44,11 @@ carry-requires g c =
           (
             rules-long g.row.DIM c.args.rules.now (c.has_places.ensures.0 (search rules)) stored.ruled,
             (
-              c.in_ok-touched.ensures.long,
+              c.in_ok-changed.ensures.live,
               (
-                c.in_ok-touched.ensures.live,
-                (
-                  λ i d id live is. stored.stored.held i d id is,
-                  λ i ruled. spared-covered g.K.Kind.kind i old rows stored.laws c.requires.laws c.args.labels.now c.args.pool.now stored.stored (Contains (darts_in lists i))
-                      (rerouted-spare g.K.Kind.kind i old rows stored.laws c.requires.laws c.args.labels.now c.args.pool.now stored.stored (Contains (darts_in lists i))
-                      (λ x t. c.in_ok-touched.ensures.all old led stored.laws c.requires.laws i x ruled t)),
-                ),
+                λ i d id live is. stored.stored.held i d id is,
+                λ i ruled. spared-covered g.K.Kind.kind i old rows stored.laws c.requires.laws c.args.labels.now c.args.pool.now stored.stored (Contains (darts_in lists i))
+                    (c.in_ok-changed.ensures.spare old c.args.pool.now led stored c.requires.laws i ruled),
               ),
             ),
           ),
@@ -62,12 +58,11 @@ carry-requires g c =
 
 pub returns-clause-cells : goal.returns-clause-cells
 returns-clause-cells g c = λ old led stored.
-    let lists : List (List ℕ) = c.in_ok-touched.touched in (
+    let lists : List (List ℕ) = c.in_ok-changed.changed in (
       darts_in lists,
-      c.in_ok-touched.ensures.live,
+      c.in_ok-changed.ensures.live,
       c.in_ok-groups.ensures.cells,
-      λ i some. rerouted-spare g.K.Kind.kind i old c.args.links.now.rows stored.laws c.requires.laws c.args.labels.now c.args.pool.now stored.stored (Contains (darts_in lists i))
-          (λ x t. c.in_ok-touched.ensures.all old led stored.laws c.requires.laws i x some t),
+      λ i some. c.in_ok-changed.ensures.spare old c.args.pool.now led stored c.requires.laws i some,
     )
 
 pub returns-then-not-has_places-clause-small : goal.returns-then-not-has_places-clause-small

@@ -1,0 +1,21 @@
+use Rattle.std.proofs.Common.{ℕ, ◌≡◌, ◌≢◌, ◌+◌, List, Contains, lit<, subst, sym, ◌∙◌, take, take_all, ⊎_elim}
+use Rattle.std.proofs.lemmas.Bool.{false≢true}
+use Rattle.map_defs.specs.LinkWords.{LinkWord, through}
+use Rattle.map_defs.specs.Rows.{links_of}
+use Rattle.store_defs.specs.Labelings.{id_of}
+use Rattle.valued_map.proofs.Heads.{among-more, among-none}
+use Rattle.valued_map.proofs.joined.leads_apart.Goals as goal
+
+pub leads_to_another-requires : goal.leads_to_another-requires
+leads_to_another-requires g c = (lit< tt, (lit< tt, c.requires c.word-item.result (c.loop-word.word-index, c.loop-word-test.true, sym c.word-item.is)))
+
+pub loop-word-preserved : goal.loop-word-preserved
+loop-word-preserved g c = λ w here leads apart.
+    ⊎_elim (λ before. c.loop-word.invariant w before leads apart)
+    (λ same. false≢true (sym c.if-leads_to_another.false ∙ c.leads_to_another.ensures
+    (subst (λ (v : LinkWord). through (links_of c.args.links.now.rows) v c.args.dart ≢ 0) (sym same) leads)
+    (subst (λ (v : LinkWord). id_of c.args.labels.now c.args.dim (through (links_of c.args.links.now.rows) v c.args.dart) ≢ id_of c.args.labels.now c.args.dim c.args.dart) (sym same) apart)))
+    (among-more c.args.words.now c.loop-word.word-index c.word-item.result w c.loop-word-test.true c.word-item.is here)
+
+pub returns : goal.returns
+returns g c = λ w here leads apart. absurd (c.loop-word.invariant w (subst (λ (ws : List LinkWord). Contains ws w) (sym (take_all c.loop-word.word-index c.args.words.now c.loop-word-test.false)) here) leads apart)
