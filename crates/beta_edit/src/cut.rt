@@ -9,7 +9,7 @@ ghost use Rattle.cell_edit.specs.Writing.{WritesEntries, Appends};
 ghost use Rattle.beta_edit.specs.Cutting.{IsCornerOf, IsAlongEntry, IsOverEntry, IsCornerEntry, AreCutEntries, IsTurn, AreTurns};
 
 use crate::writing::{push_link, push_way};
-use cell_edit::Stars;
+use cell_edit::{Stars, room_for_changes};
 use link_rows::{Change, Links};
 use map_kind::{Beta, Dart};
 use sewing::Triple;
@@ -45,7 +45,7 @@ pub(crate) fn cut_changes<const DIM: usize>(
 {
     // A map has links 0 to 2 at least.
     links.see_sound();
-    let mut changes = Vec::new(alloc);
+    let mut changes = room_for_changes(alloc, pairs.len(), links.dimension())?;
     for pair in pairs {
         if pair.t != 0 {
             continue;

@@ -8,6 +8,7 @@ ghost use Rattle.beta_edit.specs.Crossing.{drawn_step};
 ghost use Rattle.beta_edit.specs.Drawing.{IsDrawn, CanBeDrawn, IsLinkEntry, IsDartEntry, IsCellEntry};
 
 use crate::crossing::{is_among, walk_end};
+use cell_edit::room_for_changes;
 use link_rows::{Change, Edit, Links};
 use map_kind::{Beta, Dart, Kind};
 use std::alloc::{AllocError, Global};
@@ -49,7 +50,7 @@ fn drawn_changes<const DIM: usize>(
     ensures { IfOk result (λ changes. WritesEntries (links_of links.now.rows)
         (IsCellEntry (links_of links.now.rows) beside darts.now (DIM + 1) darts.now) changes.items) }
 {
-    let mut changes = Vec::new(alloc);
+    let mut changes = room_for_changes(alloc, darts.len(), links.dimension())?;
     for dart in darts {
         push_dart(links, beside, darts, *dart, &mut changes)?;
     }

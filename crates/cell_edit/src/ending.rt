@@ -7,6 +7,7 @@ ghost use Rattle.cell_edit.specs.Bridging.{across, CanEnd, IsEndingEntry, IsBrid
 ghost use Rattle.cell_edit.specs.Removing.{PlansEnding};
 
 use crate::crossing::{first_outside, is_among};
+use crate::room::room_for_changes;
 use link_rows::{Change, Edit, Links};
 use map_kind::{Dart, Kind, is_generalized};
 use std::alloc::{AllocError, Global};
@@ -52,7 +53,7 @@ fn ending_changes<K: Kind, const DIM: usize>(
     ensures { IfOk result (λ changes. WritesEntries (links_of links.now.rows)
         (IsCellEntry K.kind (links_of links.now.rows) link beside (DIM + 1) darts.now darts.now) changes.items) }
 {
-    let mut changes = Vec::new(alloc);
+    let mut changes = room_for_changes(alloc, darts.len(), links.dimension())?;
     for dart in darts {
         push_dart(links, link, beside, darts, *dart, &mut changes)?;
     }

@@ -10,6 +10,7 @@ ghost use Rattle.cell_edit.specs.Inserting.{PlansInsertion};
 ghost use Rattle.cell_edit.specs.Writing.{WritesEntries, Appends, copied, beyond, IsNewEntry, IsKeyEntry, IsCarriedEntry, AreReady, ArePairsOf};
 
 use crate::kinds::is_just_below;
+use crate::room::room_for_changes;
 use crate::stars::Stars;
 use link_rows::{Change, Edit, Links};
 use map_kind::{Dart, Kind};
@@ -60,7 +61,7 @@ fn carried_changes<K: Kind, const DIM: usize>(
     ensures { IfOk result (λ changes. WritesEntries (links_of links.now.rows)
         (IsCarriedEntry K.kind (links_of links.now.rows) link (star_of stars.now) (DIM + 1) stars.now.keys) changes.items) }
 {
-    let mut changes = Vec::new(alloc);
+    let mut changes = room_for_changes(alloc, stars.darts().len(), links.dimension())?;
     for dart in stars.darts() {
         push_dart(links, link, stars, *dart, &mut changes)?;
     }

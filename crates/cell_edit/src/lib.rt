@@ -13,6 +13,7 @@ mod face;
 mod insertion;
 mod kinds;
 mod path;
+mod room;
 mod stars;
 
 pub use along::{carried_darts, carrying_links, insertion_pairs, leads};
@@ -20,4 +21,5 @@ pub use crossing::are_commuting;
 pub use ending::ending_edit;
 pub use face::face_plan;
 pub use insertion::insertion_edit;
+pub use room::room_for_changes;
 pub use stars::Stars;

@@ -1,0 +1,13 @@
+ghost use Rattle.std.specs.Prelude.{◌≡◌, ◌≤◌, [], IfOk};
+
+use link_rows::Change;
+use std::alloc::{AllocError, Global};
+
+/// No changes yet, with room for those of so many darts of a map of dimension `dim`: one of each link, and one more, of the
+/// link that leads to the dart.
+pub fn room_for_changes(alloc: Global, darts: usize, dim: usize) -> Result<Vec<Change>, AllocError>
+    requires { dim ≤ 8 }
+    ensures { IfOk result (λ changes. changes.items ≡ []) }
+{
+    Vec::with_capacity(alloc, darts.saturating_mul(dim + 2))
+}
