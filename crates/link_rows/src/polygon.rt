@@ -35,12 +35,14 @@ pub fn polygon_edit<K: Kind, const DIM: usize>(
     ensures laws { IfOk result (λ edit. Laws K.kind (links_of links.now.rows) → Laws K.kind (links_of (after_edit DIM edit links.now.rows))) }
 {
     let first = links.made() + 1;
-    let mut changes = Vec::new(alloc);
+    let births = K::per_side() * sides;
+    // Each dart gets two links.
+    let mut changes = Vec::with_capacity(alloc, births as usize * 2)?;
     for side in 0..sides {
         push_side::<K>(&mut changes, first, sides, side)?;
     }
     Ok(Edit {
-        births: K::per_side() * sides,
+        births,
         deaths: Vec::new(alloc),
         changes,
     })
