@@ -1,12 +1,12 @@
-ghost use Rattle.std.specs.Prelude.{◌≡◌, ℕ, ◌+◌, ◌^◌, ◌≤◌, ◌<◌, ◌↔◌, [], ◌∷◌, None, reverse, map, option_map, IsTrue, IfSome, IfNone, IsOk, OnOk, OnErr, IsErrOf};
-ghost use Rattle.map_defs.specs.Rows.{links_of};
+ghost use Rattle.std.specs.Prelude.{◌≡◌, ℕ, ◌+◌, ◌^◌, ◌≤◌, ◌<◌, ◌↔◌, [], ◌∷◌, None, reverse, map, option_map, option_copied, IsTrue, IfSome, IfNone, IsOk, OnOk, OnErr, IsErrOf};
+ghost use Rattle.map_defs.specs.Rows.{entry_of, links_of};
 ghost use Rattle.map_defs.specs.Edits.{free_row, with_entry};
 ghost use Rattle.dart_arena.specs.Stock.{made, row_at, IsLive, live_count, IsStock, born, unborn, buried, revived, IsNextLive};
 
 use crate::places::Places;
 use crate::row::Row;
 use crate::slots::{
-    entry_in, fill_rows, give_row, remove_dead, set_in_row, take_row, turn_row, widen,
+    entry_in, fill_rows, give_row, remove_dead, row_in, set_in_row, take_row, turn_row, widen,
 };
 use map_kind::Dart;
 use slab::Slab;
@@ -117,6 +117,14 @@ impl<const DIM: usize> Arena<DIM> {
         ensures { result ≡ links_of self.now.rows link dart }
     {
         entry_in(&self.rows, self.places.key_to_read(place(dart)), link)
+    }
+
+    /// The row of a dart, to read its entries from; where none is answered, all entries are 0, as those of a dart that is
+    /// not live are.
+    pub fn row(&self, dart: Dart) -> Option<&Row<DIM>>
+        ensures { (link : ℕ) → entry_of (option_copied result) link ≡ links_of self.now.rows link dart }
+    {
+        row_in(&self.rows, self.places.key_to_read(place(dart)))
     }
 
     /// The least live dart above a number; none exactly where no dart above it is live. It costs the darts that it

@@ -11,3 +11,4 @@ mod slots;
 mod tests;
 
 pub use arena::{Arena, DIM_MAX, MADE_MAX, ReserveFault};
+pub use row::Row;

@@ -23,7 +23,7 @@ impl<const DIM: usize> Model for Row<DIM> {
 
 impl<const DIM: usize> Row<DIM> {
     /// The row of a dart without links.
-    pub fn zeros() -> Self
+    pub(crate) fn zeros() -> Self
         ensures { result ≡ free_row DIM }
     {
         Row {
@@ -33,7 +33,7 @@ impl<const DIM: usize> Row<DIM> {
     }
 
     /// A row with the same entries.
-    pub fn copy(&self) -> Self
+    pub(crate) fn copy(&self) -> Self
         ensures { result ≡ self.now }
     {
         Row {
@@ -63,7 +63,7 @@ impl<const DIM: usize> Row<DIM> {
     }
 
     /// Puts an entry at a link.
-    pub fn set(&mut self, link: usize, to: u32)
+    pub(crate) fn set(&mut self, link: usize, to: u32)
         requires { link ≤ DIM }
         ensures { self.new ≡ slice_set self.old link to }
     {
@@ -75,7 +75,7 @@ impl<const DIM: usize> Row<DIM> {
     }
 
     /// Turns the row round: entry i becomes entry `DIM` - i.
-    pub fn reverse(&mut self)
+    pub(crate) fn reverse(&mut self)
         ensures { self.new ≡ reverse self.old }
     {
         let mut turned = Row::zeros();

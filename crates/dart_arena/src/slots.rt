@@ -1,5 +1,5 @@
 //! The rows of an arena in their slab.
-ghost use Rattle.std.specs.Prelude.{◌≡◌, ◌≢◌, ℕ, ◌+◌, ◌*◌, ◌^◌, ◌≤◌, ◌<◌, Some, None, IsSome, true, false, length, reverse, slice_set, OnOk, OnErr};
+ghost use Rattle.std.specs.Prelude.{◌≡◌, ◌≢◌, ℕ, ◌+◌, ◌*◌, ◌^◌, ◌≤◌, ◌<◌, Some, None, IsSome, true, false, option_copied, length, reverse, slice_set, OnOk, OnErr};
 ghost use Rattle.slab.specs.Slab.{get, slab_len, HasRoomFor};
 ghost use Rattle.map_defs.specs.Rows.{entry_of};
 ghost use Rattle.map_defs.specs.Edits.{free_row};
@@ -24,6 +24,16 @@ pub fn entry_in<const DIM: usize>(rows: &Slab<Row<DIM>>, key: usize, link: usize
         Some(row) => row.entry(link),
         None => 0,
     }
+}
+
+/// The row under a key, if there is one.
+pub fn row_in<const DIM: usize>(rows: &Slab<Row<DIM>>, key: usize) -> Option<&Row<DIM>>
+    ensures { option_copied result ≡ row_under rows.now key }
+{
+    if key == 0 {
+        return None;
+    }
+    rows.get(key - 1)
 }
 
 /// Takes a row of zeros for the dart at a place, and answers its key. While rows stand in the order of their places, it

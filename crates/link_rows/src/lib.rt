@@ -11,7 +11,7 @@ mod steps;
 mod tests;
 
 pub use builder::LinkBuilder;
-pub use dart_arena::{MADE_MAX, ReserveFault};
+pub use dart_arena::{MADE_MAX, ReserveFault, Row};
 pub use edit::{Change, Edit};
 pub use links::Links;
 pub use polygon::{SIDES_MAX, next_side, polygon_edit, previous_side};

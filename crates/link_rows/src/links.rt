@@ -1,6 +1,6 @@
-ghost use Rattle.std.specs.Prelude.{◌≡◌, ℕ, ◌+◌, ◌-◌, ◌≤◌, ◌<◌, ◌↔◌, [], ◌∷◌, None, length, map, option_map, reverse, IsNone, IsOk, IsTrue, IfSome, IfNone, OnOk, OnErr, IsErrOf};
+ghost use Rattle.std.specs.Prelude.{◌≡◌, ℕ, ◌+◌, ◌-◌, ◌≤◌, ◌<◌, ◌↔◌, [], ◌∷◌, None, length, map, option_map, option_copied, reverse, IsNone, IsOk, IsTrue, IfSome, IfNone, OnOk, OnErr, IsErrOf};
 ghost use Rattle.map_defs.specs.Kind.{alpha, beta};
-ghost use Rattle.map_defs.specs.Rows.{Rows, links_of, made, live_count, IsLive, IsSound};
+ghost use Rattle.map_defs.specs.Rows.{Rows, entry_of, links_of, made, live_count, IsLive, IsSound};
 ghost use Rattle.map_defs.specs.Laws.{Laws};
 ghost use Rattle.map_defs.specs.Edits.{after_edit, before_edit, Fits, IsLed};
 ghost use Rattle.map_defs.specs.Dual.{IsDualable, IsDual};
@@ -8,7 +8,7 @@ ghost use Rattle.dart_arena.specs.Stock.{IsNextLive};
 
 use crate::edit::Edit;
 use crate::{dual, steps};
-use dart_arena::{Arena, MADE_MAX, ReserveFault};
+use dart_arena::{Arena, MADE_MAX, ReserveFault, Row};
 use map_kind::{Alpha, Beta, Dart, Kind};
 use std::alloc::Global;
 use std::marker::{Model, PhantomData};
@@ -123,6 +123,14 @@ impl<K: Kind, const DIM: usize> Links<K, DIM> {
         ensures { result ≡ links_of self.now.rows link dart }
     {
         self.rows.entry(dart, link)
+    }
+
+    /// The row of a dart, to read from it the number of the dart at each link; where none is answered, all links are free,
+    /// as those of a dart that is not live are.
+    pub fn row(&self, dart: Dart) -> Option<&Row<DIM>>
+        ensures { (link : ℕ) → entry_of (option_copied result) link ≡ links_of self.now.rows link dart }
+    {
+        self.rows.row(dart)
     }
 
     /// Whether a link of a live dart is free.
