@@ -167,6 +167,9 @@ walked-all L Words d start next found past shut walk y = (walk.reached y, all)
     all (inl has) = early y has
     all (inr o) = whole y o
 
+pub Contains-none : (d : ℕ) → Contains [] d → ⊥
+Contains-none d has = absurd (omega (arith, has.1))
+
 -- nothing leads on from no darts
 pub closed-none : (Step : ℕ → ℕ → Type 0) → IsClosed Step []
 closed-none Step x y has step = absurd (omega (arith, has.1))

@@ -1,10 +1,13 @@
 -- Orbits along two words that take turns, which are paths and rings: what makes words take turns, and what a walk along
 -- them finds.
-use Rattle.std.specs.Prelude.{ℕ, ◌≡◌, ◌≢◌, ◌⊎◌, List, length, take, Contains}
+use Rattle.std.specs.Prelude.{ℕ, ◌≡◌, ◌≢◌, ◌⊎◌, ◌↔◌, List, length, take, Contains}
 use Rattle.map_defs.specs.Kind.{Kind}
 use Rattle.map_defs.specs.Links.{Links}
 use Rattle.map_defs.specs.LinkWords.{LinkWord, through, inverse_word}
 use Rattle.map_defs.specs.Cells.{InOrbit, Leads}
+use Rattle.cell_walk.specs.declared.ways.Ways.{Ways}
+use Rattle.cell_walk.specs.declared.ways.Course.{Course}
+use Rattle.cell_walk.specs.declared.ways.Course.TheVariants.{Round, Spread}
 
 -- one of two words
 abbrev pub IsEither : LinkWord → LinkWord → LinkWord → Type 0
@@ -20,6 +23,16 @@ pub record AreWays (k : Kind) (f g b c : LinkWord) : Type 0 where
   pub back : IsEither f b c
   pub forth_turns : (w : LinkWord) → IsEither f b w → TakesTurns k f g w
   pub back_turns : (w : LinkWord) → IsEither f b w → TakesTurns k b c w
+
+-- The ways go along just these words, and take turns.
+pub record AreAlong (k : Kind) (words : List LinkWord) (ways : Ways) : Type 0 where
+  pub same : (w : LinkWord) → Contains words w ↔ IsEither ways.forth.next ways.back.next w
+  pub turns : AreWays k ways.forth.next ways.forth.after ways.back.next ways.back.after
+
+-- walks along these words may go so
+abbrev pub IsCourse : Kind → List LinkWord → Course → Type 0
+IsCourse k words (Round ways) = AreAlong k words ways
+IsCourse k words Spread = Unit {0}
 
 -- The way from d along p and q in turn was followed, after some darts were found before: what was found since lies on it,
 -- and what leads on from there was found, and so was what p leads to from d.

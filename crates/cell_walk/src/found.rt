@@ -1,6 +1,5 @@
 ghost use Rattle.std.specs.Prelude.{◌≡◌, ℕ, ◌≤◌, ◌<◌, ◌^◌, ◌↔◌, [], ◌∷◌, ◌++◌, length, take, slice_index, Contains, IsTrue, IfOk, OnOk};
 ghost use Rattle.std.specs.List.Sorted.{IsStrictlyIncreasing};
-ghost use Rattle.cell_walk.specs.Visits.{IsDartAdded};
 
 use crate::seen::{Seen, make_room};
 use map_kind::Dart;
@@ -66,16 +65,6 @@ impl<S: Seen> Found<S> {
         ensures { IsTrue result ↔ Contains self.now dart }
     {
         self.seen.contains(dart)
-    }
-
-    /// Adds a dart, unless it was found before.
-    pub(crate) fn add(&mut self, dart: Dart) -> Result<(), AllocError>
-        ensures { OnOk result (IsDartAdded self.old self.new dart) }
-    {
-        if self.seen.contains(dart) {
-            return Ok(());
-        }
-        self.put(dart)
     }
 
     /// Adds a dart that was not found before. There are never more than a vector can hold.

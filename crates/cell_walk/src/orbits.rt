@@ -4,11 +4,12 @@ ghost use Rattle.map_defs.specs.Rows.{links_of};
 ghost use Rattle.map_defs.specs.LinkWords.{LinkWord as MapWord, through, IsWithin};
 ghost use Rattle.map_defs.specs.Cells.{InOrbit, Leads};
 ghost use Rattle.cell_walk.specs.Visits.{IsVisited, IsClosed};
+ghost use Rattle.cell_walk.specs.Ways.{IsCourse};
 ghost use Rattle.cell_walk.specs.CellLists.{AreOrbitsOf, lists_of};
 
 use crate::found::Found;
 use crate::seen::{Few, Seen};
-use crate::ways::{go_round, ways_along};
+use crate::ways::{Course, course_along, go_round};
 use link_rows::Links;
 use map_kind::{Dart, Kind, LinkWord};
 use std::alloc::{AllocError, Global};
@@ -28,8 +29,9 @@ pub fn orbit<K: Kind, const DIM: usize>(
         → Contains orbit.items y ↔ InOrbit (Leads (links_of links.now.rows) (Contains words.now)) dart y) }
     ensures ascending { IfOk result (λ orbit. IsStrictlyIncreasing orbit.items) }
 {
+    let course = course_along::<K>(words);
     let mut found = Found::<Few>::new(alloc);
-    walk(links, words, dart, &mut found)?;
+    walk(links, words, &course, dart, &mut found)?;
     Ok(found.into_ascending())
 }
 
@@ -48,9 +50,10 @@ pub fn orbits_of<K: Kind, const DIM: usize>(
         ↔ ((d : ℕ) × Contains darts.now d × InOrbit (Leads (links_of links.now.rows) (Contains words.now)) d y)) }
     ensures ascending { IfOk result (λ orbits. IsStrictlyIncreasing orbits.items) }
 {
+    let course = course_along::<K>(words);
     let mut found = Found::<Few>::new(alloc);
     for dart in darts {
-        walk(links, words, *dart, &mut found)?;
+        walk_unless(links, words, &course, *dart, &mut found)?;
     }
     Ok(found.into_ascending())
 }
@@ -65,36 +68,61 @@ pub(crate) fn each_orbit<K: Kind, const DIM: usize>(
     requires { All (IsWithin DIM) words.now }
     ensures { IfOk result (λ orbits. AreOrbitsOf (Leads (links_of links.now.rows) (Contains words.now)) darts.now (lists_of orbits.items)) }
 {
+    let course = course_along::<K>(words);
     let mut found = Found::<Few>::new(alloc);
     let mut orbits = Vec::with_capacity(alloc, darts.len())?;
     for first in darts {
         found.restart(0)?;
-        walk(links, words, *first, &mut found)?;
+        walk(links, words, &course, *first, &mut found)?;
         orbits.push(found.ascending_since(alloc, 0)?)?;
     }
     Ok(orbits)
 }
 
-/// Finds the orbit of a dart, besides what was found before. Where a word leads from a dart found before, it led to one.
-pub(crate) fn walk<S: Seen, K: Kind, const DIM: usize>(
+/// Finds the orbit of a dart, besides what was found before, unless the dart was.
+fn walk_unless<S: Seen, K: Kind, const DIM: usize>(
     links: &Links<K, DIM>,
     words: &[LinkWord],
+    course: &Course,
     dart: Dart,
     found: &mut Found<S>,
 ) -> Result<(), AllocError>
     requires within { All (IsWithin DIM) words.now }
+    requires course { IsCourse K.kind words.now course.now }
     requires closed { IsClosed (Leads (links_of links.now.rows) (Contains words.now)) found.old }
+    ensures { OnOk result ((y : ℕ)
+        → Contains found.new y ↔ (Contains found.old y ⊎ InOrbit (Leads (links_of links.now.rows) (Contains words.now)) dart y)) }
+{
+    if found.contains(dart) {
+        return Ok(());
+    }
+    walk(links, words, course, dart, found)
+}
+
+/// Finds the orbit of a dart that was not found before, besides what was. Where a word leads from a dart found before, it
+/// led to one.
+pub(crate) fn walk<S: Seen, K: Kind, const DIM: usize>(
+    links: &Links<K, DIM>,
+    words: &[LinkWord],
+    course: &Course,
+    dart: Dart,
+    found: &mut Found<S>,
+) -> Result<(), AllocError>
+    requires within { All (IsWithin DIM) words.now }
+    requires course { IsCourse K.kind words.now course.now }
+    requires closed { IsClosed (Leads (links_of links.now.rows) (Contains words.now)) found.old }
+    requires fresh { Contains found.old dart → ⊥ }
     ensures members { OnOk result ((y : ℕ)
         → Contains found.new y ↔ (Contains found.old y ⊎ InOrbit (Leads (links_of links.now.rows) (Contains words.now)) dart y)) }
     ensures before { OnOk result (take (length found.old) found.new ≡ found.old) }
 {
-    match ways_along::<K>(words) {
-        Some(ways) => go_round(links, ways, dart, found),
-        None => spread(links, words, dart, found),
+    match course {
+        Course::Round(ways) => go_round(links, ways, dart, found),
+        Course::Spread => spread(links, words, dart, found),
     }
 }
 
-/// Finds the orbit of a dart by looking where all words lead from each dart that is found.
+/// Finds the orbit of a dart that was not found before, by looking where all words lead from each dart that is found.
 fn spread<S: Seen, K: Kind, const DIM: usize>(
     links: &Links<K, DIM>,
     words: &[LinkWord],
@@ -103,12 +131,13 @@ fn spread<S: Seen, K: Kind, const DIM: usize>(
 ) -> Result<(), AllocError>
     requires within { All (IsWithin DIM) words.now }
     requires closed { IsClosed (Leads (links_of links.now.rows) (Contains words.now)) found.old }
+    requires fresh { Contains found.old dart → ⊥ }
     ensures members { OnOk result ((y : ℕ)
         → Contains found.new y ↔ (Contains found.old y ⊎ InOrbit (Leads (links_of links.now.rows) (Contains words.now)) dart y)) }
     ensures before { OnOk result (take (length found.old) found.new ≡ found.old) }
 {
     let mut next = found.len();
-    found.add(dart)?;
+    found.put(dart)?;
     while next < found.len() {
         visit(links, words, found.at(next), found)?;
         next += 1;

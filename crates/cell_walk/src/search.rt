@@ -27,7 +27,7 @@ pub fn reaches<K: Kind, const DIM: usize>(
         ↔ InOrbit (Leads (links_of links.now.rows) (Contains words.now)) one other) }
 {
     let mut found = Found::<Few>::new(alloc);
-    found.add(one)?;
+    found.put(one)?;
     let mut next = 0;
     while next < found.len() {
         if found.contains(other) {

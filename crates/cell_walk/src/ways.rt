@@ -4,7 +4,7 @@ ghost use Rattle.map_defs.specs.Rows.{links_of};
 ghost use Rattle.map_defs.specs.LinkWords.{LinkWord as MapWord, through, inverse_word, IsWithin};
 ghost use Rattle.map_defs.specs.Cells.{InOrbit, Leads};
 ghost use Rattle.cell_walk.specs.Visits.{IsClosed};
-ghost use Rattle.cell_walk.specs.Ways.{IsEither, AreWays, IsFollowed};
+ghost use Rattle.cell_walk.specs.Ways.{IsEither, AreWays, IsCourse, IsFollowed};
 
 use crate::found::Found;
 use crate::orbits::follow;
@@ -39,9 +39,28 @@ pub(crate) struct Ways {
     pub(crate) back: Way,
 }
 
+/// How walks go along some words: told once for many orbits.
+#[derive(Clone, Copy)]
+pub(crate) enum Course {
+    /// The words take turns, so that orbits are paths and rings.
+    Round(Ways),
+    /// All words are looked along from each dart.
+    Spread,
+}
+
+/// How walks go along some words.
+pub(crate) fn course_along<K: Kind>(words: &[LinkWord]) -> Course
+    ensures { IsCourse K.kind words.now result }
+{
+    match ways_along::<K>(words) {
+        Some(ways) => Course::Round(ways),
+        None => Course::Spread,
+    }
+}
+
 /// The ways along two words where each dart's words are one that leads back and one that leads on: the words are inverse to
 /// each other, or each to itself. Then orbits are paths and rings, such as the cells of a surface.
-pub(crate) fn ways_along<K: Kind>(words: &[LinkWord]) -> Option<Ways>
+fn ways_along<K: Kind>(words: &[LinkWord]) -> Option<Ways>
     ensures same { IfSome result (λ ways. (w : MapWord)
         → Contains words.now w ↔ IsEither ways.forth.next ways.back.next w) }
     ensures turns { IfSome result (λ ways.
@@ -89,23 +108,21 @@ fn inverse_word<K: Kind>(word: LinkWord) -> LinkWord
     }
 }
 
-/// Finds the path or the ring of a dart, besides what was found before.
+/// Finds the path or the ring of a dart that was not found before, besides what was.
 pub(crate) fn go_round<S: Seen, K: Kind, const DIM: usize>(
     links: &Links<K, DIM>,
-    ways: Ways,
+    ways: &Ways,
     dart: Dart,
     found: &mut Found<S>,
 ) -> Result<(), AllocError>
-    requires within { (w : MapWord) → IsEither ways.forth.next ways.back.next w → IsWithin DIM w }
-    requires turns { AreWays K.kind ways.forth.next ways.forth.after ways.back.next ways.back.after }
-    requires closed { IsClosed (Leads (links_of links.now.rows) (IsEither ways.forth.next ways.back.next)) found.old }
+    requires within { (w : MapWord) → IsEither ways.now.forth.next ways.now.back.next w → IsWithin DIM w }
+    requires turns { AreWays K.kind ways.now.forth.next ways.now.forth.after ways.now.back.next ways.now.back.after }
+    requires closed { IsClosed (Leads (links_of links.now.rows) (IsEither ways.now.forth.next ways.now.back.next)) found.old }
+    requires fresh { Contains found.old dart → ⊥ }
     ensures members { OnOk result ((y : ℕ) → Contains found.new y ↔ (Contains found.old y
-        ⊎ InOrbit (Leads (links_of links.now.rows) (IsEither ways.forth.next ways.back.next)) dart y)) }
+        ⊎ InOrbit (Leads (links_of links.now.rows) (IsEither ways.now.forth.next ways.now.back.next)) dart y)) }
     ensures before { OnOk result (take (length found.old) found.new ≡ found.old) }
 {
-    if found.contains(dart) {
-        return Ok(());
-    }
     found.put(dart)?;
     follow_way(links, ways.forth, dart, found)?;
     follow_way(links, ways.back, dart, found)

@@ -7,10 +7,12 @@ ghost use Rattle.map_defs.specs.Cells.{Leads, NamesCell, NamesComponent};
 ghost use Rattle.map_defs.specs.Counts.{AreCounts};
 ghost use Rattle.cell_walk.specs.Surveys.{TurnsBack, IsLeast, IsSurveyed};
 ghost use Rattle.cell_walk.specs.CellLists.{AreCellsOf, AreOrbitsOf, lists_of};
+ghost use Rattle.cell_walk.specs.Ways.{IsCourse};
 
 use crate::found::Found;
 use crate::orbits::walk;
 use crate::seen::Marks;
+use crate::ways::{Course, course_along};
 use link_rows::Links;
 use map_kind::{Dart, Kind, LinkWord};
 use std::alloc::{AllocError, Global};
@@ -138,9 +140,11 @@ fn least_darts<K: Kind, const DIM: usize>(
     ensures ascending { IfOk result (λ darts. IsStrictlyIncreasing darts.items) }
 {
     found.restart(links.made())?;
+    let course = course_along::<K>(words);
     let mut least = Vec::new(alloc);
     for number in 1..links.made() + 1 {
-        take_least(links, words, Dart::new(number).unwrap(), found, &mut least)?;
+        let dart = Dart::new(number).unwrap();
+        take_least(links, words, &course, dart, found, &mut least)?;
     }
     Ok(least)
 }
@@ -149,12 +153,14 @@ fn least_darts<K: Kind, const DIM: usize>(
 fn take_least<K: Kind, const DIM: usize>(
     links: &Links<K, DIM>,
     words: &[LinkWord],
+    course: &Course,
     dart: Dart,
     found: &mut Found<Marks>,
     least: &mut Vec<Dart>,
 ) -> Result<(), AllocError>
     requires sound { IsSound K.kind DIM links.now.rows }
     requires within { All (IsWithin DIM) words.now }
+    requires course { IsCourse K.kind words.now course.now }
     requires turns { TurnsBack (Leads (links_of links.now.rows) (Contains words.now)) }
     requires before { IsSurveyed (Leads (links_of links.now.rows) (Contains words.now)) (IsLive links.now.rows)
         dart found.old least.old.items }
@@ -168,7 +174,7 @@ fn take_least<K: Kind, const DIM: usize>(
         return Ok(());
     }
     least.push(dart)?;
-    walk(links, words, dart, found)
+    walk(links, words, course, dart, found)
 }
 
 /// All orbits under words whose steps can be taken back, each with its darts.
@@ -187,6 +193,7 @@ fn orbit_lists<K: Kind, const DIM: usize>(
     let mut found = Found::<Marks>::new(alloc);
     let made = links.made();
     found.restart(made)?;
+    let course = course_along::<K>(words);
     let mut orbits = CellLists {
         least: Vec::new(alloc),
         darts: Vec::new(alloc),
@@ -196,6 +203,7 @@ fn orbit_lists<K: Kind, const DIM: usize>(
             alloc,
             links,
             words,
+            &course,
             Dart::new(number).unwrap(),
             &mut found,
             &mut orbits,
@@ -209,12 +217,14 @@ fn take_orbit<K: Kind, const DIM: usize>(
     alloc: Global,
     links: &Links<K, DIM>,
     words: &[LinkWord],
+    course: &Course,
     dart: Dart,
     found: &mut Found<Marks>,
     orbits: &mut CellLists,
 ) -> Result<(), AllocError>
     requires sound { IsSound K.kind DIM links.now.rows }
     requires within { All (IsWithin DIM) words.now }
+    requires course { IsCourse K.kind words.now course.now }
     requires turns { TurnsBack (Leads (links_of links.now.rows) (Contains words.now)) }
     requires before { IsSurveyed (Leads (links_of links.now.rows) (Contains words.now)) (IsLive links.now.rows)
         dart found.old orbits.old.least.items }
@@ -230,7 +240,7 @@ fn take_orbit<K: Kind, const DIM: usize>(
         return Ok(());
     }
     let known = found.len();
-    walk(links, words, dart, found)?;
+    walk(links, words, course, dart, found)?;
     orbits.least.push(dart)?;
     orbits.darts.push(found.ascending_since(alloc, known)?)?;
     Ok(())

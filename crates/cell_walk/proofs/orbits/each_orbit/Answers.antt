@@ -1,7 +1,7 @@
 use Rattle.std.proofs.Common.{Contains, lit<}
 use Rattle.map_defs.specs.Rows.{links_of}
 use Rattle.map_defs.specs.Cells.{InOrbit, Leads}
-use Rattle.cell_walk.proofs.Walks.{closed-none}
+use Rattle.cell_walk.proofs.Walks.{Contains-none, closed-none}
 use Rattle.cell_walk.proofs.ListedCells.{lists-none, lists-on, lists-all, orbit-since}
 use Rattle.cell_walk.proofs.orbits.each_orbit.Goals as goal
 
@@ -10,7 +10,7 @@ loop-first-init g c = rw c.in_ok-orbits.ensures.items (lists-none (InOrbit (Lead
 
 pub walk-requires : goal.walk-requires
 walk-requires g c =
-    (lit< tt, (c.requires, rw c.in_ok-restart.ensures (closed-none (Leads (links_of c.args.links.now.rows) (Contains c.args.words.now)))))
+    (lit< tt, (c.requires, (c.course_along-course.ensures, (rw c.in_ok-restart.ensures (closed-none (Leads (links_of c.args.links.now.rows) (Contains c.args.words.now))), rw c.in_ok-restart.ensures (Contains-none c.first-item.result)))))
 
 pub loop-first-preserved : goal.loop-first-preserved
 loop-first-preserved g c =

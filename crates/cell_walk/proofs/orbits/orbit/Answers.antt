@@ -1,12 +1,12 @@
 use Rattle.std.proofs.Common.{Contains, inr, lit<}
 use Rattle.map_defs.specs.Rows.{links_of}
 use Rattle.map_defs.specs.Cells.{Leads}
-use Rattle.cell_walk.proofs.Walks.{closed-none, orbit-alone}
+use Rattle.cell_walk.proofs.Walks.{Contains-none, closed-none, orbit-alone}
 use Rattle.cell_walk.proofs.orbits.orbit.Goals as goal
 
 pub walk-requires : goal.walk-requires
 walk-requires g c =
-    (lit< tt, (c.requires, rw c.new-found.ensures (closed-none (Leads (links_of c.args.links.now.rows) (Contains c.args.words.now)))))
+    (lit< tt, (c.requires, (c.course_along-course.ensures, (rw c.new-found.ensures (closed-none (Leads (links_of c.args.links.now.rows) (Contains c.args.words.now))), rw c.new-found.ensures (Contains-none c.args.dart)))))
 
 pub returns-clause-members : goal.returns-clause-members
 returns-clause-members g c = λ y.

@@ -4,14 +4,14 @@ use Rattle.map_defs.specs.Cells.{Leads}
 use Rattle.cell_walk.proofs.ManyOrbits.{orbits-closed, orbits-more, orbits-all}
 use Rattle.cell_walk.proofs.orbits.orbits_of.Goals as goal
 
-pub walk-requires : goal.walk-requires
-walk-requires g c =
-    (lit< tt, (c.requires, orbits-closed (Leads (links_of c.args.links.now.rows) (Contains c.args.words.now)) (take c.loop-dart.dart-index c.args.darts.now) c.loop-dart.found c.loop-dart.invariant))
+pub walk_unless-requires : goal.walk_unless-requires
+walk_unless-requires g c =
+    (lit< tt, (c.requires, (c.course_along-course.ensures, orbits-closed (Leads (links_of c.args.links.now.rows) (Contains c.args.words.now)) (take c.loop-dart.dart-index c.args.darts.now) c.loop-dart.found c.loop-dart.invariant)))
 
 pub loop-dart-preserved : goal.loop-dart-preserved
 loop-dart-preserved g c =
-    orbits-more (Leads (links_of c.args.links.now.rows) (Contains c.args.words.now)) c.args.darts.now c.loop-dart.dart-index c.dart-item.result c.loop-dart.found c.walk.new.found
-    c.loop-dart-test.true c.dart-item.is c.loop-dart.invariant c.in_ok-walk.ensures.members
+    orbits-more (Leads (links_of c.args.links.now.rows) (Contains c.args.words.now)) c.args.darts.now c.loop-dart.dart-index c.dart-item.result c.loop-dart.found c.walk_unless.new.found
+    c.loop-dart-test.true c.dart-item.is c.loop-dart.invariant c.in_ok-walk_unless.ensures
 
 pub returns-clause-members : goal.returns-clause-members
 returns-clause-members g c = λ y.

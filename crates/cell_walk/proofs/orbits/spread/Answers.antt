@@ -1,4 +1,4 @@
-use Rattle.std.proofs.Common.{Contains, arith}
+use Rattle.std.proofs.Common.{Contains, inr, arith}
 use Rattle.map_defs.specs.Rows.{links_of}
 use Rattle.cell_walk.proofs.Walks.{walked-none, walked-more, walked-all}
 use Rattle.cell_walk.proofs.orbits.spread.Goals as goal
@@ -6,7 +6,7 @@ use Rattle.cell_walk.proofs.orbits.spread.Goals as goal
 pub loop-next-init : goal.loop-next-init
 loop-next-init g c =
     rw c.len-next.ensures
-    (walked-none (links_of c.args.links.now.rows) (Contains c.args.words.now) c.args.dart c.args.found.now c.add.new.self c.in_ok-add.ensures)
+    (walked-none (links_of c.args.links.now.rows) (Contains c.args.words.now) c.args.dart c.args.found.now c.put.new.self (inr (c.requires.fresh, c.in_ok-put.ensures.added)))
 
 pub loop-next-preserved : goal.loop-next-preserved
 loop-next-preserved g c =

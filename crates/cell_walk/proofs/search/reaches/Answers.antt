@@ -1,13 +1,13 @@
-use Rattle.std.proofs.Common.{[], Contains, arith}
+use Rattle.std.proofs.Common.{[], Contains, inr, arith}
 use Rattle.map_defs.specs.Rows.{links_of}
-use Rattle.cell_walk.proofs.Walks.{walked-none, walked-more, closed-none}
+use Rattle.cell_walk.proofs.Walks.{Contains-none, walked-none, walked-more, closed-none}
 use Rattle.cell_walk.proofs.ManyOrbits.{found-whole}
 use Rattle.map_defs.specs.Cells.{Leads}
 use Rattle.cell_walk.proofs.search.reaches.Goals as goal
 
 pub loop-next-init : goal.loop-next-init
 loop-next-init g c =
-    walked-none (links_of c.args.links.now.rows) (Contains c.args.words.now) c.args.one [] c.add.new.self (rw c.new-found.ensures at c.in_ok-add.ensures)
+    walked-none (links_of c.args.links.now.rows) (Contains c.args.words.now) c.args.one [] c.put.new.self (inr (Contains-none c.args.one, rw c.new-found.ensures at c.in_ok-put.ensures.added))
 
 pub loop-next-preserved : goal.loop-next-preserved
 loop-next-preserved g c =
