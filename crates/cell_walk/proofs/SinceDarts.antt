@@ -32,15 +32,15 @@ since-has darts place apart d = (to, from)
       | inr late ↦ (h.0.0 - place, omega (arith, h.0.1, length-drop place darts), get_or-drop place darts (h.0.0 - place) d ∙ (let e : place + (h.0.0 - place) ≡ h.0.0 = omega arith in rw e h.0.2))
     ]
 
-pub since-members : (Has : ℕ → Type 0) (darts sorted : List ℕ) (place : ℕ) → ListsOnce Has darts → IsPermutation (drop place darts) sorted
+pub since-members : (Told : List ℕ → Type 0) (darts sorted : List ℕ) (place : ℕ) → ListsOnce Told darts → IsPermutation (drop place darts) sorted
     → (d : ℕ) → Contains sorted d ↔ (Contains darts d × (Contains (take place darts) d → ⊥))
-since-members Has darts sorted place lists moved d =
+since-members Told darts sorted place lists moved d =
     let same = sorted-same (drop place darts) sorted moved d in
     let here = since-has darts place lists.apart d in
     (λ has. here.0 (same.0 has), λ h. same.1 (here.1 h))
 
-pub since-ascending : (Has : ℕ → Type 0) (darts sorted : List ℕ) (place : ℕ) → ListsOnce Has darts → IsPermutation (drop place darts) sorted → IsSorted nat_cmp sorted → IsStrictlyIncreasing sorted
-since-ascending Has darts sorted place lists moved ordered =
+pub since-ascending : (Told : List ℕ → Type 0) (darts sorted : List ℕ) (place : ℕ) → ListsOnce Told darts → IsPermutation (drop place darts) sorted → IsSorted nat_cmp sorted → IsStrictlyIncreasing sorted
+since-ascending Told darts sorted place lists moved ordered =
     ascending-distinct (drop place darts) sorted
     (IsDistinct-from_apart nat_eq (drop place darts) (λ i j d lt low.
     rw (get_or-drop place darts i d, get_or-drop place darts j d)

@@ -1,5 +1,5 @@
 -- What one visit of a walk adds to the darts that were found.
-use Rattle.std.specs.Prelude.{ℕ, ◌≡◌, ◌⊎◌, ◌↔◌, List, [], ◌∷◌, ◌++◌, length, take, Contains, nat_eq}
+use Rattle.std.specs.Prelude.{ℕ, ◌≡◌, ◌⊎◌, List, [], ◌∷◌, ◌++◌, length, take, Contains, nat_eq}
 use Rattle.std.specs.List.{IsDistinct}
 use Rattle.map_defs.specs.Links.{Links}
 use Rattle.map_defs.specs.LinkWords.{LinkWord}
@@ -15,10 +15,10 @@ pub record IsVisited (L : Links) (Words : LinkWord → Type 0) (x : ℕ) (old ne
   pub only : (y : ℕ) → Contains new y → Contains old y ⊎ Leads L Words x y
   pub all : (y : ℕ) → Leads L Words x y → Contains new y
 
--- the list has each dart once of which Has is true, and nothing else
-pub record ListsOnce (Has : ℕ → Type 0) (darts : List ℕ) : Type 0 where
+-- the list has each dart once, and just its darts are told
+pub record ListsOnce (Told : List ℕ → Type 0) (darts : List ℕ) : Type 0 where
   pub apart : IsDistinct nat_eq darts
-  pub same : (d : ℕ) → Has d ↔ Contains darts d
+  pub told : Told darts
 
 -- each step from a dart of the list leads to a dart of the list
 abbrev pub IsClosed : (ℕ → ℕ → Type 0) → List ℕ → Type 0

@@ -1,7 +1,7 @@
 ghost use Rattle.std.specs.Prelude.{◌≡◌, ℕ, ◌≤◌, ◌<◌, ◌^◌, ◌↔◌, [], ◌∷◌, ◌++◌, length, take, slice_index, Contains, IsTrue, IfOk, OnOk};
 ghost use Rattle.std.specs.List.Sorted.{IsStrictlyIncreasing};
 
-use crate::seen::{Seen, make_room};
+use crate::seen::Seen;
 use map_kind::Dart;
 use std::alloc::{AllocError, Global};
 use std::marker::Model;
@@ -21,7 +21,7 @@ impl<S: Seen> Model for Found<S> {
 
     ghost view = { λ found. found.darts.items };
 
-    ghost invariant = { λ found. ListsOnce (S.has found.seen) found.darts.items };
+    ghost invariant = { λ found. ListsOnce (S.tells found.seen) found.darts.items };
 }
 
 impl<S: Seen> Found<S> {
@@ -35,17 +35,15 @@ impl<S: Seen> Found<S> {
         }
     }
 
-    /// Forgets what was found, for another walk over a map whose darts are numbered up to `made`. The memory for so many is
-    /// taken now.
+    /// Forgets what was found, for another walk over a map whose darts are numbered up to `made`.
     pub(crate) fn restart(&mut self, made: u32) -> Result<(), AllocError>
         ensures { self.new ≡ [] }
     {
-        self.darts.clear();
-        self.seen.restart(made)?;
-        self.darts.reserve(made as usize)
+        self.seen.restart(&mut self.darts, made)
     }
 
     /// How many darts were found.
+    #[inline(always)]
     pub(crate) fn len(&self) -> usize
         ensures { result ≡ length self.now }
     {
@@ -53,6 +51,7 @@ impl<S: Seen> Found<S> {
     }
 
     /// The dart that was found after so many others.
+    #[inline(always)]
     pub(crate) fn at(&self, place: usize) -> Dart
         requires { place < length self.now }
         ensures { result ≡ slice_index self.now place }
@@ -61,10 +60,11 @@ impl<S: Seen> Found<S> {
     }
 
     /// Whether a dart was found.
+    #[inline(always)]
     pub(crate) fn contains(&self, dart: Dart) -> bool
         ensures { IsTrue result ↔ Contains self.now dart }
     {
-        self.seen.contains(dart)
+        self.seen.contains(&self.darts, dart)
     }
 
     /// Adds a dart that was not found before. There are never more than a vector can hold.
@@ -74,10 +74,7 @@ impl<S: Seen> Found<S> {
         ensures added { OnOk result (self.new ≡ self.old ++ dart ∷ []) }
         ensures few { OnOk result (length self.new < 2 ^ 64) }
     {
-        make_room(&mut self.darts)?;
-        self.seen.insert(dart)?;
-        self.darts.push_reserved(dart);
-        Ok(())
+        self.seen.put(&mut self.darts, dart)
     }
 
     /// The darts that were found since so many others were, ascending.

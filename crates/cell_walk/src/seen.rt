@@ -1,4 +1,4 @@
-ghost use Rattle.std.specs.Prelude.{◌≡◌, ℕ, ◌+◌, ◌<◌, ◌≤◌, ◌↔◌, ◌⊎◌, Contains, IsTrue, IfOk, OnOk, OnErr, vec_len, vec_capacity};
+ghost use Rattle.std.specs.Prelude.{◌≡◌, ℕ, List, ◌+◌, ◌<◌, ◌≤◌, ◌↔◌, [], ◌∷◌, ◌++◌, drop, Contains, IsTrue, OnOk, OnErr, vec_len, vec_capacity};
 ghost use Rattle.cell_walk.specs.Marks.{IsMarked};
 
 use map_kind::Dart;
@@ -8,71 +8,75 @@ use std::collections::BTreeSet;
 /// How many darts a walk may find before it keeps a set.
 const FEW: usize = 16;
 
-/// What knows which darts were found.
+/// What tells which darts were found, beside the list of these darts.
 pub(crate) trait Seen: Drop {
-    /// The dart was found.
-    ghost has: { Self → ℕ → Type 0 };
+    /// It tells just the darts of the list.
+    ghost tells: { Self → List ℕ → Type 0 };
 
     /// No dart found yet. It takes no memory.
     fn new(alloc: Global) -> Self
-        ensures { (d : ℕ) → has result d → ⊥ };
+        ensures { tells result [] };
 
-    /// Forgets all darts, for another walk over a map whose darts are numbered up to `made`.
-    fn restart(&mut self, made: u32) -> Result<(), AllocError>
-        ensures { (d : ℕ) → has self.new d → ⊥ };
+    /// Forgets all darts, for another walk over a map whose darts are numbered up to `made`, and makes room in the list for
+    /// as many as it needs then.
+    fn restart(&mut self, found: &mut Vec<Dart>, made: u32) -> Result<(), AllocError>
+        ensures empty { found.new.items ≡ [] }
+        ensures told { tells self.new [] };
 
     /// Whether a dart was found.
-    fn contains(&self, dart: Dart) -> bool
-        ensures { IsTrue result ↔ has self.now dart };
+    fn contains(&self, found: &[Dart], dart: Dart) -> bool
+        requires { tells self.now found.now }
+        ensures { IsTrue result ↔ Contains found.now dart };
 
-    /// Adds a dart.
-    fn insert(&mut self, dart: Dart) -> Result<(), AllocError>
-        ensures after { OnOk result ((d : ℕ) → has self.new d ↔ (has self.old d ⊎ (dart ≡ d))) }
-        ensures err { OnErr result ((d : ℕ) → has self.new d ↔ has self.old d) };
+    /// Puts a dart behind the list, and tells it from now on.
+    fn put(&mut self, found: &mut Vec<Dart>, dart: Dart) -> Result<(), AllocError>
+        requires { tells self.old found.old.items }
+        ensures put { OnOk result (found.new.items ≡ found.old.items ++ dart ∷ []) }
+        ensures kept { OnErr result (found.new.items ≡ found.old.items) }
+        ensures told { tells self.new found.new.items };
 }
 
-/// For a walk that costs what it finds, whatever the size of the map: the first few darts in a list, which is quickly
-/// looked through, and the others in a set.
+/// For a walk that costs what it finds, whatever the size of the map: the first few darts of the list are quickly looked
+/// through, and the others stand in a set.
 #[derive(Drop)]
 pub(crate) struct Few {
-    first: Vec<Dart>,
     more: BTreeSet<Dart>,
 }
 
 impl Seen for Few {
-    ghost has = { λ seen d. Contains seen.first.items d ⊎ Contains seen.more.keys d };
+    ghost tells = { λ seen found. (d : ℕ) → Contains seen.more.keys d ↔ Contains (drop 16 found) d };
 
     fn new(alloc: Global) -> Self {
         Few {
-            first: Vec::new(alloc),
             more: BTreeSet::new(alloc),
         }
     }
 
-    fn restart(&mut self, _made: u32) -> Result<(), AllocError> {
-        self.first.clear();
+    fn restart(&mut self, found: &mut Vec<Dart>, _made: u32) -> Result<(), AllocError> {
+        found.clear();
         self.more.clear();
         Ok(())
     }
 
-    fn contains(&self, dart: Dart) -> bool {
-        self.first.contains(&dart) || self.more.contains(&dart)
+    fn contains(&self, found: &[Dart], dart: Dart) -> bool {
+        if found.len() <= FEW {
+            return found.contains(&dart);
+        }
+        found[..FEW].contains(&dart) || self.more.contains(&dart)
     }
 
-    fn insert(&mut self, dart: Dart) -> Result<(), AllocError> {
-        if self.first.len() < FEW {
-            make_room(&mut self.first)?;
-            self.first.push_reserved(dart);
-        } else {
+    fn put(&mut self, found: &mut Vec<Dart>, dart: Dart) -> Result<(), AllocError> {
+        make_room(found)?;
+        if found.len() >= FEW {
             self.more.insert(dart)?;
         }
+        found.push_reserved(dart);
         Ok(())
     }
 }
 
 /// Makes room for one more dart, and for a few at first.
-#[inline(always)]
-pub(crate) fn make_room(darts: &mut Vec<Dart>) -> Result<(), AllocError>
+fn make_room(darts: &mut Vec<Dart>) -> Result<(), AllocError>
     ensures items { darts.new.items ≡ darts.old.items }
     ensures room { OnOk result (vec_len darts.new + 1 ≤ vec_capacity darts.new) }
 {
@@ -83,14 +87,15 @@ pub(crate) fn make_room(darts: &mut Vec<Dart>) -> Result<(), AllocError>
     darts.reserve(more)
 }
 
-/// For walks over the whole map: a mark at the place of each dart's number. The memory for it is taken when a walk begins.
+/// For walks over the whole map: a mark at the place of each dart's number. All memory is taken when a walk begins, so that
+/// a dart is put quickly: a dart beyond those of the map, or one too many, would be refused as if there were no memory.
 #[derive(Drop)]
 pub(crate) struct Marks {
     marks: Vec<bool>,
 }
 
 impl Seen for Marks {
-    ghost has = { λ seen d. IsMarked seen.marks.items d };
+    ghost tells = { λ seen found. (d : ℕ) → IsMarked seen.marks.items d ↔ Contains found d };
 
     fn new(alloc: Global) -> Self {
         Marks {
@@ -98,33 +103,27 @@ impl Seen for Marks {
         }
     }
 
-    fn restart(&mut self, made: u32) -> Result<(), AllocError> {
+    fn restart(&mut self, found: &mut Vec<Dart>, made: u32) -> Result<(), AllocError> {
+        found.clear();
         self.marks.clear();
-        make_place(&mut self.marks, made)
+        self.marks.resize(made as usize + 1, false)?;
+        found.reserve(made as usize)
     }
 
-    fn contains(&self, dart: Dart) -> bool {
+    #[inline(always)]
+    fn contains(&self, _found: &[Dart], dart: Dart) -> bool {
         let place = dart.number() as usize;
         place < self.marks.len() && self.marks[place]
     }
 
-    fn insert(&mut self, dart: Dart) -> Result<(), AllocError> {
-        let place = dart.number();
-        if place as usize >= self.marks.len() {
-            make_place(&mut self.marks, place)?;
+    #[inline(always)]
+    fn put(&mut self, found: &mut Vec<Dart>, dart: Dart) -> Result<(), AllocError> {
+        let place = dart.number() as usize;
+        if place >= self.marks.len() || found.len() >= found.capacity() {
+            return Err(AllocError);
         }
-        self.marks[place as usize] = true;
+        self.marks[place] = true;
+        found.push_reserved(dart);
         Ok(())
     }
-}
-
-/// Lengthens the marks, where they end before a place.
-fn make_place(marks: &mut Vec<bool>, place: u32) -> Result<(), AllocError>
-    ensures long { OnOk result (place < vec_len marks.new) }
-    ensures same { (d : ℕ) → IsMarked marks.new.items d ↔ IsMarked marks.old.items d }
-{
-    if (place as usize) < marks.len() {
-        return Ok(());
-    }
-    marks.resize(place as usize + 1, false)
 }

@@ -3,4 +3,4 @@ use Rattle.cell_walk.proofs.found.Found.into_ascending.Goals as goal
 
 pub returns-clause-ascending : goal.returns-clause-ascending
 returns-clause-ascending g c =
-    listed-ascending (g.S.Seen.has c.self.inside.seen) c.self.inside.darts.items c.sort_unstable.new.self.items c.self.invariant c.sort_unstable.ensures.permutation c.sort_unstable.ensures.sorted
+    listed-ascending (g.S.Seen.tells c.self.inside.seen) c.self.inside.darts.items c.sort_unstable.new.self.items c.self.invariant c.sort_unstable.ensures.permutation c.sort_unstable.ensures.sorted
