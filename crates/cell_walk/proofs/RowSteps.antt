@@ -1,5 +1,6 @@
 -- The steps along the words of a map: they lead to live darts.
-use Rattle.std.proofs.Common.{◌≡◌, ◌≢◌, ℕ, ◌+◌, ◌≤◌, ◌<◌, ◌⊎◌, length, List, is_some, Option, Some, None, sym, ap, ◌∙◌, subst, inl, inr, arith}
+use Rattle.std.proofs.Common.{◌≡◌, ◌≢◌, ℕ, ◌+◌, ◌*◌, ◌≤◌, ◌<◌, ◌⊎◌, length, List, is_some, Option, Some, None, sym, ap, ◌∙◌, subst, inl, inr, arith}
+use prog.Memory.{up}
 use Rattle.std.proofs.lemmas.Bool.{cases_lt, false≢true}
 use Rattle.std.proofs.lemmas.List.{get_or_past}
 use Rattle.map_defs.specs.Kind.{Kind}
@@ -20,6 +21,10 @@ rows-walkable k n rows Words sound turns = record {
     lands : (first x y : ℕ) (second : Option ℕ) → through_second (links_of rows) second (links_of rows first x) ≡ y → y ≢ 0 → IsLive rows y
     lands first x y None is dart = subst (IsLive rows) is (sound.live first x (λ none. dart (sym is ∙ none)))
     lands first x y (Some j) is dart = subst (IsLive rows) is (sound.live j (links_of rows first x) (λ none. dart (sym is ∙ none)))
+
+-- how many bytes a row takes
+pub row-fits : (dim : ℕ) → dim ≤ 8 → up 4 (4 + dim * 4) < 9223372036854775808
+row-fits dim h = omega arith
 
 -- no dart above made is live
 pub live-made : (rows : Rows) (d : ℕ) → IsLive rows d → d < made rows + 1

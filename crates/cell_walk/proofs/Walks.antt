@@ -1,5 +1,5 @@
 -- A walk: the darts found so far, of which the first ones were visited, and what is found in the end.
-use Rattle.std.proofs.Common.{◌≡◌, ◌≢◌, ℕ, ◌+◌, ◌≤◌, ◌<◌, ◌⊎◌, ◌↔◌, List, [], ◌∷◌, ◌++◌, length, take, get_or, Contains, Option, Some, None, refl, sym, ap, ◌∙◌, subst, inl, inr, arith}
+use Rattle.std.proofs.Common.{◌≡◌, ◌≢◌, ℕ, zero, suc, ◌+◌, ◌≤◌, ◌<◌, ◌⊎◌, ◌↔◌, List, [], ◌∷◌, ◌++◌, length, take, get_or, Contains, Option, Some, None, refl, sym, ap, ◌∙◌, subst, inl, inr, arith}
 use Rattle.std.proofs.lemmas.Bool.{cases_lt}
 use Rattle.std.proofs.lemmas.List.{take_all, take_at, length_push, take_more, get_or-take, length-take, take-take, get_or_default}
 use Rattle.std.proofs.lemmas.List.Elements.{Contains-append_left, Contains-push, Contains-push_cases, Contains-get_or}
@@ -19,6 +19,10 @@ pub Contains-before : (old new : List ℕ) → take (length old) new ≡ old →
 Contains-before old new before y has =
     let longer : length old ≤ length new = omega (arith, length-take (length old) new, ap length before) in
     (has.0, omega (arith, has.1, longer), sym (get_or-take (length old) new has.0 y has.1) ∙ ap (λ xs. get_or xs has.0 y) before ∙ has.2)
+
+-- a word of one link leads where its link does
+one-step : (L : Links) (w : LinkWord) (x : ℕ) → w.second ≡ None → through L w x ≡ L w.first x
+one-step L w x single = ap (λ s. through_second L s (L w.first x)) single
 
 pub visited-none : (L : Links) (x : ℕ) (found : List ℕ) → IsVisited L (Contains []) x found found
 visited-none L x found = record {
@@ -51,6 +55,13 @@ visited-nowhere L w x found none = record {
   only = λ y has. inl has;
   all = λ y leads. absurd (leads.3 (sym leads.2 ∙ ap (λ v. through L v x) leads.1 ∙ none));
 }
+
+-- a word of one link leads to the dart of a number, which is added
+pub visited-number : (L : Links) (w : LinkWord) (x number : ℕ) (old new : List ℕ) → w.second ≡ None → number ≡ L w.first x → (number ≡ 0 → new ≡ old) → (number ≢ 0 → IsDartAdded old new number) → IsVisited L (λ v. v ≡ w) x old new
+visited-number L w x zero old new single is none dart =
+    subst (IsVisited L (λ v. v ≡ w) x old) (sym (none refl)) (visited-nowhere L w x old (one-step L w x single ∙ sym is))
+visited-number L w x (suc n) old new single is none dart =
+    visited-added L w x (suc n) old new (one-step L w x single ∙ sym is) (λ zero_is. absurd (omega (arith, zero_is))) (dart (λ zero_is. absurd (omega (arith, zero_is))))
 
 -- after the words before place k, the word at place k
 pub visited-more : (L : Links) (words : List LinkWord) (k : ℕ) (w : LinkWord) (x : ℕ) (a b c : List ℕ) → k < length words → w ≡ get_or words k w → IsVisited L (Contains (take k words)) x a b → IsVisited L (λ v. v ≡ w) x b c → IsVisited L (Contains (take (k + 1) words)) x a c

@@ -1,10 +1,10 @@
-ghost use Rattle.std.specs.Prelude.{◌≡◌, ℕ, ◌+◌, ◌<◌, ◌↔◌, ◌⊎◌, length, take, Contains, IfOk, OnOk, All, IsNone, IfSome};
+ghost use Rattle.std.specs.Prelude.{◌≡◌, ◌≢◌, ℕ, ◌+◌, ◌<◌, ◌↔◌, ◌⊎◌, length, take, Contains, IfOk, OnOk, All, IsNone, IfSome};
 ghost use Rattle.std.specs.List.Sorted.{IsStrictlyIncreasing};
 ghost use Rattle.map_defs.specs.Rows.{links_of};
 ghost use Rattle.map_defs.specs.LinkWords.{LinkWord as MapWord, through, IsWithin};
 ghost use Rattle.map_defs.specs.Cells.{InOrbit, Leads};
-ghost use Rattle.cell_walk.specs.Visits.{IsVisited, IsClosed};
-ghost use Rattle.cell_walk.specs.Ways.{IsCourse};
+ghost use Rattle.cell_walk.specs.Visits.{IsDartAdded, IsVisited, IsClosed};
+ghost use Rattle.cell_walk.specs.Ways.{IsLink, IsCourse};
 ghost use Rattle.cell_walk.specs.CellLists.{AreOrbitsOf, lists_of};
 
 use crate::found::Found;
@@ -118,7 +118,8 @@ pub(crate) fn walk<S: Seen, K: Kind, const DIM: usize>(
 {
     match course {
         Course::Round(ways) => go_round(links, ways, dart, found),
-        Course::Spread => spread(links, words, dart, found),
+        Course::Links => spread_links(links, words, dart, found),
+        Course::Words => spread(links, words, dart, found),
     }
 }
 
@@ -145,6 +146,30 @@ fn spread<S: Seen, K: Kind, const DIM: usize>(
     Ok(())
 }
 
+/// Finds the orbit of a dart that was not found before, by looking where all words, of one link each, lead from each dart that is found.
+fn spread_links<S: Seen, K: Kind, const DIM: usize>(
+    links: &Links<K, DIM>,
+    words: &[LinkWord],
+    dart: Dart,
+    found: &mut Found<S>,
+) -> Result<(), AllocError>
+    requires within { All (IsWithin DIM) words.now }
+    requires single { All IsLink words.now }
+    requires closed { IsClosed (Leads (links_of links.now.rows) (Contains words.now)) found.old }
+    requires fresh { Contains found.old dart → ⊥ }
+    ensures members { OnOk result ((y : ℕ)
+        → Contains found.new y ↔ (Contains found.old y ⊎ InOrbit (Leads (links_of links.now.rows) (Contains words.now)) dart y)) }
+    ensures before { OnOk result (take (length found.old) found.new ≡ found.old) }
+{
+    let mut place = found.len();
+    found.put(dart)?;
+    while place < found.len() {
+        visit_links(links, words, found.at(place), found)?;
+        place += 1;
+    }
+    Ok(())
+}
+
 /// Finds the darts to which the words lead from a dart.
 pub(crate) fn visit<S: Seen, K: Kind, const DIM: usize>(
     links: &Links<K, DIM>,
@@ -159,6 +184,41 @@ pub(crate) fn visit<S: Seen, K: Kind, const DIM: usize>(
         step(links, *word, dart, found)?;
     }
     Ok(())
+}
+
+/// Finds the darts to which words of one link each lead from a dart: all are read from its row.
+fn visit_links<S: Seen, K: Kind, const DIM: usize>(
+    links: &Links<K, DIM>,
+    words: &[LinkWord],
+    dart: Dart,
+    found: &mut Found<S>,
+) -> Result<(), AllocError>
+    requires within { All (IsWithin DIM) words.now }
+    requires single { All IsLink words.now }
+    ensures { OnOk result (IsVisited (links_of links.now.rows) (Contains words.now) dart found.old found.new) }
+{
+    links.see_sound();
+    let Some(row) = links.row(dart) else {
+        return Ok(());
+    };
+    for word in words {
+        add(row.entry(word.first), found)?;
+    }
+    Ok(())
+}
+
+/// Adds the dart of a number, if it is the number of a dart that was not found before.
+fn add<S: Seen>(number: u32, found: &mut Found<S>) -> Result<(), AllocError>
+    ensures none { OnOk result (number ≡ 0 → found.new ≡ found.old) }
+    ensures dart { OnOk result (number ≢ 0 → IsDartAdded found.old found.new number) }
+{
+    let Some(dart) = Dart::new(number) else {
+        return Ok(());
+    };
+    if found.contains(dart) {
+        return Ok(());
+    }
+    found.put(dart)
 }
 
 /// Finds the dart to which a word leads, if it leads to one.

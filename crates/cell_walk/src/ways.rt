@@ -1,10 +1,10 @@
 //! Orbits that are paths or rings: walks in which two words take turns.
-ghost use Rattle.std.specs.Prelude.{◌≡◌, ◌≢◌, ℕ, ◌↔◌, ◌⊎◌, length, take, Contains, IfSome, IfNone, OnOk};
+ghost use Rattle.std.specs.Prelude.{◌≡◌, ◌≢◌, ℕ, ◌↔◌, ◌⊎◌, length, take, All, Contains, IsTrue, IfSome, IfNone, OnOk};
 ghost use Rattle.map_defs.specs.Rows.{links_of};
 ghost use Rattle.map_defs.specs.LinkWords.{LinkWord as MapWord, through, inverse_word, IsWithin};
 ghost use Rattle.map_defs.specs.Cells.{InOrbit, Leads};
 ghost use Rattle.cell_walk.specs.Visits.{IsClosed};
-ghost use Rattle.cell_walk.specs.Ways.{IsEither, AreWays, IsCourse, IsFollowed};
+ghost use Rattle.cell_walk.specs.Ways.{IsEither, IsLink, AreWays, IsCourse, IsFollowed};
 
 use crate::found::Found;
 use crate::orbits::follow;
@@ -39,13 +39,29 @@ pub(crate) struct Ways {
     pub(crate) back: Way,
 }
 
+impl Ways {
+    /// The way that is followed after so many others: the way forth, and then the way back.
+    fn after(&self, followed: usize) -> &Way
+        ensures forth { followed ≡ 0 → result.now ≡ self.now.forth }
+        ensures back { followed ≢ 0 → result.now ≡ self.now.back }
+    {
+        if followed == 0 {
+            &self.forth
+        } else {
+            &self.back
+        }
+    }
+}
+
 /// How walks go along some words: told once for many orbits.
 #[derive(Clone, Copy)]
 pub(crate) enum Course {
     /// The words take turns, so that orbits are paths and rings.
     Round(Ways),
+    /// Each word is one link: from each dart all are read from one row.
+    Links,
     /// All words are looked along from each dart.
-    Spread,
+    Words,
 }
 
 /// How walks go along some words.
@@ -54,8 +70,16 @@ pub(crate) fn course_along<K: Kind>(words: &[LinkWord]) -> Course
 {
     match ways_along::<K>(words) {
         Some(ways) => Course::Round(ways),
-        None => Course::Spread,
+        None if are_links(words) => Course::Links,
+        None => Course::Words,
     }
+}
+
+/// Whether each word is one link.
+fn are_links(words: &[LinkWord]) -> bool
+    ensures { IsTrue result ↔ All IsLink words.now }
+{
+    words.iter().all(|word| word.second.is_none())
 }
 
 /// The ways along two words where each dart's words are one that leads back and one that leads on: the words are inverse to
@@ -124,24 +148,26 @@ pub(crate) fn go_round<S: Seen, K: Kind, const DIM: usize>(
     ensures before { OnOk result (take (length found.old) found.new ≡ found.old) }
 {
     found.put(dart)?;
-    follow_way(links, ways.forth, dart, found)?;
-    follow_way(links, ways.back, dart, found)
+    for followed in 0..2 {
+        follow_way(links, ways.after(followed), dart, found)?;
+    }
+    Ok(())
 }
 
 /// Follows a way from a dart that was found, until it leads nowhere or to a dart that was found.
 fn follow_way<S: Seen, K: Kind, const DIM: usize>(
     links: &Links<K, DIM>,
-    way: Way,
+    way: &Way,
     dart: Dart,
     found: &mut Found<S>,
 ) -> Result<(), AllocError>
-    requires next { IsWithin DIM way.next }
-    requires after { IsWithin DIM way.after }
+    requires next { IsWithin DIM way.now.next }
+    requires after { IsWithin DIM way.now.after }
     requires met { Contains found.old dart }
-    ensures { OnOk result (IsFollowed K.kind (links_of links.now.rows) way.next way.after dart found.old found.new) }
+    ensures { OnOk result (IsFollowed K.kind (links_of links.now.rows) way.now.next way.now.after dart found.old found.new) }
 {
     links.see_sound();
-    let mut way = way;
+    let mut way = *way;
     let mut at = dart;
     while let Some(next) = unmet(links, way.next, at, found) {
         found.put(next)?;
