@@ -122,8 +122,8 @@ impl Seen for Marks {
         if place >= self.marks.len() || found.len() >= found.capacity() {
             return Err(AllocError);
         }
-        self.marks[place] = true;
         found.push_reserved(dart);
+        self.marks[place] = true;
         Ok(())
     }
 }
