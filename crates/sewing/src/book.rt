@@ -1,10 +1,10 @@
-ghost use Rattle.std.specs.Prelude.{◌≡◌, ℕ, ◌<◌, ◌↔◌, [], ◌∷◌, ◌++◌, length, take, position, slice_get, Some, OnOk, IsErrOf};
+ghost use Rattle.std.specs.Prelude.{◌≡◌, ℕ, ◌<◌, ◌↔◌, [], ◌∷◌, ◌++◌, length, take, position, slice_get, Some, IfOk, OnOk, IsErrOf};
 ghost use Rattle.sewing.specs.Triples.{Lists, IsAscending};
-ghost use Rattle.sewing.specs.PairSteps.{IsTripleAdded, HasOther, is_of};
+ghost use Rattle.sewing.specs.PairSteps.{IsPairAdded, FailsToPair, is_of};
 
 use crate::pairing::PairFault;
 use crate::triple::Triple;
-use map_kind::Dart;
+use map_kind::{Dart, Kind};
 use std::alloc::{AllocError, Global};
 use std::collections::BTreeMap;
 use std::marker::Model;
@@ -40,14 +40,14 @@ impl Model for Book {
 }
 
 impl Book {
-    /// Nothing found yet.
-    pub(crate) fn new(alloc: Global) -> Self
-        ensures { result ≡ [] }
+    /// Nothing found yet. There is room for the first few triples.
+    pub(crate) fn new(alloc: Global) -> Result<Self, AllocError>
+        ensures { IfOk result (λ book. book ≡ []) }
     {
-        Book {
-            triples: Vec::new(alloc),
+        Ok(Book {
+            triples: Vec::with_capacity(alloc, FEW)?,
             more: BTreeMap::new(alloc),
-        }
+        })
     }
 
     /// How many triples were found.
@@ -65,11 +65,12 @@ impl Book {
         self.triples[place]
     }
 
-    /// Adds a triple, unless it was found before. `Unpaired` comes only where its dart `x` has another partner at link
-    /// `t`.
-    pub(crate) fn add(&mut self, triple: Triple) -> Result<(), PairFault>
-        ensures added { OnOk result (IsTripleAdded self.old self.new triple) }
-        ensures unpaired { IsErrOf result PairFault.Unpaired → HasOther self.old triple.x triple.y triple.t }
+    /// Adds a triple and behind it the triple turned round, unless it was found before. `Unpaired` comes only where its
+    /// dart `x` has another partner at link `t`, where it joins a dart to itself by a link that is its own inverse, or
+    /// where the triple turned round was found without it or has another partner.
+    pub(crate) fn add<K: Kind>(&mut self, triple: Triple) -> Result<(), PairFault>
+        ensures added { OnOk result (IsPairAdded K.kind self.old self.new triple) }
+        ensures unpaired { IsErrOf result PairFault.Unpaired → FailsToPair K.kind self.old triple.x triple.y triple.t }
     {
         if let Some(partner) = self.partner(triple.x, triple.t) {
             if partner == triple.y {
@@ -77,8 +78,7 @@ impl Book {
             }
             return Err(PairFault::Unpaired);
         }
-        self.put(triple)?;
-        Ok(())
+        self.put_both::<K>(triple)
     }
 
     /// The triples that were found, ascending by `x`, then by `t`. It takes no memory.
@@ -91,6 +91,24 @@ impl Book {
         drop(more);
         triples.sort_unstable_by_key(|triple| (triple.x, triple.t));
         triples
+    }
+
+    /// Adds a triple whose dart `x` has no partner yet at link `t`, and the triple turned round.
+    fn put_both<K: Kind>(&mut self, triple: Triple) -> Result<(), PairFault>
+        requires { (y : ℕ) → Lists self.old triple.x y triple.t → ⊥ }
+        ensures added { OnOk result (IsPairAdded K.kind self.old self.new triple) }
+        ensures unpaired { IsErrOf result PairFault.Unpaired → FailsToPair K.kind self.old triple.x triple.y triple.t }
+    {
+        if triple.is_loop::<K>() {
+            return Err(PairFault::Unpaired);
+        }
+        let turned = triple.turned::<K>();
+        if let Some(_) = self.partner(turned.x, turned.t) {
+            return Err(PairFault::Unpaired);
+        }
+        self.put(triple)?;
+        self.put(turned)?;
+        Ok(())
     }
 
     /// Adds a triple whose dart `x` has no partner yet at link `t`. All memory is taken before the triple is added, so

@@ -3,7 +3,7 @@ ghost use Rattle.map_defs.specs.Kind.{inverse};
 ghost use Rattle.map_defs.specs.Rows.{links_of};
 ghost use Rattle.map_defs.specs.Pairs.{InPairs, IsGood};
 ghost use Rattle.sewing.specs.Triples.{Lists, IsAscending};
-ghost use Rattle.sewing.specs.PairSteps.{HasOther, IsVisited, IsStepped, FailsAcross};
+ghost use Rattle.sewing.specs.PairSteps.{IsTwofold, IsLink, IsLinkOrInverse, OrInverse, IsListed, FailsListed, IsStepped, IsPairable};
 ghost use Rattle.sewing.specs.declared.pairing.PairFault.TheVariants.{NoMemory};
 
 use crate::book::Book;
@@ -63,29 +63,30 @@ pub fn pair<K: Kind, const DIM: usize>(
     ensures unpaired { IsErrOf result PairFault.Unpaired → IsGood K.kind (links_of links.now.rows) (Contains set.now)
         (InPairs K.kind (links_of links.now.rows) (Contains set.now) (Lists seeds.now)) → ⊥ }
 {
-    let mut book = listed(alloc, seeds)?;
+    let mut book = listed::<K>(alloc, seeds)?;
     let mut next = 0;
     while next < book.len() {
         visit(links, set, book.at(next), &mut book)?;
-        next += 1;
+        // The triple turned round stands behind it, and leads to the same triples.
+        next += 2;
     }
     Ok(book.into_ascending())
 }
 
-/// A book of these triples.
-fn listed(alloc: Global, triples: &[Triple]) -> Result<Book, PairFault>
-    ensures members { IfOk result (λ book. (x y t : ℕ) → Lists book x y t ↔ Lists triples.now x y t) }
-    ensures unpaired { IsErrOf result PairFault.Unpaired
-        → (x : ℕ) × (y : ℕ) × (t : ℕ) × Lists triples.now x y t × HasOther triples.now x y t }
+/// A book of these triples, each with the triple turned round.
+fn listed<K: Kind>(alloc: Global, triples: &[Triple]) -> Result<Book, PairFault>
+    ensures listed { IfOk result (λ book. IsListed K.kind triples.now book) }
+    ensures unpaired { IsErrOf result PairFault.Unpaired → FailsListed K.kind triples.now }
 {
-    let mut book = Book::new(alloc);
+    let mut book = Book::new(alloc)?;
     for triple in triples {
-        book.add(*triple)?;
+        book.add::<K>(*triple)?;
     }
     Ok(book)
 }
 
-/// Finds what a triple leads to: the triple turned round, and the triples across the links of the set.
+/// Finds what a triple leads to, and what the triple turned round leads to: the triples across the links of the set and
+/// across their inverses.
 fn visit<K: Kind, const DIM: usize>(
     links: &Links<K, DIM>,
     set: &[usize],
@@ -94,39 +95,62 @@ fn visit<K: Kind, const DIM: usize>(
 ) -> Result<(), PairFault>
     requires set { All (λ j. j ≤ DIM) set.now }
     requires found { Contains book.old triple }
-    ensures visited { OnOk result
-        (IsVisited K.kind (links_of links.now.rows) (Contains set.now) triple book.old book.new) }
-    ensures unpaired { IsErrOf result PairFault.Unpaired → IsGood K.kind (links_of links.now.rows) (Contains set.now)
-        (InPairs K.kind (links_of links.now.rows) (Contains set.now) (Lists book.old)) → ⊥ }
+    requires twofold { IsTwofold K.kind book.old }
+    ensures stepped { OnOk result
+        (IsStepped K.kind (links_of links.now.rows) (OrInverse K.kind (Contains set.now)) triple book.old book.new) }
+    ensures unpaired { IsErrOf result PairFault.Unpaired
+        → IsPairable K.kind (links_of links.now.rows) (Contains set.now) (Lists book.old) → ⊥ }
 {
-    if triple.is_loop::<K>() {
-        return Err(PairFault::Unpaired);
-    }
-    book.add(triple.turned::<K>())?;
     for link in set {
-        cross(links, *link, triple, book)?;
+        cross_both(links, *link, triple, book)?;
     }
     Ok(())
 }
 
-/// Finds the triple across a link, where both darts are linked. `Unpaired` comes only where just one of them is, or where
-/// the dart across the link has another partner.
+/// Finds the triples across a link and across its inverse.
+fn cross_both<K: Kind, const DIM: usize>(
+    links: &Links<K, DIM>,
+    link: usize,
+    triple: Triple,
+    book: &mut Book,
+) -> Result<(), PairFault>
+    requires link { link ≤ DIM }
+    requires found { Contains book.old triple }
+    requires twofold { IsTwofold K.kind book.old }
+    ensures stepped { OnOk result
+        (IsStepped K.kind (links_of links.now.rows) (IsLinkOrInverse K.kind link) triple book.old book.new) }
+    ensures unpaired { IsErrOf result PairFault.Unpaired
+        → IsPairable K.kind (links_of links.now.rows) (IsLinkOrInverse K.kind link) (Lists book.old) → ⊥ }
+{
+    cross(links, link, triple, book)?;
+    let back = K::inverse(link);
+    if back == link {
+        return Ok(());
+    }
+    cross(links, back, triple, book)
+}
+
+/// Finds the triple across a link, where both darts are linked.
 fn cross<K: Kind, const DIM: usize>(
     links: &Links<K, DIM>,
     link: usize,
     triple: Triple,
     book: &mut Book,
 ) -> Result<(), PairFault>
-    requires { link ≤ DIM }
-    ensures stepped { OnOk result (IsStepped K.kind (links_of links.now.rows) link triple book.old book.new) }
+    requires link { link ≤ DIM }
+    requires found { Contains book.old triple }
+    requires twofold { IsTwofold K.kind book.old }
+    ensures stepped { OnOk result
+        (IsStepped K.kind (links_of links.now.rows) (IsLink link) triple book.old book.new) }
     ensures unpaired { IsErrOf result PairFault.Unpaired
-        → FailsAcross K.kind (links_of links.now.rows) link book.old triple.x triple.y triple.t }
+        → IsPairable K.kind (links_of links.now.rows) (IsLink link) (Lists book.old) → ⊥ }
+    ensures low { 2 ≤ DIM }
 {
     match (
         links.link(triple.x, link),
         links.link(triple.y, K::inverse(link)),
     ) {
-        (Some(x), Some(y)) => book.add(Triple {
+        (Some(x), Some(y)) => book.add::<K>(Triple {
             x,
             y,
             t: K::inverse(triple.t),

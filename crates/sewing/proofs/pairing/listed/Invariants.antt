@@ -1,6 +1,6 @@
-use Rattle.std.proofs.Common.{ℕ, ◌↔◌, take}
-use Rattle.sewing.specs.Triples.{Lists}
+use Rattle.std.proofs.Common.{take}
+use Rattle.sewing.specs.PairSteps.{IsListed}
 use Rattle.sewing.proofs.pairing.listed.Given as goal
 
 abbrev pub invariant-loop-triple : goal.invariant-loop-triple
-invariant-loop-triple l = (x y t : ℕ) → Lists l.book x y t ↔ Lists (take l.triple-index l.triples) x y t
+invariant-loop-triple g l = IsListed g.K.Kind.kind (take l.triple-index l.triples) l.book

@@ -5,21 +5,21 @@ use Rattle.map_defs.specs.Rows.{links_of}
 use Rattle.sewing.specs.Triples.{Lists}
 use Rattle.sewing.specs.declared.pairing.PairFault.TheVariants.{Unpaired}
 use Rattle.sewing.proofs.Exits.{handed_on}
-use Rattle.sewing.proofs.PairWalks.{walked-begun, walked-more, walked-pairs, walked-good, walked-bad, not-one-seed}
+use Rattle.sewing.proofs.PairWalks.{walked-begun, walked-more, walked-pairs, walked-good, walked-bad, listed-bad}
 use Rattle.sewing.proofs.pairing.pair.Goals as goal
 
 pub returns-in_err-book-clause-unpaired : goal.returns-in_err-book-clause-unpaired
 returns-in_err-book-clause-unpaired g c = λ is.
     let p = err_from_is_err_and c.from_residual.result c.from_residual.ensures.1 in
-    not-one-seed g.K.Kind.kind (links_of c.args.links.now.rows) (Contains c.args.set.now) c.args.seeds.now (c.in_err-book.ensures.unpaired (ap Err (handed_on c.from_residual.result c.in_err-book.field-0.0 Unpaired p is)))
+    listed-bad g.K.Kind.kind (links_of c.args.links.now.rows) (Contains c.args.set.now) c.args.seeds.now (c.in_err-book.ensures.unpaired (ap Err (handed_on c.from_residual.result c.in_err-book.field-0.0 Unpaired p is)))
 
 pub loop-next-init : goal.loop-next-init
 loop-next-init g c =
-    walked-begun g.K.Kind.kind (links_of c.args.links.now.rows) (Contains c.args.set.now) (Lists c.args.seeds.now) c.in_ok-book.book c.in_ok-book.ensures.members
+    walked-begun g.K.Kind.kind (links_of c.args.links.now.rows) (Contains c.args.set.now) c.args.seeds.now c.in_ok-book.book c.in_ok-book.ensures.listed
 
 pub visit-requires : goal.visit-requires
 visit-requires g c =
-    (lit< tt, (c.requires, (c.loop-next.next, omega (arith, c.len.ensures), get_or_from_slice_get c.loop-next.book c.loop-next.next c.at.result c.at.result c.at.ensures)))
+    (lit< tt, (c.requires, ((c.loop-next.next, omega (arith, c.len.ensures), get_or_from_slice_get c.loop-next.book c.loop-next.next c.at.result c.at.result c.at.ensures), c.loop-next.invariant.twofold)))
 
 pub returns-in_err-visit-clause-unpaired : goal.returns-in_err-visit-clause-unpaired
 returns-in_err-visit-clause-unpaired g c = λ is.
@@ -29,7 +29,7 @@ returns-in_err-visit-clause-unpaired g c = λ is.
 pub loop-next-preserved : goal.loop-next-preserved
 loop-next-preserved g c =
     walked-more g.K.Kind.kind (links_of c.args.links.now.rows) (Contains c.args.set.now) (Lists c.args.seeds.now) c.loop-next.next c.at.result c.loop-next.book c.visit.new.book
-    (omega (arith, c.len.ensures)) (get_or_from_slice_get c.loop-next.book c.loop-next.next c.at.result c.at.result c.at.ensures) c.loop-next.invariant c.in_ok-visit.ensures.visited
+    (omega (arith, c.len.ensures)) (get_or_from_slice_get c.loop-next.book c.loop-next.next c.at.result c.at.result c.at.ensures) c.loop-next.invariant c.in_ok-visit.ensures.stepped
 
 pub returns-clause-members : goal.returns-clause-members
 returns-clause-members g c = λ x y t.

@@ -4,4 +4,4 @@ use Rattle.sewing.proofs.BookPlaces.{by_place, kept-none}
 use Rattle.sewing.proofs.book.Book.new.Goals as goal
 
 pub invariant_of-result : goal.invariant_of-result
-invariant_of-result c = rw c.new.ensures.items (kept-none (get by_place c.new-2.result) (λ p. rw c.new-2.ensures.empty refl))
+invariant_of-result c = rw c.in_ok-with_capacity.ensures.items (kept-none (get by_place c.new.result) (λ p. rw c.new.ensures.empty refl))
