@@ -2,11 +2,11 @@
 use Rattle.std.proofs.Common.{◌≡◌, ◌≢◌, ℕ, zero, suc, ◌+◌, ◌≤◌, ◌<◌, ◌⊎◌, ◌↔◌, List, [], ◌∷◌, ◌++◌, Contains, refl, sym, ap, subst, inl, inr, arith}
 use Rattle.std.proofs.lemmas.Bool.{cases_lt}
 use Rattle.std.proofs.lemmas.List.Elements.{Contains-append_left, Contains-push, Contains-push_cases}
-use Rattle.map_defs.specs.Kind.{Kind, alpha, beta, inverse, IsDistant}
+use Rattle.map_defs.specs.Kind.{Kind, inverse, IsDistant}
 use Rattle.map_defs.specs.Links.{Links, HasDimension}
 use Rattle.map_defs.specs.Pairs.{InPairs, IsGood, JustOne}
 use Rattle.map_defs.specs.Sewing.{SewnPairs}
-use Rattle.link_laws.proofs.Basics.{inverse_own, inverse_within}
+use Rattle.link_laws.proofs.Basics.{inverse_own}
 use Rattle.sewing.specs.Triples.{Triple, Lists}
 use Rattle.sewing.proofs.PairFacts.{pairs-along}
 

@@ -8,7 +8,7 @@ use Rattle.map_defs.specs.Links.{Links}
 use Rattle.map_defs.specs.Pairs.{InPairs, seed, turned, across, IsGood}
 use Rattle.link_laws.proofs.Basics.{inverse_twice}
 use Rattle.sewing.specs.Triples.{Triple, Lists}
-use Rattle.sewing.specs.PairSteps.{turn, IsTwofold, empty, both, IsPairAdded, HasOther, FailsToPair, IsPairable, IsListed, FailsListed, IsLink, IsLinkOrInverse, OrInverse, IsCrossed, IsStepped}
+use Rattle.sewing.specs.PairSteps.{turn, IsTwofold, empty, both, IsPairAdded, FailsToPair, IsPairable, IsListed, FailsListed, IsLink, IsLinkOrInverse, OrInverse, IsCrossed, IsStepped}
 use Rattle.sewing.proofs.PairFacts.{IsClosed, pairs-least, pairs-within, pairs-from, pairable-from, pairs-inverse, pairable-inverse, good-same}
 
 -- what stood in the list stays there

@@ -103,7 +103,7 @@ impl Book {
             return Err(PairFault::Unpaired);
         }
         let turned = triple.turned::<K>();
-        if let Some(_) = self.partner(turned.x, turned.t) {
+        if self.partner(turned.x, turned.t).is_some() {
             return Err(PairFault::Unpaired);
         }
         self.put(triple)?;

@@ -1,8 +1,6 @@
-use Rattle.std.proofs.Common.{◌≡◌, List, [], take, sym, ap, arith, Err, ◌∙◌}
+use Rattle.std.proofs.Common.{◌≡◌, take, ap, arith, Err}
 use Rattle.std.proofs.lemmas.List.{take_all}
 use Rattle.std.proofs.lemmas.Result.{err_from_is_err_and}
-use Rattle.sewing.specs.Triples.{Triple}
-use Rattle.sewing.specs.PairSteps.{IsListed}
 use Rattle.sewing.specs.declared.pairing.PairFault.TheVariants.{Unpaired}
 use Rattle.sewing.proofs.Exits.{handed_on}
 use Rattle.sewing.proofs.PairWalks.{listed-none, listed-more, listed-fails}

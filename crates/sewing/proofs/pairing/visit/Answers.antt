@@ -1,10 +1,10 @@
-use Rattle.std.proofs.Common.{ℕ, get_or, sym, ap, Err, arith, lit<}
+use Rattle.std.proofs.Common.{ℕ, get_or, ap, Err}
 use Rattle.std.proofs.lemmas.List.{get_or_default}
 use Rattle.std.proofs.lemmas.Result.{err_from_is_err_and}
 use Rattle.map_defs.specs.Rows.{links_of}
 use Rattle.sewing.specs.declared.pairing.PairFault.TheVariants.{Unpaired}
 use Rattle.sewing.proofs.Exits.{handed_on}
-use Rattle.sewing.proofs.PairWalks.{Contains-before, visiting-begun, visiting-more, visiting-bad, visited-all}
+use Rattle.sewing.proofs.PairWalks.{visiting-begun, visiting-more, visiting-bad}
 use Rattle.sewing.proofs.pairing.visit.Goals as goal
 
 pub loop-link-init : goal.loop-link-init
