@@ -8,7 +8,7 @@ use Rattle.map_defs.specs.Links.{Links}
 use Rattle.map_defs.specs.Pairs.{InPairs, seed, turned, across, IsGood}
 use Rattle.link_laws.proofs.Basics.{inverse_twice}
 use Rattle.sewing.specs.Triples.{Triple, Lists}
-use Rattle.sewing.specs.PairSteps.{turn, IsTwofold, empty, both, IsPairAdded, FailsToPair, IsPairable, IsListed, FailsListed, IsLink, IsLinkOrInverse, OrInverse, IsCrossed, IsStepped}
+use Rattle.sewing.specs.PairSteps.{turn, IsTwofold, empty, both, IsPairAdded, FailsToPair, IsPairable, IsListed, FailsListed, IsLink, IsNewLink, OrInverse, IsCrossed, IsStepped}
 use Rattle.sewing.proofs.PairFacts.{IsClosed, pairs-least, pairs-within, pairs-from, pairable-from, pairs-inverse, pairable-inverse, good-same}
 
 -- what stood in the list stays there
@@ -27,6 +27,20 @@ pub Contains-take : {X : Type 0} (n : ℕ) (xs : List X) (x : X) → Contains (t
 Contains-take n xs x has =
     let low = length-take n xs in
     (has.0, omega (arith, has.1, low), sym (get_or-take n xs has.0 x (omega (arith, has.1, low))) ∙ has.2)
+
+-- a number stands in the list or not
+has-or-not : (xs : List ℕ) (x : ℕ) → Contains xs x ⊎ (Contains xs x → ⊥)
+has-or-not [] x = inr (λ has. omega (arith, has.1))
+has-or-not (y ∷ ys) x = go (cases_eq y x) (has-or-not ys x)
+  where
+    go : (y ≡ x) ⊎ (y ≢ x) → Contains ys x ⊎ (Contains ys x → ⊥) → Contains (y ∷ ys) x ⊎ (Contains (y ∷ ys) x → ⊥)
+    go (inl is) later = inl (0, omega arith, is)
+    go (inr other) (inl has) = inl (suc has.0, omega (arith, has.1), has.2)
+    go (inr other) (inr none) = inr (λ has. neither has.0 has.1 has.2)
+      where
+        neither : (n : ℕ) → n < length (y ∷ ys) → get_or (y ∷ ys) n x ≡ x → ⊥
+        neither zero low is = other is
+        neither (suc n) low is = none (n, omega (arith, low), is)
 
 -- ---- a list in which each triple stands before the triple turned round
 turn-turn : (k : Kind) (p : Triple) → turn k (turn k p) ≡ p
@@ -107,6 +121,10 @@ module _ (k : Kind) (old new : List Triple) (p : Triple) (added : IsPairAdded k 
     | inl known ↦ subst (IsTwofold k) (sym known.1) twofold
     | inr fresh ↦ subst (IsTwofold k) (sym fresh.1) (twofold-more k old p fresh.0 twofold)
   ]
+
+-- one of the links that were followed, or the inverse of one, where it is none of the set
+abbrev pub IsFollowed : Kind → List ℕ → List ℕ → ℕ → Type 0
+IsFollowed k set past i = Contains past i ⊎ (Contains past (inverse k i) × (Contains set i → ⊥))
 
 module _ (k : Kind) (L : Links) where
   -- where a triple of the pairs cannot be added to a list of some of them, the pairs cannot be joined
@@ -197,19 +215,28 @@ module _ (k : Kind) (L : Links) where
   step-bad J I H p a b along along' step bad good = bad (pairable-from k L J H (Lists a) (Lists b) along' (step-only J I p a b along step) good)
 
   -- ---- a link and its inverse
-  pub both-own : (j : ℕ) (p : Triple) (a b : List Triple) → inverse k j ≡ j → IsStepped k L (IsLink j) p a b → IsStepped k L (IsLinkOrInverse k j) p a b
-  both-own j p a b own step =
-      step-then (IsLinkOrInverse k j) (IsLink j) (λ _. ⊥) p a b b (λ i is. inl is) (λ i no_link. absurd no_link) (λ i there. elim there [ inl is ↦ inl is | inr is ↦ inl (is ∙ own) ])
-      step (step-none (λ _. ⊥) p b (λ i no_link. no_link) step.twofold)
+  pub both-known : (J : ℕ → Type 0) (j : ℕ) (p : Triple) (a b : List Triple) → J (inverse k j) → IsStepped k L (IsLink j) p a b → IsStepped k L (IsNewLink k J j) p a b
+  both-known J j p a b known step =
+      step-then (IsNewLink k J j) (IsLink j) (λ _. ⊥) p a b b (λ i is. inl is) (λ i no_link. absurd no_link) apart step (step-none (λ _. ⊥) p b (λ i no_link. no_link) step.twofold)
+    where
+      apart : (i : ℕ) → IsNewLink k J j i → IsLink j i ⊎ ⊥
+      apart i (inl is) = inl is
+      apart i (inr back) = absurd (back.1 (subst J (sym back.0) known))
 
-  pub both-then : (j : ℕ) (p : Triple) (a b c : List Triple) → IsStepped k L (IsLink j) p a b → IsStepped k L (IsLink (inverse k j)) p b c → IsStepped k L (IsLinkOrInverse k j) p a c
-  both-then j p a b c first then = step-then (IsLinkOrInverse k j) (IsLink j) (IsLink (inverse k j)) p a b c (λ i is. inl is) (λ i is. inr is) (λ i there. there) first then
+  back-new : (J : ℕ → Type 0) (j : ℕ) → (J (inverse k j) → ⊥) → (i : ℕ) → IsLink (inverse k j) i → IsNewLink k J j i
+  back-new J j fresh i is = inr (is, λ known. fresh (subst J is known))
 
-  pub both-bad : (j : ℕ) (p : Triple) (a b : List Triple) → IsStepped k L (IsLink j) p a b → (IsPairable k L (IsLink (inverse k j)) (Lists b) → ⊥) → IsPairable k L (IsLinkOrInverse k j) (Lists a) → ⊥
-  both-bad j p a b step bad = step-bad (IsLinkOrInverse k j) (IsLink j) (IsLink (inverse k j)) p a b (λ i is. inl is) (λ i is. inr is) step bad
+  pub both-then : (J : ℕ → Type 0) (j : ℕ) (p : Triple) (a b c : List Triple) → (J (inverse k j) → ⊥) → IsStepped k L (IsLink j) p a b → IsStepped k L (IsLink (inverse k j)) p b c
+      → IsStepped k L (IsNewLink k J j) p a c
+  both-then J j p a b c fresh first then =
+      step-then (IsNewLink k J j) (IsLink j) (IsLink (inverse k j)) p a b c (λ i is. inl is) (back-new J j fresh) (λ i there. elim there [ inl is ↦ inl is | inr back ↦ inr back.0 ]) first then
 
-  pub first-bad : (j : ℕ) (a : List Triple) → (IsPairable k L (IsLink j) (Lists a) → ⊥) → IsPairable k L (IsLinkOrInverse k j) (Lists a) → ⊥
-  first-bad j a bad good = bad (pairable-from k L (IsLinkOrInverse k j) (IsLink j) (Lists a) (Lists a) (λ i is. inl is) (λ u v s there. seed there) good)
+  pub both-bad : (J : ℕ → Type 0) (j : ℕ) (p : Triple) (a b : List Triple) → (J (inverse k j) → ⊥) → IsStepped k L (IsLink j) p a b → (IsPairable k L (IsLink (inverse k j)) (Lists b) → ⊥)
+      → IsPairable k L (IsNewLink k J j) (Lists a) → ⊥
+  both-bad J j p a b fresh step bad = step-bad (IsNewLink k J j) (IsLink j) (IsLink (inverse k j)) p a b (λ i is. inl is) (back-new J j fresh) step bad
+
+  pub first-bad : (J : ℕ → Type 0) (j : ℕ) (a : List Triple) → (IsPairable k L (IsLink j) (Lists a) → ⊥) → IsPairable k L (IsNewLink k J j) (Lists a) → ⊥
+  first-bad J j a bad good = bad (pairable-from k L (IsNewLink k J j) (IsLink j) (Lists a) (Lists a) (λ i is. inl is) (λ u v s there. seed there) good)
 
   -- ---- the visit of one triple, of which some links were followed
   module _ (set : List ℕ) (n j : ℕ) (within : n < length set) (at : j ≡ get_or set n j) where
@@ -222,51 +249,66 @@ module _ (k : Kind) (L : Links) where
     this : (i : ℕ) → j ≡ i → Contains (take (n + 1) set) i
     this i is = rw longer (subst (Contains (take n set ++ j ∷ [])) is (Contains-push (take n set) j))
 
-    before-this : (i : ℕ) → OrInverse k (Contains (take n set)) i → OrInverse k (Contains (take (n + 1) set)) i
+    turned-back : (i : ℕ) → i ≡ inverse k j → j ≡ inverse k i
+    turned-back i is = sym (ap (inverse k) is ∙ inverse_twice k j)
+
+    before-this : (i : ℕ) → IsFollowed k set (take n set) i → IsFollowed k set (take (n + 1) set) i
     before-this i (inl past) = inl (earlier i past)
-    before-this i (inr past) = inr (earlier (inverse k i) past)
+    before-this i (inr past) = inr (earlier (inverse k i) past.0, past.1)
 
-    at-this : (J : ℕ → Type 0) → J j → (i : ℕ) → IsLinkOrInverse k j i → OrInverse k J i
-    at-this J there i (inl is) = inl (subst J (sym is) there)
-    at-this J there i (inr is) = inr (subst J (sym (ap (inverse k) is ∙ inverse_twice k j)) there)
+    at-this : (i : ℕ) → IsNewLink k (Contains set) j i → IsFollowed k set (take (n + 1) set) i
+    at-this i (inl is) = inl (this i (sym is))
+    at-this i (inr back) = inr (this (inverse k i) (turned-back i back.0), back.1)
 
-    apart : (i : ℕ) → Contains (take n set) i ⊎ (j ≡ i) → Contains (take n set) i ⊎ (i ≡ j)
-    apart i (inl past) = inl past
-    apart i (inr is) = inr (sym is)
+    parts : (i : ℕ) → Contains (take (n + 1) set) i → Contains (take n set) i ⊎ (j ≡ i)
+    parts i there = Contains-push_cases (take n set) j i (subst (λ js. Contains js i) longer there)
 
-    parts : (i : ℕ) → Contains (take (n + 1) set) i → Contains (take n set) i ⊎ (i ≡ j)
-    parts i there = apart i (Contains-push_cases (take n set) j i (subst (λ js. Contains js i) longer there))
+    both-parts : (i : ℕ) → IsFollowed k set (take (n + 1) set) i → IsFollowed k set (take n set) i ⊎ IsNewLink k (Contains set) j i
+    both-parts i (inl there) = elim (parts i there) [ inl past ↦ inl (inl past) | inr is ↦ inr (inl (sym is)) ]
+    both-parts i (inr there) =
+        elim (parts (inverse k i) there.0) [ inl past ↦ inl (inr (past, there.1)) | inr is ↦ inr (inr (sym (inverse_twice k i) ∙ ap (inverse k) (sym is), there.1)) ]
 
-    both-parts : (i : ℕ) → OrInverse k (Contains (take (n + 1) set)) i → OrInverse k (Contains (take n set)) i ⊎ IsLinkOrInverse k j i
-    both-parts i (inl there) = elim (parts i there) [ inl past ↦ inl (inl past) | inr is ↦ inr (inl is) ]
-    both-parts i (inr there) = elim (parts (inverse k i) there) [ inl past ↦ inl (inr past) | inr is ↦ inr (inr (sym (inverse_twice k i) ∙ ap (inverse k) is)) ]
-
-    pub visiting-more : (p : Triple) (a b c : List Triple) → IsStepped k L (OrInverse k (Contains (take n set))) p a b → IsStepped k L (IsLinkOrInverse k j) p b c
-        → IsStepped k L (OrInverse k (Contains (take (n + 1) set))) p a c
+    pub visiting-more : (p : Triple) (a b c : List Triple) → IsStepped k L (IsFollowed k set (take n set)) p a b → IsStepped k L (IsNewLink k (Contains set) j) p b c
+        → IsStepped k L (IsFollowed k set (take (n + 1) set)) p a c
     visiting-more p a b c first then =
-        step-then (OrInverse k (Contains (take (n + 1) set))) (OrInverse k (Contains (take n set))) (IsLinkOrInverse k j) p a b c
-        before-this (at-this (Contains (take (n + 1) set)) (this j refl)) both-parts first then
+        step-then (IsFollowed k set (take (n + 1) set)) (IsFollowed k set (take n set)) (IsNewLink k (Contains set) j) p a b c before-this at-this both-parts first then
 
-    wider : (i : ℕ) → OrInverse k (Contains (take n set)) i → OrInverse k (Contains set) i
+    wider : (i : ℕ) → IsFollowed k set (take n set) i → OrInverse k (Contains set) i
     wider i (inl past) = inl (Contains-take n set i past)
-    wider i (inr past) = inr (Contains-take n set (inverse k i) past)
+    wider i (inr past) = inr (Contains-take n set (inverse k i) past.0)
 
-    pub visiting-bad : (p : Triple) (a b : List Triple) → IsStepped k L (OrInverse k (Contains (take n set))) p a b → (IsPairable k L (IsLinkOrInverse k j) (Lists b) → ⊥)
+    this-wider : (i : ℕ) → IsNewLink k (Contains set) j i → OrInverse k (Contains set) i
+    this-wider i (inl is) = inl (subst (Contains set) (sym is) (n, within, sym at))
+    this-wider i (inr back) = inr (subst (Contains set) (turned-back i back.0) (n, within, sym at))
+
+    pub visiting-bad : (p : Triple) (a b : List Triple) → IsStepped k L (IsFollowed k set (take n set)) p a b → (IsPairable k L (IsNewLink k (Contains set) j) (Lists b) → ⊥)
         → IsPairable k L (Contains set) (Lists a) → ⊥
     visiting-bad p a b step bad good =
-        step-bad (OrInverse k (Contains set)) (OrInverse k (Contains (take n set))) (IsLinkOrInverse k j) p a b wider (at-this (Contains set) (n, within, sym at)) step bad
+        step-bad (OrInverse k (Contains set)) (IsFollowed k set (take n set)) (IsNewLink k (Contains set) j) p a b wider this-wider step bad
         (pairable-inverse k L (Contains set) (Lists a) good)
 
-  pub visiting-begun : (p : Triple) (found : List Triple) → IsTwofold k found → IsStepped k L (OrInverse k (Contains [])) p found found
-  visiting-begun p found twofold = step-none (OrInverse k (Contains [])) p found no_link twofold
+  pub visiting-begun : (set : List ℕ) (p : Triple) (found : List Triple) → IsTwofold k found → IsStepped k L (IsFollowed k set []) p found found
+  visiting-begun set p found twofold = step-none (IsFollowed k set []) p found no_link twofold
     where
-      no_link : (j : ℕ) → OrInverse k (Contains []) j → ⊥
+      no_link : (j : ℕ) → IsFollowed k set [] j → ⊥
       no_link j (inl has) = omega (arith, has.1)
-      no_link j (inr has) = omega (arith, has.1)
+      no_link j (inr has) = omega (arith, has.0.1)
 
   pub visited-all : (set : List ℕ) (n : ℕ) (p : Triple) (old new : List Triple) → length set ≤ n
-      → IsStepped k L (OrInverse k (Contains (take n set))) p old new → IsStepped k L (OrInverse k (Contains set)) p old new
-  visited-all set n p old new past step = subst (λ js. IsStepped k L (OrInverse k (Contains js)) p old new) (take_all n set past) step
+      → IsStepped k L (IsFollowed k set (take n set)) p old new → IsStepped k L (OrInverse k (Contains set)) p old new
+  visited-all set n p old new past step =
+      let whole : IsStepped k L (IsFollowed k set set) p old new = subst (λ js. IsStepped k L (IsFollowed k set js) p old new) (take_all n set past) step in
+      step-then (OrInverse k (Contains set)) (IsFollowed k set set) (λ _. ⊥) p old new new wide (λ i no_link. absurd no_link) (λ i there. inl (follow i there (has-or-not set i)))
+      whole (step-none (λ _. ⊥) p new (λ i no_link. no_link) whole.twofold)
+    where
+      wide : (i : ℕ) → IsFollowed k set set i → OrInverse k (Contains set) i
+      wide i (inl there) = inl there
+      wide i (inr there) = inr there.0
+
+      follow : (i : ℕ) → OrInverse k (Contains set) i → Contains set i ⊎ (Contains set i → ⊥) → IsFollowed k set set i
+      follow i there (inl has) = inl has
+      follow i (inl there) (inr fresh) = inl there
+      follow i (inr there) (inr fresh) = inr (there, fresh)
 
   -- ---- all that a triple leads to is there, and it breaks no condition
   pub record IsDone (J : ℕ → Type 0) (Has : ℕ → ℕ → ℕ → Type 0) (x y t : ℕ) : Type 0 where

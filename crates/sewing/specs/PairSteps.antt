@@ -67,9 +67,9 @@ pub record FailsListed (k : Kind) (seeds : List Triple) : Type 0 where
 abbrev pub IsLink : ℕ → ℕ → Type 0
 IsLink j i = i ≡ j
 
--- link i is link j or its inverse
-abbrev pub IsLinkOrInverse : Kind → ℕ → ℕ → Type 0
-IsLinkOrInverse k j i = (i ≡ j) ⊎ (i ≡ inverse k j)
+-- link i is link j, or its inverse where the inverse is none of the links J
+abbrev pub IsNewLink : Kind → (ℕ → Type 0) → ℕ → ℕ → Type 0
+IsNewLink k J j i = (i ≡ j) ⊎ ((i ≡ inverse k j) × (J i → ⊥))
 
 -- link i or its inverse is one of the links J
 abbrev pub OrInverse : Kind → (ℕ → Type 0) → ℕ → Type 0

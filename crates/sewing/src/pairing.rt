@@ -3,7 +3,7 @@ ghost use Rattle.map_defs.specs.Kind.{inverse};
 ghost use Rattle.map_defs.specs.Rows.{links_of};
 ghost use Rattle.map_defs.specs.Pairs.{InPairs, IsGood};
 ghost use Rattle.sewing.specs.Triples.{Lists, IsAscending};
-ghost use Rattle.sewing.specs.PairSteps.{IsTwofold, IsLink, IsLinkOrInverse, OrInverse, IsListed, FailsListed, IsStepped, IsPairable};
+ghost use Rattle.sewing.specs.PairSteps.{IsTwofold, IsLink, IsNewLink, OrInverse, IsListed, FailsListed, IsStepped, IsPairable};
 ghost use Rattle.sewing.specs.declared.pairing.PairFault.TheVariants.{NoMemory};
 
 use crate::book::Book;
@@ -102,29 +102,31 @@ fn visit<K: Kind, const DIM: usize>(
         → IsPairable K.kind (links_of links.now.rows) (Contains set.now) (Lists book.old) → ⊥ }
 {
     for link in set {
-        cross_both(links, *link, triple, book)?;
+        cross_both(links, set, *link, triple, book)?;
     }
     Ok(())
 }
 
-/// Finds the triples across a link and across its inverse.
+/// Finds the triples across a link of the set, and across its inverse where the set has not the inverse too.
 fn cross_both<K: Kind, const DIM: usize>(
     links: &Links<K, DIM>,
+    set: &[usize],
     link: usize,
     triple: Triple,
     book: &mut Book,
 ) -> Result<(), PairFault>
     requires link { link ≤ DIM }
+    requires among { Contains set.now link }
     requires found { Contains book.old triple }
     requires twofold { IsTwofold K.kind book.old }
     ensures stepped { OnOk result
-        (IsStepped K.kind (links_of links.now.rows) (IsLinkOrInverse K.kind link) triple book.old book.new) }
+        (IsStepped K.kind (links_of links.now.rows) (IsNewLink K.kind (Contains set.now) link) triple book.old book.new) }
     ensures unpaired { IsErrOf result PairFault.Unpaired
-        → IsPairable K.kind (links_of links.now.rows) (IsLinkOrInverse K.kind link) (Lists book.old) → ⊥ }
+        → IsPairable K.kind (links_of links.now.rows) (IsNewLink K.kind (Contains set.now) link) (Lists book.old) → ⊥ }
 {
     cross(links, link, triple, book)?;
     let back = K::inverse(link);
-    if back == link {
+    if back == link || set.contains(&back) {
         return Ok(());
     }
     cross(links, back, triple, book)
