@@ -1,10 +1,10 @@
 //! What a line tells.
 ghost use Rattle.std.specs.Prelude.{◌≡◌, [], ◌∷◌, map, IfOk, IfErr, IfNone, IfSome};
 ghost use Rattle.std.specs.String.{string_bytes};
-ghost use Rattle.std.specs.Option.{option_map};
-ghost use Rattle.std.specs.List.{list_all};
+ghost use Rattle.std.specs.Option.{option_map, option_and_then};
 ghost use Rattle.machine_defs.specs.Script.{line_of, numerals, name, line_with, numbers_line, face_line, rule_line, set_line, value, only_name, found, alone, with_one, with_two, with_three};
-ghost use Rattle.map_defs.specs.TextWords.{words_of, is_text};
+ghost use Rattle.map_defs.specs.TextWords.{words_of};
+ghost use Rattle.text_words.specs.Taking.{words_in};
 ghost use Rattle.script_text.specs.Meanings.{line_meaning, Tell, IsSyntax};
 ghost use Rattle.script_text.specs.Reading.{Reads, now_of, items_of};
 
@@ -12,7 +12,7 @@ use crate::word::{read_integer, read_name, read_numeral, read_text};
 use crate::{Change, Line, Question};
 use map_kind::{PATH_MAX, Refusal, Refused, Value};
 use std::alloc::Global;
-use text_words::{is_text, split_words, without_comment};
+use text_words::{are_text, split_words, take_word, without_comment};
 
 /// The line that these bytes tell; none exactly where they have no word. The bytes are one line without its line feed: a
 /// number sign begins a comment, and the rest is cut into words at spaces, tabs and carriage returns. It is refused as
@@ -25,62 +25,55 @@ pub fn read_line(alloc: Global, bytes: &[u8]) -> Result<Option<Line>, Refused>
     // a refusal is Syntax, where the words tell no line
     ensures refused { IfErr result (IsSyntax (words_of bytes.now)) }
 {
-    let words = split_words(alloc, without_comment(bytes))?;
-    match words.as_slice() {
-        [] => Ok(None),
-        [first, others @ ..] => Ok(Some(read_words(alloc, first, others)?)),
+    match take_word(without_comment(bytes)) {
+        None => Ok(None),
+        Some((first, others)) => Ok(Some(read_words(alloc, first, others)?)),
     }
 }
 
 /// The line that a first word and the words behind it tell.
-fn read_words(alloc: Global, first: &[u8], words: &[&[u8]]) -> Result<Line, Refused>
-    ensures { Reads line_meaning (line_of (first.now ∷ map now_of words.now)) result }
+fn read_words(alloc: Global, first: &[u8], others: &[u8]) -> Result<Line, Refused>
+    ensures { Reads line_meaning (line_of (first.now ∷ words_in others.now)) result }
 {
     let first = read_text(first).ok_or(Refusal::Syntax)?;
-    if !are_text(words) {
+    if !are_text(others) {
         return Err(Refused::Line(Refusal::Syntax));
     }
-    read_text_words(alloc, first, words)
-}
-
-fn are_text(words: &[&[u8]]) -> bool
-    ensures { result ≡ list_all (λ word. is_text word.now) words.now }
-{
-    words.iter().all(|word| is_text(word))
+    read_text_words(alloc, first, others)
 }
 
 /// The line that words of text tell.
-fn read_text_words(alloc: Global, first: &str, words: &[&[u8]]) -> Result<Line, Refused>
-    ensures { Reads line_meaning (line_with first.now (map now_of words.now)) result }
+fn read_text_words(alloc: Global, first: &str, others: &[u8]) -> Result<Line, Refused>
+    ensures { Reads line_meaning (line_with first.now (words_in others.now)) result }
 {
     match first {
-        "face" => read_face(alloc, words),
-        "rule" => read_rule(alloc, words),
-        "set" => read_set(words),
-        "mark" => Ok(Line::Change(Change::Mark(read_only_name(alloc, words)?))),
-        "undo" => Ok(Line::Change(Change::Undo(read_only_name(alloc, words)?))),
-        "log" => Ok(Line::Question(Question::Log(read_only_name(alloc, words)?))),
-        _ => {
-            let numbers = read_numerals(alloc, words)?;
-            Ok(numbers_line(first, numbers.as_slice()).ok_or(Refusal::Syntax)?)
-        }
+        "face" => read_face(alloc, others),
+        "rule" => read_rule(alloc, others),
+        "set" => read_set(alloc, others),
+        "mark" => Ok(Line::Change(Change::Mark(read_only_name(alloc, others)?))),
+        "undo" => Ok(Line::Change(Change::Undo(read_only_name(alloc, others)?))),
+        "log" => Ok(Line::Question(Question::Log(read_only_name(alloc, others)?))),
+        _ => Ok(read_numbers_line(first, others).ok_or(Refusal::Syntax)?),
     }
 }
 
 /// The line of a face, along 1 to `PATH_MAX` darts.
-fn read_face(alloc: Global, words: &[&[u8]]) -> Result<Line, Refused>
-    ensures { Reads line_meaning (face_line (map now_of words.now)) result }
+fn read_face(alloc: Global, text: &[u8]) -> Result<Line, Refused>
+    ensures { Reads line_meaning (face_line (words_in text.now)) result }
 {
+    let words = split_words(alloc, text)?;
     if words.is_empty() || words.len() > PATH_MAX {
         return Err(Refused::Line(Refusal::Syntax));
     }
-    Ok(Line::Change(Change::Face(read_numerals(alloc, words)?)))
+    let darts = read_numerals(alloc, words.as_slice())?;
+    Ok(Line::Change(Change::Face(darts)))
 }
 
-fn read_rule(alloc: Global, words: &[&[u8]]) -> Result<Line, Refused>
-    ensures { Reads line_meaning (rule_line (map now_of words.now)) result }
+fn read_rule(alloc: Global, text: &[u8]) -> Result<Line, Refused>
+    ensures { Reads line_meaning (rule_line (words_in text.now)) result }
 {
-    let [dim, merge, split] = words else {
+    let words = split_words(alloc, text)?;
+    let [dim, merge, split] = words.as_slice() else {
         return Err(Refused::Line(Refusal::Syntax));
     };
     let dim = read_numeral(dim).ok_or(Refusal::Syntax)?;
@@ -89,10 +82,11 @@ fn read_rule(alloc: Global, words: &[&[u8]]) -> Result<Line, Refused>
     Ok(Line::Change(Change::Rule(dim, merge, split)))
 }
 
-fn read_set(words: &[&[u8]]) -> Result<Line, Refused>
-    ensures { Reads line_meaning (set_line (map now_of words.now)) result }
+fn read_set(alloc: Global, text: &[u8]) -> Result<Line, Refused>
+    ensures { Reads line_meaning (set_line (words_in text.now)) result }
 {
-    match words {
+    let words = split_words(alloc, text)?;
+    match words.as_slice() {
         [dim, dart, integers @ ..] => {
             let dim = read_numeral(dim).ok_or(Refusal::Syntax)?;
             let dart = read_numeral(dart).ok_or(Refusal::Syntax)?;
@@ -126,11 +120,12 @@ fn own_name(alloc: Global, word: &[u8]) -> Result<String, Refused>
     Ok(String::from_str(alloc, name)?)
 }
 
-/// The name that these words write, if they are one word.
-fn read_only_name(alloc: Global, words: &[&[u8]]) -> Result<String, Refused>
-    ensures { Reads string_bytes (only_name (map now_of words.now)) result }
+/// The name that the words of a text write, if they are one word.
+fn read_only_name(alloc: Global, text: &[u8]) -> Result<String, Refused>
+    ensures { Reads string_bytes (only_name (words_in text.now)) result }
 {
-    match words {
+    let words = split_words(alloc, text)?;
+    match words.as_slice() {
         [word] => own_name(alloc, word),
         _ => Err(Refused::Line(Refusal::Syntax)),
     }
@@ -147,16 +142,25 @@ fn read_numerals(alloc: Global, words: &[&[u8]]) -> Result<Vec<u64>, Refused>
     Ok(numbers)
 }
 
-/// The line of a first word and the numbers behind it.
-fn numbers_line(first: &str, numbers: &[u64]) -> Option<Line>
-    ensures { option_map line_meaning result ≡ numbers_line first.now numbers.now }
+/// The line of a first word and the numbers that the words of a text write: at most three.
+fn read_numbers_line(first: &str, text: &[u8]) -> Option<Line>
+    ensures { option_map line_meaning result ≡ option_and_then (numbers_line first.now) (numerals (words_in text.now)) }
 {
-    match numbers {
-        [] => line_alone(first),
-        [a] => line_with_one(first, *a),
-        [a, b] => line_with_two(first, *a, *b),
-        [a, b, c] => line_with_three(first, *a, *b, *c),
-        _ => None,
+    let Some((a, text)) = take_word(text) else {
+        return line_alone(first);
+    };
+    let a = read_numeral(a)?;
+    let Some((b, text)) = take_word(text) else {
+        return line_with_one(first, a);
+    };
+    let b = read_numeral(b)?;
+    let Some((c, text)) = take_word(text) else {
+        return line_with_two(first, a, b);
+    };
+    let c = read_numeral(c)?;
+    match take_word(text) {
+        Some(_) => None,
+        None => line_with_three(first, a, b, c),
     }
 }
 
