@@ -7,4 +7,4 @@ mod put;
 
 pub use line::TextLine;
 pub use number::{append_number, append_spaced};
-pub use put::{put_line, put_lines};
+pub use put::{put_line, put_line_over, put_lines};

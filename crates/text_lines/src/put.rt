@@ -27,7 +27,7 @@ pub fn put_lines<L: TextLine + Drop, I: Iterator<Item = L> + Drop, S: Sink>(
 {
     let mut text = Vec::new(alloc);
     for line in lines {
-        put_appended(&mut text, out, &line)?;
+        put_line_over(&mut text, out, &line)?;
     }
     Ok(())
 }
@@ -38,11 +38,12 @@ pub fn put_line<L: TextLine, S: Sink>(alloc: Global, out: &mut S, line: &L) -> R
     ensures cause { HasCause (S.faults out.old) (S.faults out.new) (IsErrOf result PutFault.Failed) }
 {
     let mut text = Vec::new(alloc);
-    put_appended(&mut text, out, line)
+    put_line_over(&mut text, out, line)
 }
 
-/// Puts a line in one piece. It is written into `text`, which is emptied first.
-fn put_appended<L: TextLine, S: Sink>(
+/// Puts a line to a sink in one piece, as [`put_line`] does. The line is first written over what stands in `text`, so that many
+/// lines share its memory.
+pub fn put_line_over<L: TextLine, S: Sink>(
     text: &mut Vec<u8>,
     out: &mut S,
     line: &L,
