@@ -1,4 +1,5 @@
 pub mod Digits
 pub mod AsciiWords
 pub mod ReadWords
+pub mod NumberLines
 pub mod LogTexts

@@ -1,9 +1,9 @@
 //! What a line tells.
-ghost use Rattle.std.specs.Prelude.{◌≡◌, [], ◌∷◌, map, IfOk, IfErr, IfNone, IfSome};
+ghost use Rattle.std.specs.Prelude.{◌≡◌, [], ◌∷◌, None, true, map, IfOk, IfErr, IfNone, IfSome};
 ghost use Rattle.std.specs.String.{string_bytes};
 ghost use Rattle.std.specs.Option.{option_map, option_and_then};
-ghost use Rattle.machine_defs.specs.Script.{line_of, numerals, name, line_with, numbers_line, face_line, rule_line, set_line, value, only_name, found, alone, with_one, with_two, with_three};
-ghost use Rattle.map_defs.specs.TextWords.{words_of};
+ghost use Rattle.machine_defs.specs.Script.{line_of, numerals, name, numbers_line, face_line, rule_line, set_line, value, only_name, found, alone, with_one, with_two, with_three};
+ghost use Rattle.map_defs.specs.TextWords.{words_of, is_text};
 ghost use Rattle.text_words.specs.Taking.{words_in};
 ghost use Rattle.script_text.specs.Meanings.{line_meaning, Tell, IsSyntax};
 ghost use Rattle.script_text.specs.Reading.{Reads, now_of, items_of};
@@ -36,16 +36,21 @@ fn read_words(alloc: Global, first: &[u8], others: &[u8]) -> Result<Line, Refuse
     ensures { Reads line_meaning (line_of (first.now ∷ words_in others.now)) result }
 {
     let first = read_text(first).ok_or(Refusal::Syntax)?;
+    match read_numbers_line(first, others) {
+        Some(line) => Ok(line),
+        None => read_worded_line(alloc, first, others),
+    }
+}
+
+/// The line that a first word and the words behind it tell, where they tell none by numbers alone.
+fn read_worded_line(alloc: Global, first: &str, others: &[u8]) -> Result<Line, Refused>
+    requires text { is_text first.now ≡ true }
+    requires others { option_and_then (numbers_line first.now) (numerals (words_in others.now)) ≡ None }
+    ensures { Reads line_meaning (line_of (first.now ∷ words_in others.now)) result }
+{
     if !are_text(others) {
         return Err(Refused::Line(Refusal::Syntax));
     }
-    read_text_words(alloc, first, others)
-}
-
-/// The line that words of text tell.
-fn read_text_words(alloc: Global, first: &str, others: &[u8]) -> Result<Line, Refused>
-    ensures { Reads line_meaning (line_with first.now (words_in others.now)) result }
-{
     match first {
         "face" => read_face(alloc, others),
         "rule" => read_rule(alloc, others),
@@ -53,7 +58,7 @@ fn read_text_words(alloc: Global, first: &str, others: &[u8]) -> Result<Line, Re
         "mark" => Ok(Line::Change(Change::Mark(read_only_name(alloc, others)?))),
         "undo" => Ok(Line::Change(Change::Undo(read_only_name(alloc, others)?))),
         "log" => Ok(Line::Question(Question::Log(read_only_name(alloc, others)?))),
-        _ => Ok(read_numbers_line(first, others).ok_or(Refusal::Syntax)?),
+        _ => Err(Refused::Line(Refusal::Syntax)),
     }
 }
 

@@ -1,14 +1,12 @@
-use Rattle.std.proofs.Common.{refl, sym, ◌∙◌, rules}
-use Rattle.std.proofs.Math.Bool.{and-false}
+use Rattle.std.proofs.Common.{◌≡◌, true, sym, ◌∙◌, rules}
 use Rattle.map_defs.specs.TextWords.{is_text}
+use Rattle.text_words.specs.Taking.{words_in}
+use Rattle.script_text.specs.Meanings.{line_meaning}
+use Rattle.script_text.proofs.NumberLines.{told-by_numbers}
 use Rattle.script_text.proofs.read.read_words.Goals as goal
 
-pub returns-then-not-are_text : goal.returns-then-not-are_text
-returns-then-not-are_text c =
-    let others = sym c.are_text.ensures ∙ c.if-not-are_text.true in
-    (refl, rw (others, and-false (is_text c.args.first.now)) refl)
-
-pub returns : goal.returns
-returns c =
-    let others = sym c.are_text.ensures ∙ c.if-not-are_text.false in
-    rw others (search rules)
+pub returns-in-Some : goal.returns-in-Some
+returns-in-Some c =
+    let text : is_text c.args.first.now ≡ true = search rules in
+    let same = sym c.in-Some.ensures in
+    told-by_numbers c.args.first.now (words_in c.args.others.now) (line_meaning c.in-Some.line) text (search rules)
