@@ -1,5 +1,5 @@
 -- Words of ASCII are text.
-use Rattle.std.proofs.Common.{◌≡◌, ℕ, zero, suc, ◌<◌, Bool, true, List, [], ◌∷◌, Some, Result, Ok, Err, MatchResult, ap, arith}
+use Rattle.std.proofs.Common.{◌≡◌, ℕ, zero, suc, ◌<◌, Bool, true, false, List, [], ◌∷◌, Some, Result, Ok, Err, MatchResult, refl, ap, arith}
 use Rattle.std.specs.List.{list_all}
 use Rattle.std.specs.Option.{option_copied}
 use Rattle.std.specs.Result.{result_ok}
@@ -9,6 +9,7 @@ use Rattle.std.specs.Char.{is_ascii_graphic}
 use Rattle.std.proofs.lemmas.Str.{IsUtf8-from_ascii}
 use Rattle.std.proofs.lemmas.Bool.{and_parts}
 use Rattle.std.proofs.lemmas.Bool.Decides.{nat_tests}
+use Rattle.map_defs.specs.TextWords.{is_text}
 use Rattle.machine_defs.specs.Script.{is_name_byte}
 
 -- a word is ASCII if all its bytes pass a test that only ASCII passes
@@ -19,6 +20,14 @@ IsAscii-all p low (b ∷ word) all (suc i) = IsAscii-all p low word (and_parts (
 
 pub IsUtf8-graphic : (word : List ℕ) → list_all is_ascii_graphic word ≡ true → IsUtf8 word
 IsUtf8-graphic word all = IsUtf8-from_ascii word (IsAscii-all is_ascii_graphic (λ b e. grind (arith, nat_tests)) word all)
+
+-- what is not UTF-8 is not text
+pub not-text : (word : List ℕ) → (IsUtf8 word → ⊥) → is_text word ≡ false
+not-text word not = at (is_text word) refl
+  where
+    at : (b : Bool) → is_text word ≡ b → b ≡ false
+    at true e = absurd (not (IsUtf8-graphic word e))
+    at false e = refl
 
 pub IsUtf8-name : (word : List ℕ) → list_all is_name_byte word ≡ true → IsUtf8 word
 IsUtf8-name word all = IsUtf8-from_ascii word (IsAscii-all is_name_byte (λ b e. grind (arith, nat_tests)) word all)

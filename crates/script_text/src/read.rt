@@ -1,14 +1,14 @@
 //! What a line tells.
-ghost use Rattle.std.specs.Prelude.{◌≡◌, [], ◌∷◌, None, true, map, IfOk, IfErr, IfNone, IfSome};
+ghost use Rattle.std.specs.Prelude.{◌≡◌, [], ◌∷◌, None, map, IfOk, IfErr, IfNone, IfSome};
 ghost use Rattle.std.specs.String.{string_bytes};
 ghost use Rattle.std.specs.Option.{option_map, option_and_then};
 ghost use Rattle.machine_defs.specs.Script.{line_of, numerals, name, numbers_line, face_line, rule_line, set_line, value, only_name, found, alone, with_one, with_two, with_three};
-ghost use Rattle.map_defs.specs.TextWords.{words_of, is_text};
+ghost use Rattle.map_defs.specs.TextWords.{words_of};
 ghost use Rattle.text_words.specs.Taking.{words_in};
 ghost use Rattle.script_text.specs.Meanings.{line_meaning, Tell, IsSyntax};
 ghost use Rattle.script_text.specs.Reading.{Reads, now_of, items_of};
 
-use crate::word::{read_integer, read_name, read_numeral, read_text};
+use crate::word::{read_integer, read_name, read_numeral};
 use crate::{Change, Line, Question};
 use map_kind::{PATH_MAX, Refusal, Refused, Value};
 use std::alloc::Global;
@@ -35,7 +35,9 @@ pub fn read_line(alloc: Global, bytes: &[u8]) -> Result<Option<Line>, Refused>
 fn read_words(alloc: Global, first: &[u8], others: &[u8]) -> Result<Line, Refused>
     ensures { Reads line_meaning (line_of (first.now ∷ words_in others.now)) result }
 {
-    let first = read_text(first).ok_or(Refusal::Syntax)?;
+    let Ok(first) = str::from_utf8(first) else {
+        return Err(Refused::Line(Refusal::Syntax));
+    };
     match read_numbers_line(first, others) {
         Some(line) => Ok(line),
         None => read_worded_line(alloc, first, others),
@@ -44,8 +46,7 @@ fn read_words(alloc: Global, first: &[u8], others: &[u8]) -> Result<Line, Refuse
 
 /// The line that a first word and the words behind it tell, where they tell none by numbers alone.
 fn read_worded_line(alloc: Global, first: &str, others: &[u8]) -> Result<Line, Refused>
-    requires text { is_text first.now ≡ true }
-    requires others { option_and_then (numbers_line first.now) (numerals (words_in others.now)) ≡ None }
+    requires { option_and_then (numbers_line first.now) (numerals (words_in others.now)) ≡ None }
     ensures { Reads line_meaning (line_of (first.now ∷ words_in others.now)) result }
 {
     if !are_text(others) {

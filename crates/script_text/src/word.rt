@@ -3,19 +3,8 @@ ghost use Rattle.std.specs.Prelude.{◌≡◌, ◌+◌, ◌*◌, ◌<◌, ◌==�
 ghost use Rattle.std.specs.List.{list_all};
 ghost use Rattle.std.specs.Option.{option_copied};
 ghost use Rattle.machine_defs.specs.Script.{is_numeral, numeral, positive, negative, integer, is_name_byte, is_name, name};
-ghost use Rattle.map_defs.specs.TextWords.{is_text};
 
-use text_words::{is_digits, is_text};
-
-/// The word as text; none exactly where it is none.
-pub fn read_text(word: &[u8]) -> Option<&str>
-    ensures { option_copied result ≡ (if is_text word.now then Some word.now else None) }
-{
-    if !is_text(word) {
-        return None;
-    }
-    str::from_utf8(word).ok()
-}
+use text_words::is_digits;
 
 /// The number that a word writes; none exactly where it is no numeral: `0`, or at most 19 digits of which the first is
 /// not 0.
