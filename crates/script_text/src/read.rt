@@ -55,7 +55,7 @@ fn read_worded_line(alloc: Global, first: &str, others: &[u8]) -> Result<Line, R
     match first {
         "face" => read_face(alloc, others),
         "rule" => read_rule(alloc, others),
-        "set" => read_set(alloc, others),
+        "set" => Ok(read_set(others).ok_or(Refusal::Syntax)?),
         "mark" => Ok(Line::Change(Change::Mark(read_only_name(alloc, others)?))),
         "undo" => Ok(Line::Change(Change::Undo(read_only_name(alloc, others)?))),
         "log" => Ok(Line::Question(Question::Log(read_only_name(alloc, others)?))),
@@ -78,44 +78,43 @@ fn read_face(alloc: Global, text: &[u8]) -> Result<Line, Refused>
 fn read_rule(alloc: Global, text: &[u8]) -> Result<Line, Refused>
     ensures { Reads line_meaning (rule_line (words_in text.now)) result }
 {
-    let words = split_words(alloc, text)?;
-    let [dim, merge, split] = words.as_slice() else {
+    let (dim, text) = take_word(text).ok_or(Refusal::Syntax)?;
+    let (merge, text) = take_word(text).ok_or(Refusal::Syntax)?;
+    let (split, text) = take_word(text).ok_or(Refusal::Syntax)?;
+    if take_word(text).is_some() {
         return Err(Refused::Line(Refusal::Syntax));
-    };
+    }
     let dim = read_numeral(dim).ok_or(Refusal::Syntax)?;
     let merge = own_name(alloc, merge)?;
     let split = own_name(alloc, split)?;
     Ok(Line::Change(Change::Rule(dim, merge, split)))
 }
 
-fn read_set(alloc: Global, text: &[u8]) -> Result<Line, Refused>
-    ensures { Reads line_meaning (set_line (words_in text.now)) result }
+fn read_set(text: &[u8]) -> Option<Line>
+    ensures { option_map line_meaning result ≡ set_line (words_in text.now) }
 {
-    let words = split_words(alloc, text)?;
-    match words.as_slice() {
-        [dim, dart, integers @ ..] => {
-            let dim = read_numeral(dim).ok_or(Refusal::Syntax)?;
-            let dart = read_numeral(dart).ok_or(Refusal::Syntax)?;
-            let value = read_value(integers).ok_or(Refusal::Syntax)?;
-            Ok(Line::Change(Change::Set(dim, dart, value)))
-        }
-        _ => Err(Refused::Line(Refusal::Syntax)),
-    }
+    let (dim, text) = take_word(text)?;
+    let (dart, text) = take_word(text)?;
+    let dim = read_numeral(dim)?;
+    let dart = read_numeral(dart)?;
+    let value = read_value(text)?;
+    Some(Line::Change(Change::Set(dim, dart, value)))
 }
 
-/// The value that three words write.
-fn read_value(words: &[&[u8]]) -> Option<Value>
-    ensures { result ≡ value (map now_of words.now) }
+/// The value that the words of a text write, if they are three.
+fn read_value(text: &[u8]) -> Option<Value>
+    ensures { result ≡ value (words_in text.now) }
 {
-    match words {
-        [a, b, c] => {
-            let a = read_integer(a)?;
-            let b = read_integer(b)?;
-            let c = read_integer(c)?;
-            Some(Value { a, b, c })
-        }
-        _ => None,
+    let (a, text) = take_word(text)?;
+    let (b, text) = take_word(text)?;
+    let (c, text) = take_word(text)?;
+    if take_word(text).is_some() {
+        return None;
     }
+    let a = read_integer(a)?;
+    let b = read_integer(b)?;
+    let c = read_integer(c)?;
+    Some(Value { a, b, c })
 }
 
 /// The name that a word writes.
@@ -130,10 +129,10 @@ fn own_name(alloc: Global, word: &[u8]) -> Result<String, Refused>
 fn read_only_name(alloc: Global, text: &[u8]) -> Result<String, Refused>
     ensures { Reads string_bytes (only_name (words_in text.now)) result }
 {
-    let words = split_words(alloc, text)?;
-    match words.as_slice() {
-        [word] => own_name(alloc, word),
-        _ => Err(Refused::Line(Refusal::Syntax)),
+    let (word, rest) = take_word(text).ok_or(Refusal::Syntax)?;
+    match take_word(rest) {
+        None => own_name(alloc, word),
+        Some(_) => Err(Refused::Line(Refusal::Syntax)),
     }
 }
 
