@@ -28,7 +28,7 @@ numerals-text (word ∷ words) numbers h =
     option_and_then_some (λ n. option_and_then (λ ns. Some (n ∷ ns)) (numerals words)) (numeral word) numbers h (λ n first more.
     option_and_then_some (λ ns. Some (n ∷ ns)) (numerals words) numbers more (λ ns others _.
     let is = (cond_some (is_numeral word) (value_of word) n first).0 in
-    ap₂ ◌&&◌ (digits-text word (numeral_digits word is).0) (numerals-text words ns others)))
+    ap₂ ◌&&◌ (digits-text word (numeral_digits word is)) (numerals-text words ns others)))
 
 -- a word of none of the four tables has no line with numbers alone
 without-row : (word : List ℕ) → found word alone ≡ None → found word with_one ≡ None → found word with_two ≡ None → found word with_three ≡ None → (numbers : List ℕ) → numbers_line word numbers ≡ None

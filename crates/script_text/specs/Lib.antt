@@ -2,3 +2,4 @@ pub mod Meanings
 pub mod Reading
 pub mod ReplyEnds
 pub mod LogLines
+pub mod Numerals

@@ -2,42 +2,35 @@
 ghost use Rattle.std.specs.Prelude.{◌≡◌, ◌+◌, ◌*◌, ◌<◌, ◌==◌, nat_le, Some, None, if◌then◌else◌};
 ghost use Rattle.std.specs.List.{list_all};
 ghost use Rattle.std.specs.Option.{option_copied};
-ghost use Rattle.machine_defs.specs.Script.{is_numeral, numeral, positive, negative, integer, is_name_byte, is_name, name};
-
-use text_words::is_digits;
+ghost use Rattle.machine_defs.specs.Script.{numeral, positive, negative, integer, is_name_byte, is_name, name};
+ghost use Rattle.script_text.specs.Numerals.{may_be_numeral};
 
 /// The number that a word writes; none exactly where it is no numeral: `0`, or at most 19 digits of which the first is
 /// not 0.
 pub fn read_numeral(word: &[u8]) -> Option<u64>
     ensures { result ≡ numeral word.now }
 {
-    if !is_numeral(word) {
+    if !may_be_numeral(word) {
         return None;
     }
     let mut value = 0;
-    for digit in word {
-        value = 10 * value + u64::from(*digit - b'0');
+    for byte in word {
+        if !byte.is_ascii_digit() {
+            return None;
+        }
+        value = 10 * value + u64::from(*byte - b'0');
     }
     Some(value)
 }
 
-fn is_numeral(word: &[u8]) -> bool
-    ensures { result ≡ is_numeral word.now }
+/// Whether a word is a numeral if it consists of digits.
+fn may_be_numeral(word: &[u8]) -> bool
+    ensures { result ≡ may_be_numeral word.now }
 {
     match word {
         [] => false,
-        [first, others @ ..] => is_digits(word) && is_length_of_numeral(*first, others.len()),
-    }
-}
-
-/// Whether so many digits may stand behind the first one.
-fn is_length_of_numeral(first: u8, others: usize) -> bool
-    ensures { result ≡ (if first == 48 then others == 0 else nat_le others 18) }
-{
-    if first == b'0' {
-        others == 0
-    } else {
-        others <= 18
+        [b'0', others @ ..] => others.is_empty(),
+        [_, others @ ..] => others.len() <= 18,
     }
 }
 
