@@ -70,11 +70,12 @@ pub fn reply_text(alloc: Global, reply: &Reply) -> Result<Vec<u8>, AllocError>
 fn append_done(text: &mut Vec<u8>, done: Done) -> Result<(), AllocError>
     ensures { Appends text.old.items text.new.items (done_text done.first done.count) result }
 {
-    text.extend_from_slice(b"ok")?;
-    if done.count != 0 {
-        append_spaced(text, done.first)?;
-        append_spaced(text, done.count)?;
+    if done.count == 0 {
+        return text.extend_from_slice(b"ok\n");
     }
+    text.extend_from_slice(b"ok")?;
+    append_spaced(text, done.first)?;
+    append_spaced(text, done.count)?;
     text.push(b'\n')?;
     Ok(())
 }
