@@ -15,7 +15,7 @@ use map_io::{PutFault, Sink};
 use map_kind::{Dart, Done, Refusal, Refused, Value};
 use script_text::{Reply, put_log};
 use std::alloc::{AllocError, Global};
-use text_lines::put_line;
+use text_lines::put_line_over;
 use undo_journal::Step as Changed;
 
 /// The answer to a line: a reply of one line, a listing, or the steps of a log, which are lent.
@@ -37,13 +37,18 @@ impl<'a> Answer<'a> {
         }
     }
 
-    /// Puts the text of the answer to a sink, each line in one piece.
-    pub fn put_to<S: Sink>(&self, alloc: Global, out: &mut S) -> Result<(), PutFault>
+    /// Puts the text of the answer to a sink, each line in one piece. A reply of one line is written over `text` first.
+    pub fn put_to<S: Sink>(
+        &self,
+        alloc: Global,
+        text: &mut Vec<u8>,
+        out: &mut S,
+    ) -> Result<(), PutFault>
         ensures written { WritesText (S.written out.old) (S.written out.new) result (reply_text (answer_meaning self.now)) }
         ensures cause { HasCause (S.faults out.old) (S.faults out.new) (IsErrOf result PutFault.Failed) }
     {
         match self {
-            Answer::Line(reply) => put_line(alloc, out, reply),
+            Answer::Line(reply) => put_line_over(text, out, reply),
             Answer::Listing(listing) => put_listing(alloc, out, listing),
             Answer::Log(steps) => put_log(alloc, out, steps),
         }

@@ -16,11 +16,12 @@ use map_kind::{Refusal, Refused};
 use script_text::{Change, Line, Question, Reply, read_line};
 use std::alloc::{AllocError, Global};
 
-/// Obeys one line, writes its reply, and answers whether it was refused.
+/// Obeys one line, writes its reply, and answers whether it was refused. A reply of one line is written over `text` first.
 pub fn obey_line<K: Edits<DIM>, H: Hook, const DIM: usize, S: Sink>(
     alloc: Global,
     line: &[u8],
     map: &mut Map<'_, K, H, DIM>,
+    text: &mut Vec<u8>,
     out: &mut S,
 ) -> Result<bool, PutFault>
     requires { H.ready map.old.hook }
@@ -30,9 +31,9 @@ pub fn obey_line<K: Edits<DIM>, H: Hook, const DIM: usize, S: Sink>(
 {
     match read_line(alloc, line) {
         Ok(None) => Ok(false),
-        Ok(Some(Line::Change(line))) => say(alloc, out, done(change(alloc, &line, map))),
-        Ok(Some(Line::Question(line))) => say(alloc, out, ask(alloc, &line, map)),
-        Err(Refused::Line(refusal)) => say(alloc, out, Ok(Answer::Line(Reply::No(refusal)))),
+        Ok(Some(Line::Change(line))) => say(alloc, text, out, done(change(alloc, &line, map))),
+        Ok(Some(Line::Question(line))) => say(alloc, text, out, ask(alloc, &line, map)),
+        Err(Refused::Line(refusal)) => say(alloc, text, out, Ok(Answer::Line(Reply::No(refusal)))),
         Err(Refused::NoMemory) => Err(PutFault::NoMemory),
     }
 }
@@ -40,6 +41,7 @@ pub fn obey_line<K: Edits<DIM>, H: Hook, const DIM: usize, S: Sink>(
 /// Writes an answer, if there is one, and tells whether it is a refusal.
 fn say<S: Sink>(
     alloc: Global,
+    text: &mut Vec<u8>,
     out: &mut S,
     answer: Result<Answer<'_>, AllocError>,
 ) -> Result<bool, PutFault>
@@ -48,7 +50,7 @@ fn say<S: Sink>(
     ensures cause { HasCause (S.faults out.old) (S.faults out.new) (IsErrOf result PutFault.Failed) }
 {
     match answer {
-        Ok(answer) => match answer.put_to(alloc, out) {
+        Ok(answer) => match answer.put_to(alloc, text, out) {
             Ok(()) => Ok(answer.is_refused()),
             Err(fault) => Err(fault),
         },

@@ -124,11 +124,15 @@ fn obey_script<K: Edits<DIM>, H: Hook, const DIM: usize, S: Sink>(
     ensures cause { HasCause (S.faults out.old) (S.faults out.new) (IsErrOf result PutFault.Failed) }
 {
     let mut map = map;
+    let mut reply = Vec::new(alloc);
     let mut refused = false;
     let mut rest = Some(script);
     while let Some(text) = rest {
         let (line, after) = script::next_line(text);
-        refused = either(machine::obey_line(alloc, line, &mut map, out)?, refused);
+        refused = either(
+            machine::obey_line(alloc, line, &mut map, &mut reply, out)?,
+            refused,
+        );
         rest = after;
     }
     Ok(refused)
