@@ -15,7 +15,7 @@ use Rattle.machine_defs.specs.State.{Content, State, Mark, value_at, without_dar
 use Rattle.machine_defs.specs.Kept.{IsLawfulContent, IsLawfulState}
 use Rattle.machine_defs.specs.Relinking.{IsRelinked, IsGrown}
 use Rattle.machine_defs.specs.Marking.{IsMark, with_mark, back_to, since}
-use Rattle.machine_defs.specs.Listing.{listing_with}
+use Rattle.machine_defs.specs.Listing.{names_of, listing_with}
 use Rattle.machine_defs.specs.Script as says
 use Rattle.machine_defs.specs.Script.{Line}
 use Rattle.machine_defs.specs.Text.{Reply, Done, Darts, CellValue, Counts, Shown, Logged}
@@ -114,5 +114,5 @@ module _ (hook : Meaning) (s : State) (kept : IsLawfulState s) where
   effect_found (says.Contractible i d) needs p = tells_found s (IsContractible c.kind L i d)
   effect_found (says.Sewable i d e) needs p = tells_found s (IsSewable c.kind L i d e)
   effect_found says.Count needs p = λ never. counts_found c.kind c.dim c.rows (λ counts. never (Counts counts.0, s, (counts.0, counts.1, refl, refl)))
-  effect_found says.Show needs p = λ never. values_listed c kept.present.places (λ listed. never (Shown (listing_with c listed.0), s, (listed.0, listed.1, refl, refl)))
+  effect_found says.Show needs p = λ never. values_listed c kept.present.places (λ listed. never (Shown (listing_with c listed.0 (names_of s.marks)), s, (listed.0, listed.1, refl, refl)))
   effect_found says.Off needs p = absurd p.0

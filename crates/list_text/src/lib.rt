@@ -3,10 +3,12 @@
 
 mod line;
 mod listing;
+mod name;
 #[cfg(test)]
 mod tests;
 mod write;
 
 pub use line::ListLine;
-pub use listing::{ListRow, ListValue, Listing};
+pub use listing::{ListRow, ListRule, ListValue, Listing};
+pub use name::MarkName;
 pub use write::{put_listing, write_listing};

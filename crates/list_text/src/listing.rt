@@ -1,4 +1,6 @@
 //! What a listing tells, as plain data.
+use crate::name::MarkName;
+use attr_rules::TableRule;
 use map_kind::{Dart, Place};
 use std::marker::Model;
 
@@ -15,6 +17,23 @@ impl Model for ListRow {
     ghost Value = { listing.ListRow };
 
     ghost view = { λ r. record { dart = r.dart; links = r.links.items } };
+}
+
+/// The rule of a dimension: how values of cells of this dimension merge and split.
+#[derive(Clone, Copy, Debug, PartialEq, Eq)]
+pub struct ListRule {
+    pub dim: u32,
+    pub rule: TableRule,
+}
+
+impl Model for ListRule {
+    ghost use Rattle.machine_defs.specs.Listing as listing;
+
+    ghost Value = { listing.ListRule };
+
+    ghost view = { λ r. record { dim = r.dim; rule = r.rule } };
+
+    ghost inverse = { λ r. record { dim = r.dim; rule = r.rule } };
 }
 
 /// A cell that has a value: its dimension, its least dart and its value.
@@ -34,7 +53,7 @@ impl Model for ListValue {
     ghost inverse = { λ v. record { dim = v.dim; place = record { dart = v.dart; value = v.value } } };
 }
 
-/// What a listing tells of a map: its darts, links and values. A listing is data to be written, and need not be that of a
+/// What a listing tells of a map: its darts, links, rules and values, and the names of its marks. A listing is data to be written, and need not be that of a
 /// map: any numbers may stand in it, in any order. Only its letter is always that of a kind.
 #[derive(Debug, Drop)]
 pub struct Listing {
@@ -46,8 +65,12 @@ pub struct Listing {
     pub made: u32,
     /// The rows of the live darts; a map lists them by ascending dart.
     pub rows: Vec<ListRow>,
+    /// The rules of the dimensions that have one; a map lists them by ascending dimension.
+    pub rules: Vec<ListRule>,
     /// The cells that have a value; a map lists them by ascending dimension and then by ascending dart.
     pub values: Vec<ListValue>,
+    /// The names of the marks; a map lists the oldest first.
+    pub marks: Vec<MarkName>,
 }
 
 impl Model for Listing {
@@ -62,7 +85,9 @@ impl Model for Listing {
       dim = l.dim;
       made = l.made;
       rows = l.rows.items;
+      rules = l.rules.items;
       values = l.values.items;
+      marks = l.marks.items;
     } };
 
     ghost invariant = { λ l. IsLetter l.letter };

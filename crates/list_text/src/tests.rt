@@ -43,7 +43,7 @@ fn a_triangle_of_a_combinatorial_map(rt: HostRuntime) -> Result<(), Fail> {
     };
     assert_eq!(rt;
         write_listing(alloc, &listing)?.as_slice(),
-        b"cellmap 1 c 2 3 3
+        b"cellmap 2 c 2 3 3
 1: 3 2 0
 2: 1 3 0
 3: 2 1 0
@@ -69,7 +69,7 @@ fn a_dart_of_a_generalized_map_of_dimension_seven(rt: HostRuntime) -> Result<(),
     };
     assert_eq!(rt;
         write_listing(alloc, &listing)?.as_slice(),
-        b"cellmap 1 g 7 4194304 1
+        b"cellmap 2 g 7 4194304 1
 4194304: 0 0 0 0 0 0 0 0
 end
 "
@@ -90,7 +90,7 @@ fn an_empty_map(rt: HostRuntime) -> Result<(), Fail> {
     };
     assert_eq!(rt;
         write_listing(alloc, &listing)?.as_slice(),
-        b"cellmap 1 g 2 0 0\nend\n".as_slice()
+        b"cellmap 2 g 2 0 0\nend\n".as_slice()
     );
     Ok(())
 }

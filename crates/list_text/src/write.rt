@@ -10,8 +10,8 @@ use std::alloc::{AllocError, Global};
 use std::iter;
 use text_lines::put_lines;
 
-/// The text of a listing, in version 1 of this project's format: a line that names the kind, the dimension, how many darts
-/// were made and how many rows there are, then a line for each row, a line for each value, and `end`. Nothing is asked of
+/// The text of a listing, in version 2 of this project's format: a line that names the kind, the dimension, how many darts
+/// were made and how many rows there are, then a line for each row, each rule, each value and each mark, and `end`. Nothing is asked of
 /// the listing: it is written as it stands, whatever its dimension, its darts and their order. The one error is want of
 /// memory.
 pub fn write_listing(alloc: Global, listing: &Listing) -> Result<Vec<u8>, AllocError>
@@ -38,7 +38,9 @@ pub fn put_listing<S: Sink>(alloc: Global, out: &mut S, listing: &Listing) -> Re
     };
     let lines = iter::once(header)
         .chain(listing.rows.iter().map(ListLine::Row))
+        .chain(listing.rules.iter().map(ListLine::Rule))
         .chain(listing.values.iter().map(ListLine::Value))
+        .chain(listing.marks.iter().map(ListLine::Mark))
         .chain(iter::once(ListLine::End));
     put_lines(alloc, out, lines)
 }

@@ -26,7 +26,7 @@ use Rattle.machine_defs.specs.Difference.{Difference, AreDifferences}
 use Rattle.machine_defs.specs.Marking.{IsMark, HasMark, with_mark, back_to, since}
 use Rattle.map_defs.specs.Refusal as why
 use Rattle.map_defs.specs.Refusal.{Refusal}
-use Rattle.machine_defs.specs.Listing.{ListValue, ListsValues, listing_with}
+use Rattle.machine_defs.specs.Listing.{ListValue, ListsValues, names_of, listing_with}
 use Rattle.machine_defs.specs.Text.{Reply, Done, Truth, Darts, CellValue, Counts, Shown, Logged, Refused}
 use Rattle.machine_defs.specs.Script.{Line, Polygon, Dart, Del, Sew, Unsew, Vertex, Edge, Face, Remove, Contract, Dual, Rule, Set, Clear, Mark, Undo, Log, Cell, Same, Free, Value, Removable, Contractible, Sewable, Count, Show, line_of}
 use Rattle.map_defs.specs.TextWords.{words_of}
@@ -207,7 +207,7 @@ Effect hook s (Sewable i d e) = TellsWhether s (IsSewable s.present.kind (links_
 Effect hook s Count = λ reply new. (counts : List ℕ) × AreCounts s.present.kind s.present.dim s.present.rows counts
     × (reply ≡ Counts counts) × (new ≡ s)
 Effect hook s Show = λ reply new. (values : List ListValue) × ListsValues s.present values
-    × (reply ≡ Shown (listing_with s.present values)) × (new ≡ s)
+    × (reply ≡ Shown (listing_with s.present values (names_of s.marks))) × (new ≡ s)
 Effect hook s line = λ reply new. ⊥
 
 -- The first check that fails refuses the line and leaves the state as it was; a check is looked at only after those

@@ -6,7 +6,8 @@ pub use Rattle.machine_defs.specs.TextLines.{ended, spaced, spaced_signed}
 use Rattle.map_defs.specs.Kind.{letter}
 use Rattle.map_defs.specs.Refusal.{Refusal, number, name}
 use Rattle.map_defs.specs.Values.{Value}
-use Rattle.machine_defs.specs.Listing.{ListRow, ListValue, Listing}
+use Rattle.map_defs.specs.RuleNames.{merge_name, split_name}
+use Rattle.machine_defs.specs.Listing.{ListRow, ListRule, ListValue, Listing}
 use Rattle.machine_defs.specs.Difference.{Difference}
 use Rattle.machine_defs.specs.LogText.{log_text}
 
@@ -35,7 +36,7 @@ is_refused (Refused r) = true
 
 -- a listing's first line: its version, the kind's letter, the dimension, the darts made and the live ones
 abbrev pub header_line : ℕ → ℕ → ℕ → ℕ → List ℕ
-header_line letter dim made live = ended (codes "cellmap 1 " ++ letter ∷ [] ++ spaced dim ++ spaced made ++ spaced live)
+header_line letter dim made live = ended (codes "cellmap 2 " ++ letter ∷ [] ++ spaced dim ++ spaced made ++ spaced live)
 
 abbrev pub header_text : Listing → List ℕ
 header_text l = header_line (letter l.kind) l.dim l.made (length l.rows)
@@ -48,8 +49,16 @@ row_text row = ended (decimal row.dart ++ 58 ∷ [] ++ flat_map spaced row.links
 abbrev pub value_text : ListValue → List ℕ
 value_text v = ended (codes "val" ++ spaced v.dim ++ spaced v.dart ++ spaced_signed v.value.a ++ spaced_signed v.value.b ++ spaced_signed v.value.c)
 
+-- a rule is its dimension and the names of its merge and its split
+abbrev pub rule_text : ListRule → List ℕ
+rule_text r = ended (codes "rule" ++ spaced r.dim ++ 32 ∷ merge_name r.rule.merge ++ 32 ∷ split_name r.rule.split)
+
+-- a mark is its name
+abbrev pub mark_text : List ℕ → List ℕ
+mark_text name = ended (codes "mark " ++ name)
+
 abbrev pub listing_text : Listing → List ℕ
-listing_text l = header_text l ++ flat_map row_text l.rows ++ flat_map value_text l.values ++ ended (codes "end")
+listing_text l = header_text l ++ flat_map row_text l.rows ++ flat_map rule_text l.rules ++ flat_map value_text l.values ++ flat_map mark_text l.marks ++ ended (codes "end")
 
 -- a changing line that made no darts says `ok` alone
 abbrev pub done_text : ℕ → ℕ → List ℕ

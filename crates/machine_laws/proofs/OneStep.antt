@@ -18,7 +18,7 @@ use Rattle.map_defs.specs.Values.{Meaning, Value}
 use Rattle.machine_defs.specs.State.{State, Content, Mark, rule_at, with_born, without_dart, steps_to}
 use Rattle.machine_defs.specs.Script as says
 use Rattle.machine_defs.specs.Script.{Line}
-use Rattle.machine_defs.specs.Listing.{ListValue, listing_with}
+use Rattle.machine_defs.specs.Listing.{ListValue, names_of, listing_with}
 use Rattle.machine_defs.specs.Difference.{AreDifferences}
 use Rattle.machine_defs.specs.Marking.{since, back_to}
 use Rattle.map_defs.specs.Removal.{IsRemovable, IsRemoved}
@@ -211,7 +211,7 @@ module _ (hook : Meaning) (s : State) where
   effect-one says.Count needs told p = λ one other new new' e f.
       (e.2 ∙ ap Counts (counts-one s.present.kind s.present.dim s.present.rows e.0 f.0 e.1 f.1) ∙ sym f.2, e.3 ∙ sym f.3)
   effect-one says.Show needs told p = λ one other new new' e f.
-      (e.2 ∙ ap (λ (values : List ListValue). Shown (listing_with s.present values)) (one-listing s.present e.0 f.0 e.1 f.1) ∙ sym f.2, e.3 ∙ sym f.3)
+      (e.2 ∙ ap (λ (values : List ListValue). Shown (listing_with s.present values (names_of s.marks))) (one-listing s.present e.0 f.0 e.1 f.1) ∙ sym f.2, e.3 ∙ sym f.3)
   effect-one (says.Vertex d) needs told p = inserts-one _ _ (vertex-one s.present.kind (links_in s.present) d)
   effect-one (says.Edge d e) needs told p = inserts-one _ _ (edge-one s.present.kind (links_in s.present) d e needs p.1.1.1.0 p.1.1.1.1.0)
   effect-one (says.Face path) needs told p = inserts-one _ _ (face-one s.present.kind (links_in s.present) path needs p.1.1.1.0 p.1.1.1.1.0)

@@ -1,9 +1,9 @@
 //! Marks, and the steps since one.
-ghost use Rattle.std.specs.Prelude.{◌≡◌, ℕ, length, IfOk};
+ghost use Rattle.std.specs.Prelude.{◌≡◌, ℕ, true, length, IfOk};
 ghost use Rattle.machine_defs.specs.State.{Mark as SetMark};
 ghost use Rattle.machine_defs.specs.Marking.{IsMark};
 ghost use Rattle.machine_defs.specs.Kept.{IsLawfulState};
-ghost use Rattle.machine_defs.specs.Script.{Mark, Log};
+ghost use Rattle.machine_defs.specs.Script.{Mark, Log, is_name};
 ghost use Rattle.machine_defs.specs.Text.{Logged};
 ghost use Rattle.journal_laws.specs.Following.{all_put_forward, all_taken_back};
 ghost use Rattle.machine_laws.specs.Tracing.{AreTraced};
@@ -31,10 +31,12 @@ impl<'h, K: Kind, H: Hook, const DIM: usize> Map<'h, K, H, DIM> {
     }
 
     /// Sets a mark of this name on the present state, for `undo` to go back to and `log` to tell what was done since. It
-    /// costs the length of the name, and what the last undo took back.
+    /// costs the length of the name, and what the last undo took back. The name is one of the grammar of lines: 1 to 32 small
+    /// letters, digits and underscores.
     ///
     /// Refused as `MarkTaken` exactly where a mark has the name.
     pub fn mark(&mut self, name: &str) -> Result<Done, Refused>
+        requires { is_name name.now ≡ true }
         ensures hook { self.new.hook ≡ self.old.hook }
         ensures does { Does (H.meaning self.old.hook) self.old.state (Mark name.now) result self.new.state }
     {

@@ -6,20 +6,14 @@ use Rattle.std.specs.Result.{result_ok}
 use Rattle.std.specs.Borrow.{Bor}
 use Rattle.std.specs.Str.{IsAscii, IsUtf8}
 use Rattle.std.specs.Char.{is_ascii_graphic}
-use Rattle.std.proofs.lemmas.Str.{IsUtf8-from_ascii}
 use Rattle.std.proofs.lemmas.Bool.{and_parts}
 use Rattle.std.proofs.lemmas.Bool.Decides.{nat_tests}
 use Rattle.map_defs.specs.TextWords.{is_text}
+use Rattle.text_words.proofs.AsciiText.{IsUtf8-all}
 use Rattle.machine_defs.specs.Script.{is_name_byte}
 
--- a word is ASCII if all its bytes pass a test that only ASCII passes
-IsAscii-all : (p : ℕ → Bool) → ((b : ℕ) → p b ≡ true → b < 128) → (word : List ℕ) → list_all p word ≡ true → IsAscii word
-IsAscii-all p low [] all i = omega arith
-IsAscii-all p low (b ∷ word) all zero = low b (and_parts (p b) (list_all p word) all).0
-IsAscii-all p low (b ∷ word) all (suc i) = IsAscii-all p low word (and_parts (p b) (list_all p word) all).1 i
-
 pub IsUtf8-graphic : (word : List ℕ) → list_all is_ascii_graphic word ≡ true → IsUtf8 word
-IsUtf8-graphic word all = IsUtf8-from_ascii word (IsAscii-all is_ascii_graphic (λ b e. grind (arith, nat_tests)) word all)
+IsUtf8-graphic word all = IsUtf8-all is_ascii_graphic (λ b e. grind (arith, nat_tests)) word all
 
 -- what is not UTF-8 is not text
 pub not-text : (word : List ℕ) → (IsUtf8 word → ⊥) → is_text word ≡ false
@@ -30,7 +24,7 @@ not-text word not = at (is_text word) refl
     at false e = refl
 
 pub IsUtf8-name : (word : List ℕ) → list_all is_name_byte word ≡ true → IsUtf8 word
-IsUtf8-name word all = IsUtf8-from_ascii word (IsAscii-all is_name_byte (λ b e. grind (arith, nat_tests)) word all)
+IsUtf8-name word all = IsUtf8-all is_name_byte (λ b e. grind (arith, nat_tests)) word all
 
 -- what is text is read as itself
 pub read_whole : {E : Type 0} (word : List ℕ) (r : Result (Bor (List ℕ)) E) (P : E → Type 0) → MatchResult r (λ s. (s.now ≡ word) × IsUtf8 word) (λ e. (IsUtf8 word → ⊥) × P e) → IsUtf8 word → option_copied (result_ok r) ≡ Some word

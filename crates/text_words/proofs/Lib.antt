@@ -1,2 +1,3 @@
 pub mod FirstPlaces
 pub mod WordCuts
+pub mod AsciiText

@@ -1,10 +1,11 @@
 -- What holds of every trail holds after each call.
-use Rattle.std.proofs.Common.{ℕ, ◌≡◌, ◌≢◌, ◌+◌, ◌≤◌, ◌<◌, List, [], ◌∷◌, ◌++◌, length, get_or, take, drop, ◌-◌, Some, All, AllPairs, sym, ap, subst, ◌∙◌, arith, inl, inr}
+use Rattle.std.proofs.Common.{ℕ, ◌≡◌, ◌≢◌, ◌+◌, ◌≤◌, ◌<◌, List, [], ◌∷◌, ◌++◌, length, get_or, take, drop, ◌-◌, Some, true, All, AllPairs, sym, ap, subst, ◌∙◌, arith, inl, inr}
 use Rattle.std.proofs.lemmas.Bool.{cases_lt}
 use Rattle.std.proofs.lemmas.List.{length-take-le, length-append, get_or-take, get_or-map, length-map, drop-take}
 use Rattle.std.proofs.lemmas.List.Elements.{All-take, All-weaker, All-push}
 use Rattle.std.proofs.lemmas.List.Quantifiers.{all_pairs_push}
 use Rattle.std.proofs.lemmas.Option.{slice_get-get_or, slice_get_within}
+use Rattle.machine_defs.specs.Script.{is_name}
 use Rattle.machine_defs.specs.Difference.{Difference}
 use Rattle.trail_laws.specs.Trails.{Placed, Trail, standing_marks, mark_names, IsMark, HasMark, place_of, noted, marked, back, IsOrdered}
 
@@ -50,6 +51,7 @@ pub ordered-noted : (t : Trail) (s : Difference) → IsOrdered t → IsOrdered (
 ordered-noted t s o = record {
   at = omega (arith, long);
   standing = omega (arith, short);
+  named = All-take (λ m. is_name m.name ≡ true) t.standing t.marks o.named;
   names_differ = pairs-take (λ m n. m.name ≢ n.name) t.standing t.marks o.standing o.names_differ;
   ascending = pairs-take (λ m n. m.place ≤ n.place) t.standing t.marks o.standing o.ascending;
   placed = All-take (λ m. m.place ≤ t.at + 1) t.standing (standing_marks t) (All-weaker (λ m. m.place ≤ t.at) (λ m. m.place ≤ t.at + 1) (λ m h. omega arith) (standing_marks t) o.placed);
@@ -62,10 +64,11 @@ ordered-noted t s o = record {
     long : length (take t.at t.steps ++ s ∷ []) ≡ t.at + 1
     long = omega (arith, length-append (take t.at t.steps) (s ∷ []), length-take-le t.at t.steps o.at)
 
-pub ordered-marked : (t : Trail) (name : List ℕ) → IsOrdered t → (HasMark t name → ⊥) → IsOrdered (marked t name)
-ordered-marked t name o new = record {
+pub ordered-marked : (t : Trail) (name : List ℕ) → IsOrdered t → is_name name ≡ true → (HasMark t name → ⊥) → IsOrdered (marked t name)
+ordered-marked t name o good new = record {
   at = omega (arith, long);
   standing = omega (arith, further);
+  named = All-push (λ m. is_name m.name ≡ true) (standing_marks t) mark (All-take (λ m. is_name m.name ≡ true) t.standing t.marks o.named) good;
   names_differ = all_pairs_push (λ m n. m.name ≢ n.name) (standing_marks t) mark (pairs-take (λ m n. m.name ≢ n.name) t.standing t.marks o.standing o.names_differ) other;
   ascending = all_pairs_push (λ m n. m.place ≤ n.place) (standing_marks t) mark (pairs-take (λ m n. m.place ≤ n.place) t.standing t.marks o.standing o.ascending) o.placed;
   placed = All-take (λ m. m.place ≤ t.at) (t.standing + 1) (standing_marks t ++ mark ∷ []) all;
@@ -97,6 +100,7 @@ pub ordered-back : (t : Trail) (k : ℕ) → IsOrdered t → k < t.standing → 
 ordered-back t k o h = record {
   at = rw (place_read t k none listed) (o.within k none listed);
   standing = omega arith;
+  named = o.named;
   names_differ = o.names_differ;
   ascending = o.ascending;
   placed = placed;

@@ -1,5 +1,6 @@
 -- What a contract sees of a journal: steps and marks, and how many of each stand.
-use Rattle.std.specs.Prelude.{ℕ, ◌≡◌, ◌≢◌, ◌+◌, ◌≤◌, List, [], ◌∷◌, ◌++◌, length, take, drop, map, Some, All, AllPairs, slice_get, slice_index}
+use Rattle.std.specs.Prelude.{ℕ, ◌≡◌, ◌≢◌, ◌+◌, ◌≤◌, List, [], ◌∷◌, ◌++◌, length, take, drop, map, Some, true, All, AllPairs, slice_get, slice_index}
+use Rattle.machine_defs.specs.Script.{is_name}
 use Rattle.machine_defs.specs.Difference.{Difference}
 
 -- a mark: its name, and how many steps stood when it was set
@@ -67,11 +68,12 @@ marked t name = record {
 abbrev pub back : Trail → ℕ → Trail
 back t k = record { steps = t.steps; at = place_of t k; marks = t.marks; standing = k + 1 }
 
--- What holds of every trail: so many steps and marks are there; no two marks have one name; a mark has no lesser place
--- than one before it, and a standing mark has none after the steps that stand.
+-- What holds of every trail: so many steps and marks are there; marks have names of the grammar of lines, and no two have one; a
+-- mark has no lesser place than one before it, and a standing mark has none after the steps that stand.
 pub record IsOrdered (t : Trail) : Type 0 where
   pub at : t.at ≤ length t.steps
   pub standing : t.standing ≤ length t.marks
+  pub named : All (λ m. is_name m.name ≡ true) t.marks
   pub names_differ : AllPairs (λ m n. m.name ≢ n.name) t.marks
   pub ascending : AllPairs (λ m n. m.place ≤ n.place) t.marks
   pub placed : All (λ m. m.place ≤ t.at) (standing_marks t)

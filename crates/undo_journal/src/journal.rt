@@ -1,5 +1,6 @@
-ghost use Rattle.std.specs.Prelude.{◌≡◌, ℕ, ◌+◌, ◌≤◌, ◌<◌, ◌↔◌, Some, length, slice_get, IsOk, IsErr, IfOk, IfErr, OnOk, OnErr, IfSome, IsNone, IsErrOf};
+ghost use Rattle.std.specs.Prelude.{◌≡◌, ℕ, true, ◌+◌, ◌≤◌, ◌<◌, ◌↔◌, Some, length, slice_get, IsOk, IsErr, IfOk, IfErr, OnOk, OnErr, IfSome, IsNone, IsErrOf};
 ghost use Rattle.std.specs.Option.{option_map};
+ghost use Rattle.machine_defs.specs.Script.{is_name};
 ghost use Rattle.trail_laws.specs.Trails.{Book, empty_trail, standing_marks, mark_names, IsMark, HasMark, place_of, steps_since, noted, marked, back, IsOrdered};
 
 use crate::step::Step;
@@ -88,10 +89,11 @@ impl Journal {
         self.marks[mark]
     }
 
-    /// Sets a mark of this name behind the steps that stand. What was taken back is gone. `MarkTaken` comes exactly
+    /// Sets a mark of this name behind the steps that stand. The name is one of the grammar of lines. What was taken back is gone. `MarkTaken` comes exactly
     /// where a standing mark has the name. A refusal leaves the journal as it was. It costs a look-up of the name, and
     /// what was taken back.
     pub fn mark(&mut self, name: &str) -> Result<(), Refused>
+        requires { is_name name.now ≡ true }
         ensures ok { OnOk result (self.new.trail ≡ marked self.old.trail name.now) }
         ensures room { self.new.room ≡ self.old.room }
         ensures refused { (r : Refusal) → IsErrOf result (Refused.Line r) ↔ ((r ≡ Refusal.MarkTaken) × HasMark self.old.trail name.now) }

@@ -1,28 +1,55 @@
 -- The rows of a listing, one dart after another.
-use Rattle.std.proofs.Common.{◌≡◌, ℕ, ◌+◌, ◌<◌, List, [], ◌∷◌, ◌++◌, length, get_or, take, map, Option, Some, None, IsSome, refl, ap, ◌∙◌, arith}
+use Rattle.std.proofs.Common.{◌≡◌, ℕ, zero, suc, ◌+◌, ◌<◌, List, [], ◌∷◌, ◌++◌, length, get_or, take, map, Option, Some, None, IsSome, refl, sym, ap, ◌∙◌, append_assoc, replicate, arith}
 use Rattle.std.specs.List.{range_with_len}
 use Rattle.std.proofs.lemmas.Bool.{false≢true}
 use Rattle.std.proofs.lemmas.List.{take_more, length-take-le, ext_get_or}
 use Rattle.std.proofs.lemmas.List.FromFn.{length-map-range_with_len, get_or-map-range_with_len}
 use Rattle.map_defs.specs.Rows.{Rows, row_at, links_of, entry_of, IsLive, AreWide}
-use Rattle.machine_defs.specs.Listing.{ListRow, live_rows_from}
+use Rattle.map_defs.specs.Values.{Rule}
+use Rattle.machine_defs.specs.Listing.{live_rows_from, rules_from}
+use Rattle.label_laws.specs.Contents.{all_rules}
 
-live_rows_from-append : (d : ℕ) (rows more : Rows) → live_rows_from d (rows ++ more) ≡ live_rows_from d rows ++ live_rows_from (d + length rows) more
-live_rows_from-append d [] more = ap (λ (n : ℕ). live_rows_from n more) (omega arith)
-live_rows_from-append d (None ∷ rows) more =
-    live_rows_from-append (d + 1) rows more
-    ∙ ap (λ (n : ℕ). live_rows_from (d + 1) rows ++ live_rows_from n more) (omega arith)
-live_rows_from-append d (Some row ∷ rows) more =
-    ap (λ (rs : List ListRow). record { dart = d; links = row } ∷ rs) (live_rows_from-append (d + 1) rows more
-    ∙ ap (λ (n : ℕ). live_rows_from (d + 1) rows ++ live_rows_from n more) (omega arith))
+-- Lists of what stands at numbered places, as rows or rules: where each place adds its own, one more place adds its own at the
+-- end.
+module _ {X Y : Type 0} (list_from : ℕ → List X → List Y) (none : (d : ℕ) → list_from d [] ≡ []) (next : (d : ℕ) (x : X) (xs : List X) → list_from d (x ∷ xs) ≡ list_from d (x ∷ []) ++ list_from (d + 1) xs) where
+  from-append : (d : ℕ) (xs more : List X) → list_from d (xs ++ more) ≡ list_from d xs ++ list_from (d + length xs) more
+  from-append d [] more = ap (λ (n : ℕ). list_from n more) (omega arith) ∙ ap (λ (ys : List Y). ys ++ list_from (d + 0) more) (sym (none d))
+  from-append d (x ∷ xs) more =
+      next d x (xs ++ more) ∙ ap (λ (ys : List Y). list_from d (x ∷ []) ++ ys) (from-append (d + 1) xs more ∙ ap (λ (n : ℕ). list_from (d + 1) xs ++ list_from n more) (omega arith))
+      ∙ sym (append_assoc (list_from d (x ∷ [])) (list_from (d + 1) xs) (list_from (d + length (x ∷ xs)) more))
+      ∙ ap (λ (ys : List Y). ys ++ list_from (d + length (x ∷ xs)) more) (sym (next d x xs))
+
+  pub from-more : (xs : List X) (k : ℕ) (z : X) → k < length xs → list_from 0 (take (k + 1) xs) ≡ list_from 0 (take k xs) ++ list_from k (get_or xs k z ∷ [])
+  from-more xs k z h =
+      let len : 0 + length (take k xs) ≡ k = omega (arith, length-take-le k xs (omega arith)) in
+      ap (list_from 0) (take_more xs k z h) ∙ from-append 0 (take k xs) (get_or xs k z ∷ []) ∙ ap (λ (n : ℕ). list_from 0 (take k xs) ++ list_from n (get_or xs k z ∷ [])) len
 
 -- one more dart
 pub live_rows-more : (rows : Rows) (k : ℕ) → k < length rows
     → live_rows_from 0 (take (k + 1) rows) ≡ live_rows_from 0 (take k rows) ++ live_rows_from k (row_at rows k ∷ [])
-live_rows-more rows k h =
-    let len : 0 + length (take k rows) ≡ k = omega (arith, length-take-le k rows (omega arith)) in
-    ap (live_rows_from 0) (take_more rows k None h) ∙ live_rows_from-append 0 (take k rows) (row_at rows k ∷ [])
-    ∙ ap (λ (n : ℕ). live_rows_from 0 (take k rows) ++ live_rows_from n (row_at rows k ∷ [])) len
+live_rows-more rows k h = from-more live_rows_from (λ d. refl) next rows k None h
+  where
+    next : (d : ℕ) (o : Option (List ℕ)) (rows : Rows) → live_rows_from d (o ∷ rows) ≡ live_rows_from d (o ∷ []) ++ live_rows_from (d + 1) rows
+    next d None rows = refl
+    next d (Some row) rows = refl
+
+-- one more dimension
+pub rules-more : (rules : List (Option Rule)) (k : ℕ) → k < length rules
+    → rules_from 0 (take (k + 1) rules) ≡ rules_from 0 (take k rules) ++ rules_from k (get_or rules k None ∷ [])
+rules-more rules k h = from-more rules_from (λ d. refl) next rules k None h
+  where
+    next : (d : ℕ) (o : Option Rule) (rules : List (Option Rule)) → rules_from d (o ∷ rules) ≡ rules_from d (o ∷ []) ++ rules_from (d + 1) rules
+    next d None rules = refl
+    next d (Some rule) rules = refl
+
+-- where no places are made for rules, none is listed
+no-rules : (n d : ℕ) → rules_from d (replicate n None) ≡ []
+no-rules zero d = refl
+no-rules (suc n) d = no-rules n (d + 1)
+
+pub rules-all : (n : ℕ) (rules : List (Option Rule)) → rules_from 0 (all_rules n rules) ≡ rules_from 0 rules
+rules-all n [] = no-rules (n + 1) 0
+rules-all n (rule ∷ rules) = refl
 
 -- a row is the list of its entries
 row-read : (row : List ℕ) (n : ℕ) → length row ≡ n → map (λ (i : ℕ). get_or row i 0) (range_with_len 0 n) ≡ row

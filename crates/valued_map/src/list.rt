@@ -1,8 +1,8 @@
-//! The rows of a listing, and its values.
-ghost use Rattle.std.specs.Prelude.{◌≡◌, ℕ, ◌+◌, ◌≤◌, ◌<◌, IfOk, OnOk, ◌++◌, ◌∷◌, [], map, None};
+//! The rows of a listing, its rules and its values.
+ghost use Rattle.std.specs.Prelude.{◌≡◌, ℕ, ◌+◌, ◌≤◌, ◌<◌, IfOk, OnOk, ◌++◌, ◌∷◌, [], length, map, None};
 ghost use Rattle.std.specs.List.{range_with_len};
 ghost use Rattle.map_defs.specs.Rows.{row_at, links_of};
-ghost use Rattle.machine_defs.specs.Listing.{live_rows_from};
+ghost use Rattle.machine_defs.specs.Listing.{live_rows_from, rules_from};
 ghost use Rattle.store_defs.specs.Labelings.{id_of};
 ghost use Rattle.store_defs.specs.Groups.{rule_at};
 ghost use Rattle.label_laws.specs.Stored.{stored_value};
@@ -11,8 +11,9 @@ ghost use Rattle.label_laws.specs.Lists.{AreListed, IsNamed, listed};
 use crate::ids::stored_value;
 use crate::rules::has_rule;
 use attr_pool::{Labels, Pool};
+use attr_rules::TableRule;
 use link_rows::Links;
-use list_text::{ListRow, ListValue};
+use list_text::{ListRow, ListRule, ListValue};
 use map_kind::{Dart, Kind, Place};
 use std::alloc::{AllocError, Global};
 use transport::RuleRow;
@@ -62,6 +63,35 @@ fn entries<K: Kind, const DIM: usize>(
         entries.push(links.number_at(dart, link))?;
     }
     Ok(entries)
+}
+
+/// The rules of the dimensions that have one, ascending.
+pub(crate) fn list_rules(alloc: Global, rules: &RuleRow) -> Result<Vec<ListRule>, AllocError>
+    requires { length rules.now ≤ 9 }
+    ensures { IfOk result (λ listed. listed.items ≡ rules_from 0 rules.now) }
+{
+    let mut listed = Vec::new(alloc);
+    for dim in 0..rules.rules.len() {
+        list_rule(dim, rules.rules[dim], &mut listed)?;
+    }
+    Ok(listed)
+}
+
+/// Lists the rule of a dimension, if it has one.
+fn list_rule(
+    dim: usize,
+    rule: Option<TableRule>,
+    listed: &mut Vec<ListRule>,
+) -> Result<(), AllocError>
+    requires { dim ≤ 8 }
+    ensures { OnOk result (listed.new.items ≡ listed.old.items ++ rules_from dim (rule ∷ [])) }
+{
+    let Some(rule) = rule else {
+        return Ok(());
+    };
+    let dim = dim as u32;
+    listed.push(ListRule { dim, rule })?;
+    Ok(())
 }
 
 /// The cells with a value, each by its least dart, ascending by dimension, then by dart.

@@ -7,12 +7,12 @@ ghost use Rattle.machine_defs.specs.Listing.{ListValue, ListsValues, listing_wit
 ghost use Rattle.machine_defs.specs.Kept.{IsLawfulContent};
 
 use crate::ids::stored_value;
-use crate::list::{list_rows, list_values};
+use crate::list::{list_rows, list_rules, list_values};
 use crate::rules::rule_of;
 use attr_pool::{Labels, Pool};
 use attr_rules::TableRule;
 use link_rows::Links;
-use list_text::Listing;
+use list_text::{Listing, MarkName};
 use map_kind::{Dart, Kind, Value};
 use std::alloc::{AllocError, Global};
 use std::marker::Model;
@@ -94,18 +94,21 @@ impl<K: Kind, const DIM: usize> ValuedMap<K, DIM> {
         rule_of(&self.rules, dim)
     }
 
-    /// The listing of the map: its live darts, ascending, with their links, and its cells with a value, each by its
-    /// least dart, ascending by dimension, then by dart. It costs the size of the map times a logarithm.
-    pub fn listing(&self, alloc: Global) -> Result<Listing, AllocError>
+    /// The listing of the map: its live darts, ascending, with their links, its rules, and its cells with a value, each by
+    /// its least dart, ascending by dimension, then by dart; and the names of marks that are handed in. It costs the size of the
+    /// map times a logarithm.
+    pub fn listing(&self, alloc: Global, marks: Vec<MarkName>) -> Result<Listing, AllocError>
         ensures { IfOk result (λ listing. (values : List ListValue) × ListsValues self.now.content values
-            × (listing ≡ listing_with self.now.content values)) }
+            × (listing ≡ listing_with self.now.content values marks.items)) }
     {
         Ok(Listing {
             letter: K::letter(),
             dim: self.links.dimension() as u32,
             made: self.links.made(),
             rows: list_rows(alloc, &self.links)?,
+            rules: list_rules(alloc, &self.rules)?,
             values: list_values(alloc, &self.links, &self.labels, &self.pool, &self.rules)?,
+            marks,
         })
     }
 }

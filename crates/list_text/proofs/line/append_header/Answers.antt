@@ -41,4 +41,4 @@ returns-in_err-push-2 c =
 pub returns : goal.returns
 returns c =
     rw (c.in_ok-push-2.ensures.items, c.in_ok-append_spaced-3.ensures, c.in_ok-append_spaced-2.ensures, c.in_ok-append_spaced.ensures, c.in_ok-push.ensures.items, c.in_ok-extend_from_slice.ensures.items)
-    (six c.args.text.now.items (codes "cellmap 1 ") (c.args.letter ∷ []) (spaced c.args.dim) (spaced c.args.made) (spaced c.args.live) (10 ∷ []))
+    (six c.args.text.now.items (codes "cellmap 2 ") (c.args.letter ∷ []) (spaced c.args.dim) (spaced c.args.made) (spaced c.args.live) (10 ∷ []))

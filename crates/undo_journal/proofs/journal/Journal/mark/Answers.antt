@@ -16,7 +16,7 @@ invariant_of-self-2 c =
     let room : 0 < spare c.truncate-2.new.self = omega (arith, c.in_ok-reserve.ensures.ok, c.truncate-2.ensures.room.0) in
     let put = on_ok c.insert.result _ (c.insert.ensures.succeeds room) c.insert.ensures.entries in
     let now = marked_by inside.steps.items c.truncate.new.self.items inside.at inside.marks.entries inside.standing c.len-self-inside.result c.in_ok-key.key c.args.name.now c.truncate-2.new.self c.insert.new.self c.truncate.ensures.items front put c.len-self-inside.ensures.len c.in_ok-key.ensures.ok c.self.invariant.standing free in
-    subst IsOrdered (sym now) (ordered-marked t c.args.name.now c.self.invariant free)
+    subst IsOrdered (sym now) (ordered-marked t c.args.name.now c.self.invariant c.requires free)
 
 pub returns-clause-ok : goal.returns-clause-ok
 returns-clause-ok c =
