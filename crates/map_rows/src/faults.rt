@@ -113,7 +113,7 @@ const CUT_SHORT: Fault = Fault {
     file: Some(b"polygon 3\nshow\n"),
     room: 3,
     flushes: true,
-    text: "ok 1 6\ncellmap 1 g 2 6 6\n1: 2 6 0\n",
+    text: "ok 1 6\ncellmap 2 g 2 6 6\n1: 2 6 0\n",
     status: 6,
 };
 

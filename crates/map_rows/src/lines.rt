@@ -27,9 +27,9 @@ const FLAT: [Row; 5] = [
     // a refused line changes nothing
     Row {
         script: "polygon 3\nunsew 0 1\nshow\nunsew 2 3\nsew 2 4 9\nsew 0 3 4\nshow\n",
-        text: "ok 1 6\nok\ncellmap 1 g 2 6 6\n1: 0 6 0\n2: 0 3 0\n3: 4 2 0\n4: 3 5 0\n5: 6 4 0\n6: 5 1 0\nend\n\
+        text: "ok 1 6\nok\ncellmap 2 g 2 6 6\n1: 0 6 0\n2: 0 3 0\n3: 4 2 0\n4: 3 5 0\n5: 6 4 0\n6: 5 1 0\nend\n\
             no 7 AlreadyFree\nno 3 NoDart\nno 5 NotFree\n\
-            cellmap 1 g 2 6 6\n1: 0 6 0\n2: 0 3 0\n3: 4 2 0\n4: 3 5 0\n5: 6 4 0\n6: 5 1 0\nend\n",
+            cellmap 2 g 2 6 6\n1: 0 6 0\n2: 0 3 0\n3: 4 2 0\n4: 3 5 0\n5: 6 4 0\n6: 5 1 0\nend\n",
         status: 1,
     },
 ];
@@ -44,7 +44,7 @@ const SOLID: [Row; 2] = [
     Row {
         script: "polygon 3\nsew 3 1 3\nsewable 3 1 2\nunsew 3 1\nsew 3 1 2\nshow\n",
         text: "ok 1 6\nno 6 Unsewable\ntrue\nno 7 AlreadyFree\nok\n\
-            cellmap 1 g 3 6 6\n1: 2 6 0 2\n2: 1 3 0 1\n3: 4 2 0 6\n4: 3 5 0 5\n5: 6 4 0 4\n6: 5 1 0 3\nend\n",
+            cellmap 2 g 3 6 6\n1: 2 6 0 2\n2: 1 3 0 1\n3: 4 2 0 6\n4: 3 5 0 5\n5: 6 4 0 4\n6: 5 1 0 3\nend\n",
         status: 1,
     },
 ];

@@ -19,7 +19,8 @@ const MARKS: [Row; 3] = [
     // refused lines, questions and marks are no steps, and a number that was taken back is given again
     Row {
         script: "polygon 3\nmark a\nunsew 2 1\npolygon 2\nmark b\ncell 0 1\nlog a\ndart\nlog b\nundo a\nlog b\nmark b\ndart\nlog a\n",
-        text: "ok 1 6\nok\nno 7 AlreadyFree\nno 16 BadCount\nok\ncell 1 6\nlog 0\nend\nok 7 1\nlog 1\nstep 1\nborn 7 1\nend\nok\nno 18 NoMark\nok\nok 7 1\nlog 1\nstep 1\nborn 7 1\nend\n",
+        text: "ok 1 6\nok\nno 7 AlreadyFree\nno 16 BadCount\nok\ncell 1 6\nlog 0\nend\nok 7 1\nlog 1\nstep 1\nborn 7 1\nend\n\
+            ok\nno 18 NoMark\nok\nok 7 1\nlog 1\nstep 1\nborn 7 1\nend\n",
         status: 1,
     },
 ];
@@ -28,19 +29,24 @@ const LOGS: [Row; 3] = [
     // a vertex on an edge
     Row {
         script: "polygon 3\nmark a\nvertex 1\nlog a\n",
-        text: "ok 1 6\nok\nok 7 2\nlog 1\nstep 1\nborn 7 2\nlink 1 0 2 7\nlink 2 0 1 8\nlink 7 0 0 1\nlink 7 1 0 8\nlink 8 0 0 2\nlink 8 1 0 7\nend\n",
+        text: "ok 1 6\nok\nok 7 2\nlog 1\nstep 1\nborn 7 2\nlink 1 0 2 7\nlink 2 0 1 8\nlink 7 0 0 1\nlink 7 1 0 8\n\
+            link 8 0 0 2\nlink 8 1 0 7\nend\n",
         status: 0,
     },
     // a rule, a value, and a dart that ends with its value
     Row {
         script: "dart\nmark a\nrule 0 sum copy\nset 0 1 1 2 3\ndel 1\nlog a\n",
-        text: "ok 1 1\nok\nok\nok\nok\nlog 3\nstep 1\nrule 0 - sum/copy\nstep 2\nval 0 1 - 1,2,3\nstep 3\ndead 1\nval 0 1 1,2,3 -\nend\n",
+        text: "ok 1 1\nok\nok\nok\nok\nlog 3\nstep 1\nrule 0 - sum/copy\nstep 2\nval 0 1 - 1,2,3\nstep 3\ndead 1\n\
+            val 0 1 1,2,3 -\nend\n",
         status: 0,
     },
     // values that merge and split again, a line that clears nothing, and a rule that stands already
     Row {
         script: "polygon 3\npolygon 3\nrule 1 sum share\nset 1 1 5 0 0\nset 1 7 2 0 0\nmark a\nsew 2 1 7\nunsew 2 1\nclear 1 3\nrule 1 sum share\nlog a\nundo a\nvalue 1 1\nvalue 1 7\nfree 2 1\n",
-        text: "ok 1 6\nok 7 6\nok\nok\nok\nok\nok\nok\nok\nok\nlog 4\nstep 1\nlink 1 2 0 7\nlink 2 2 0 8\nlink 7 2 0 1\nlink 8 2 0 2\nval 1 1 5,0,0 7,0,0\nval 1 2 5,0,0 7,0,0\nval 1 7 2,0,0 7,0,0\nval 1 8 2,0,0 7,0,0\nstep 2\nlink 1 2 7 0\nlink 2 2 8 0\nlink 7 2 1 0\nlink 8 2 2 0\nval 1 1 7,0,0 4,0,0\nval 1 2 7,0,0 4,0,0\nval 1 7 7,0,0 3,0,0\nval 1 8 7,0,0 3,0,0\nstep 3\nstep 4\nend\nok\nvalue 5 0 0\nvalue 2 0 0\ntrue\n",
+        text: "ok 1 6\nok 7 6\nok\nok\nok\nok\nok\nok\nok\nok\nlog 4\nstep 1\nlink 1 2 0 7\nlink 2 2 0 8\nlink 7 2 0 1\n\
+            link 8 2 0 2\nval 1 1 5,0,0 7,0,0\nval 1 2 5,0,0 7,0,0\nval 1 7 2,0,0 7,0,0\nval 1 8 2,0,0 7,0,0\nstep 2\n\
+            link 1 2 7 0\nlink 2 2 8 0\nlink 7 2 1 0\nlink 8 2 2 0\nval 1 1 7,0,0 4,0,0\nval 1 2 7,0,0 4,0,0\n\
+            val 1 7 7,0,0 3,0,0\nval 1 8 7,0,0 3,0,0\nstep 3\nstep 4\nend\nok\nvalue 5 0 0\nvalue 2 0 0\ntrue\n",
         status: 0,
     },
 ];

@@ -167,7 +167,8 @@ const BOXES: [MeshRow; 2] = [
     MeshRow {
         mesh: "OFF\n16 12 0\n0 0 0\n2 0 0\n2 2 0\n0 2 0\n0 0 2\n2 0 2\n2 2 2\n0 2 2\n0 0 2\n2 0 2\n2 2 2\n0 2 2\n0 0 4\n2 0 4\n2 2 4\n0 2 4\n4 0 3 2 1\n4 4 5 6 7\n4 0 1 5 4\n4 1 2 6 5\n4 2 3 7 6\n4 3 0 4 7\n4 8 11 10 9\n4 12 13 14 15\n4 8 9 13 12\n4 9 10 14 13\n4 10 11 15 14\n4 11 8 12 15\n",
         script: "count\nvalue 0 54\nsew 3 9 54\ncount\nvalue 0 54\nunsew 3 9\nvalue 0 54\ncount\n",
-        text: "count 96 16 24 12 2 2\nvalue 2 0 2\nok\ncount 96 12 20 11 2 1\nvalue 0 0 2\nok\nvalue 0 0 2\ncount 96 16 24 12 2 2\n",
+        text: "count 96 16 24 12 2 2\nvalue 2 0 2\nok\ncount 96 12 20 11 2 1\nvalue 0 0 2\nok\nvalue 0 0 2\n\
+            count 96 16 24 12 2 2\n",
         status: 0,
     },
     // a cube, and a face across it

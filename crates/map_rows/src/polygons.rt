@@ -10,17 +10,17 @@ const ROWS: [Row; 8] = [
     },
     Row {
         script: "show\n",
-        text: "cellmap 1 g 2 0 0\nend\n",
+        text: "cellmap 2 g 2 0 0\nend\n",
         status: 0,
     },
     Row {
         script: "polygon 3\nshow\n",
-        text: "ok 1 6\ncellmap 1 g 2 6 6\n1: 2 6 0\n2: 1 3 0\n3: 4 2 0\n4: 3 5 0\n5: 6 4 0\n6: 5 1 0\nend\n",
+        text: "ok 1 6\ncellmap 2 g 2 6 6\n1: 2 6 0\n2: 1 3 0\n3: 4 2 0\n4: 3 5 0\n5: 6 4 0\n6: 5 1 0\nend\n",
         status: 0,
     },
     Row {
         script: "polygon 4\npolygon 3\nshow\n",
-        text: "ok 1 8\nok 9 6\ncellmap 1 g 2 14 14\n\
+        text: "ok 1 8\nok 9 6\ncellmap 2 g 2 14 14\n\
             1: 2 8 0\n2: 1 3 0\n3: 4 2 0\n4: 3 5 0\n5: 6 4 0\n6: 5 7 0\n7: 8 6 0\n8: 7 1 0\n\
             9: 10 14 0\n10: 9 11 0\n11: 12 10 0\n12: 11 13 0\n13: 14 12 0\n14: 13 9 0\nend\n",
         status: 0,
@@ -38,7 +38,7 @@ const ROWS: [Row; 8] = [
     Row {
         script: "polygon 3\npolygon 0\nfly\nshow\n",
         text: "ok 1 6\nno 16 BadCount\nno 1 Syntax\n\
-            cellmap 1 g 2 6 6\n1: 2 6 0\n2: 1 3 0\n3: 4 2 0\n4: 3 5 0\n5: 6 4 0\n6: 5 1 0\nend\n",
+            cellmap 2 g 2 6 6\n1: 2 6 0\n2: 1 3 0\n3: 4 2 0\n4: 3 5 0\n5: 6 4 0\n6: 5 1 0\nend\n",
         status: 1,
     },
     Row {

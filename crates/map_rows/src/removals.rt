@@ -7,7 +7,7 @@ const FLAT: [Row; 7] = [
     // a vertex that was put on an edge
     Row {
         script: "polygon 3\nvertex 1\nremove 0 7\nshow\n",
-        text: "ok 1 6\nok 7 2\nok\ncellmap 1 g 2 8 6\n1: 2 6 0\n2: 1 3 0\n3: 4 2 0\n4: 3 5 0\n5: 6 4 0\n6: 5 1 0\nend\n",
+        text: "ok 1 6\nok 7 2\nok\ncellmap 2 g 2 8 6\n1: 2 6 0\n2: 1 3 0\n3: 4 2 0\n4: 3 5 0\n5: 6 4 0\n6: 5 1 0\nend\n",
         status: 0,
     },
     // two faces become one, with the sum of their values, or with that of the later piece
@@ -30,7 +30,7 @@ const FLAT: [Row; 7] = [
     // two walks come back to their own dart
     Row {
         script: "polygon 3\nsew 2 1 4\nremove 0 2\nshow\n",
-        text: "ok 1 6\nok\nok\ncellmap 1 g 2 6 4\n1: 4 6 4\n4: 1 5 1\n5: 6 4 0\n6: 5 1 0\nend\n",
+        text: "ok 1 6\nok\nok\ncellmap 2 g 2 6 4\n1: 4 6 4\n4: 1 5 1\n5: 6 4 0\n6: 5 1 0\nend\n",
         status: 0,
     },
     Row {

@@ -2,7 +2,7 @@
 use crate::harness::{Row, check_rows};
 use std::alloc::AllocError;
 
-const VALUES: [Row; 5] = [
+const VALUES: [Row; 6] = [
     Row {
         script: "polygon 3\npolygon 3\nrule 1 sum share\nset 1 1 5 0 0\nset 1 7 2 0 0\nsew 2 1 7\nvalue 1 1\nunsew 2 1\nvalue 1 1\nvalue 1 7\n",
         text: "ok 1 6\nok 7 6\nok\nok\nok\nok\nvalue 7 0 0\nok\nvalue 4 0 0\nvalue 3 0 0\n",
@@ -23,13 +23,24 @@ const VALUES: [Row; 5] = [
     // values in the listing
     Row {
         script: "polygon 3\nrule 1 first copy\nrule 0 sum copy\nset 1 1 5 -6 7\nvalue 1 2\nvalue 1 3\nset 0 6 0 0 1\nshow\nclear 1 2\nvalue 1 1\nshow\n",
-        text: "ok 1 6\nok\nok\nok\nvalue 5 -6 7\nvalue none\nok\ncellmap 1 g 2 6 6\n1: 2 6 0\n2: 1 3 0\n3: 4 2 0\n4: 3 5 0\n5: 6 4 0\n6: 5 1 0\nval 0 1 0 0 1\nval 1 1 5 -6 7\nend\nok\nvalue none\ncellmap 1 g 2 6 6\n1: 2 6 0\n2: 1 3 0\n3: 4 2 0\n4: 3 5 0\n5: 6 4 0\n6: 5 1 0\nval 0 1 0 0 1\nend\n",
+        text: "ok 1 6\nok\nok\nok\nvalue 5 -6 7\nvalue none\nok\ncellmap 2 g 2 6 6\n1: 2 6 0\n2: 1 3 0\n3: 4 2 0\n4: 3 5 0\n\
+            5: 6 4 0\n6: 5 1 0\nrule 0 sum copy\nrule 1 first copy\nval 0 1 0 0 1\nval 1 1 5 -6 7\nend\nok\nvalue none\n\
+            cellmap 2 g 2 6 6\n1: 2 6 0\n2: 1 3 0\n3: 4 2 0\n4: 3 5 0\n5: 6 4 0\n6: 5 1 0\nrule 0 sum copy\nrule 1 first copy\n\
+            val 0 1 0 0 1\nend\n",
+        status: 0,
+    },
+    // rules and marks in the listing
+    Row {
+        script: "polygon 3\nrule 0 sum share\nset 0 1 1 2 3\nmark a\nshow\n",
+        text: "ok 1 6\nok\nok\nok\ncellmap 2 g 2 6 6\n1: 2 6 0\n2: 1 3 0\n3: 4 2 0\n4: 3 5 0\n5: 6 4 0\n6: 5 1 0\n\
+            rule 0 sum share\nval 0 1 1 2 3\nmark a\nend\n",
         status: 0,
     },
     // the cells of a dart that ends
     Row {
         script: "dart\ndart\nrule 0 first copy\nrule 2 first copy\nset 0 1 1 0 0\nset 2 2 2 0 0\ndel 1\nshow\ndel 2\nshow\n",
-        text: "ok 1 1\nok 2 1\nok\nok\nok\nok\nok\ncellmap 1 g 2 2 1\n2: 0 0 0\nval 2 2 2 0 0\nend\nok\ncellmap 1 g 2 2 0\nend\n",
+        text: "ok 1 1\nok 2 1\nok\nok\nok\nok\nok\ncellmap 2 g 2 2 1\n2: 0 0 0\nrule 0 first copy\nrule 2 first copy\n\
+            val 2 2 2 0 0\nend\nok\ncellmap 2 g 2 2 0\nrule 0 first copy\nrule 2 first copy\nend\n",
         status: 0,
     },
 ];

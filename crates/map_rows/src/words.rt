@@ -50,7 +50,7 @@ const ROWS: [Row; 14] = [
     },
     Row {
         script: "polygon 3 # a triangle\n# a comment\n#\nshow# \u{7f} show\n",
-        text: "ok 1 6\ncellmap 1 g 2 6 6\n1: 2 6 0\n2: 1 3 0\n3: 4 2 0\n4: 3 5 0\n5: 6 4 0\n6: 5 1 0\nend\n",
+        text: "ok 1 6\ncellmap 2 g 2 6 6\n1: 2 6 0\n2: 1 3 0\n3: 4 2 0\n4: 3 5 0\n5: 6 4 0\n6: 5 1 0\nend\n",
         status: 0,
     },
     Row {
@@ -70,7 +70,7 @@ const ROWS: [Row; 14] = [
     },
     Row {
         script: "show",
-        text: "cellmap 1 g 2 0 0\nend\n",
+        text: "cellmap 2 g 2 0 0\nend\n",
         status: 0,
     },
 ];

@@ -4,6 +4,6 @@ pub mod LineFacts
 pub mod RunFacts
 pub mod Rest
 pub mod StartFacts
-pub mod FacePaths
+pub mod ToldLines
 pub mod EndingFacts
 pub mod MeshFacts

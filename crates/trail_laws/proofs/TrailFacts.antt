@@ -4,7 +4,7 @@ use Rattle.std.proofs.lemmas.Bool.{cases_lt}
 use Rattle.std.proofs.lemmas.List.{length-take-le, length-append, get_or-take, get_or-map, length-map, drop-take}
 use Rattle.std.proofs.lemmas.List.Elements.{All-take, All-weaker, All-push}
 use Rattle.std.proofs.lemmas.List.Quantifiers.{all_pairs_push}
-use Rattle.std.proofs.lemmas.Option.{slice_get-get_or, slice_get_within}
+use Rattle.std.proofs.lemmas.Option.{slice_get-get_or, slice_get_within, get_or_from_slice_get}
 use Rattle.machine_defs.specs.Script.{is_name}
 use Rattle.machine_defs.specs.Difference.{Difference}
 use Rattle.trail_laws.specs.Trails.{Placed, Trail, standing_marks, mark_names, IsMark, HasMark, place_of, noted, marked, back, IsOrdered}
@@ -33,6 +33,15 @@ name_is_mark t k d o h =
     let read : get_or (mark_names t) k [] ≡ (get_or (standing_marks t) k d).name = get_or-map names (standing_marks t) k d [] (omega arith) in
     let front : get_or (standing_marks t) k d ≡ get_or t.marks k d = get_or-take t.standing t.marks k d h in
     slice_get-get_or (mark_names t) k [] (omega arith) ∙ ap Some (read ∙ ap names front)
+
+-- a standing mark's name is one of the grammar of lines
+pub mark_is_named : (t : Trail) (name : List ℕ) (k : ℕ) → IsOrdered t → IsMark t name k → is_name name ≡ true
+mark_is_named t name k o h =
+    let none : Placed = record { name = []; place = 0 } in
+    let within : k < length (standing_marks t) = omega (arith, mark_within t name k o h, standing_length t o) in
+    let good = All-take (λ m. is_name m.name ≡ true) t.standing t.marks o.named k none within in
+    let read : get_or (mark_names t) k [] ≡ (get_or (standing_marks t) k none).name = get_or-map (λ (m : Placed). m.name) (standing_marks t) k none [] within in
+    subst (λ n. is_name n ≡ true) (sym read ∙ get_or_from_slice_get (mark_names t) k name [] h) good
 
 -- the place of a mark
 pub place_read : (t : Trail) (k : ℕ) (d : Placed) → k < length t.marks → place_of t k ≡ (get_or t.marks k d).place

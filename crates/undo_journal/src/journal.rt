@@ -58,9 +58,11 @@ impl Journal {
         self.standing
     }
 
-    /// The name of a standing mark by its number, from 0, oldest first; none exactly where there is no such mark.
+    /// The name of a standing mark by its number, from 0, oldest first; none exactly where there is no such mark. It is a name of
+    /// the grammar of lines.
     pub fn mark_name(&self, place: usize) -> Option<&str>
-        ensures { option_map (λ name. name.now) result ≡ slice_get (mark_names self.now.trail) place }
+        ensures name { option_map (λ name. name.now) result ≡ slice_get (mark_names self.now.trail) place }
+        ensures named { IfSome result (λ name. is_name name.now ≡ true) }
     {
         if place >= self.standing {
             return None;
@@ -89,9 +91,9 @@ impl Journal {
         self.marks[mark]
     }
 
-    /// Sets a mark of this name behind the steps that stand. The name is one of the grammar of lines. What was taken back is gone. `MarkTaken` comes exactly
-    /// where a standing mark has the name. A refusal leaves the journal as it was. It costs a look-up of the name, and
-    /// what was taken back.
+    /// Sets a mark of this name behind the steps that stand. The name is one of the grammar of lines: 1 to 32 small letters, digits
+    /// and underscores. What was taken back is gone. `MarkTaken` comes exactly where a standing mark has the name. A refusal
+    /// leaves the journal as it was. It costs a look-up of the name, and what was taken back.
     pub fn mark(&mut self, name: &str) -> Result<(), Refused>
         requires { is_name name.now ≡ true }
         ensures ok { OnOk result (self.new.trail ≡ marked self.old.trail name.now) }
