@@ -39,7 +39,7 @@ int main() {
         }
         put("ok "); put(first); put(" "); put(2 * sides); put("\n");
     }
-    put("cellmap 1 g 2 "); put(rows.size() - 1); put(" "); put(rows.size() - 1); put("\n");
+    put("cellmap 2 g 2 "); put(rows.size() - 1); put(" "); put(rows.size() - 1); put("\n");
     for (unsigned dart = 1; dart < rows.size(); dart++) {
         if (used > sizeof buffer - 100) flush();
         put(dart); put(":");

@@ -6,7 +6,7 @@ ghost use Rattle.map_defs.specs.Laws.{Laws};
 ghost use Rattle.map_defs.specs.Edits.{Fits, after_edit};
 ghost use Rattle.machine_defs.specs.State.{empty_state};
 
-use crate::lines::{Line, Wanted, check_lines};
+use crate::lines::{Line, Name, Wanted, check_lines};
 use attr_rules::FirstCopy;
 use cell_walk::{cell_lists, cells};
 use link_rows::{Edit, Links, polygon_edit};
@@ -61,22 +61,22 @@ const SPHERE: [(Line, Wanted); 12] = [
     (Line::Sew { link: 2, dart: 1, other: 7 }, Wanted::Done),
     (Line::Sew { link: 2, dart: 3, other: 9 }, Wanted::Done),
     (Line::Sew { link: 2, dart: 5, other: 11 }, Wanted::Done),
-    (Line::Mark { name: "begin" }, Wanted::Done),
+    (Line::Mark { name: Name::Begin }, Wanted::Done),
     (Line::Dual, Wanted::Done),
-    (Line::Mark { name: "begin" }, Wanted::No(Refusal::MarkTaken)),
+    (Line::Mark { name: Name::Begin }, Wanted::No(Refusal::MarkTaken)),
     (Line::Remove { dim: 2, dart: 1 }, Wanted::Done),
-    (Line::Undo { name: "end" }, Wanted::No(Refusal::NoMark)),
-    (Line::Undo { name: "begin" }, Wanted::Done),
+    (Line::Undo { name: Name::End }, Wanted::No(Refusal::NoMark)),
+    (Line::Undo { name: Name::Begin }, Wanted::Done),
     (Line::Dual, Wanted::Done),
 ];
 
 /// Two marks are set, and the first is gone back to.
 #[rattlefmt::skip]
 const MARKS: [(Line, Wanted); 4] = [
-    (Line::Mark { name: "begin" }, Wanted::Done),
+    (Line::Mark { name: Name::Begin }, Wanted::Done),
     (Line::Dart, Wanted::Made { first: 1, count: 1 }),
-    (Line::Mark { name: "end" }, Wanted::Done),
-    (Line::Undo { name: "begin" }, Wanted::Done),
+    (Line::Mark { name: Name::End }, Wanted::Done),
+    (Line::Undo { name: Name::Begin }, Wanted::Done),
 ];
 
 /// A triangle.

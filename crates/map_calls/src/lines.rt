@@ -1,4 +1,7 @@
 //! Lines and their answers as data. Each line is obeyed by its call of the map.
+ghost use Rattle.std.specs.Prelude.{◌≡◌, true};
+ghost use Rattle.machine_defs.specs.Script.{is_name};
+
 use attr_rules::FirstCopy;
 use map_core::{Done, Edits, Map};
 use map_kind::{Refusal, Refused, Value};
@@ -59,11 +62,33 @@ pub enum Line {
         dart: u64,
     },
     Mark {
-        name: &'static str,
+        name: Name,
     },
     Undo {
-        name: &'static str,
+        name: Name,
     },
+}
+
+/// The name of a mark.
+#[derive(Clone, Copy)]
+pub enum Name {
+    Begin,
+    End,
+    Small,
+    Large,
+}
+
+impl Name {
+    fn as_str(self) -> &'static str
+        ensures { is_name result.now ≡ true }
+    {
+        match self {
+            Name::Begin => "begin",
+            Name::End => "end",
+            Name::Small => "small",
+            Name::Large => "large",
+        }
+    }
 }
 
 /// Obeys a line.
@@ -87,8 +112,8 @@ pub fn obey<K: Edits<DIM>, const DIM: usize>(
         Line::Rule { dim, merge, split } => map.rule(alloc, dim, merge, split),
         Line::Set { dim, dart, value } => map.set(alloc, dim, dart, value),
         Line::Clear { dim, dart } => map.clear(alloc, dim, dart),
-        Line::Mark { name } => map.mark(name),
-        Line::Undo { name } => map.undo(alloc, name),
+        Line::Mark { name } => map.mark(name.as_str()),
+        Line::Undo { name } => map.undo(alloc, name.as_str()),
     }
 }
 

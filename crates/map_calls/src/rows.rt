@@ -1,6 +1,6 @@
 //! Rows of darts that ended are used again, and darts that come back have rows: a map is driven over that point within
 //! marks, and taken back.
-use crate::lines::{Line, Wanted, check_lines};
+use crate::lines::{Line, Name, Wanted, check_lines};
 use attr_rules::FirstCopy;
 use map_core::Map;
 use map_kind::{Alpha, Value};
@@ -21,10 +21,10 @@ const SMALL: [(Line, Wanted); 3] = [
 /// Within a mark a polygon with a value, of so many darts that their rows are used again once they end.
 #[rattlefmt::skip]
 const LARGE: [(Line, Wanted); 4] = [
-    (Line::Mark { name: "small" }, Wanted::Done),
+    (Line::Mark { name: Name::Small }, Wanted::Done),
     (Line::Polygon { sides: 2_100 }, Wanted::Made { first: 7, count: 4_200 }),
     (Line::Set { dim: 2, dart: 7, value: POINT }, Wanted::Done),
-    (Line::Mark { name: "large" }, Wanted::Done),
+    (Line::Mark { name: Name::Large }, Wanted::Done),
 ];
 
 /// The polygon ends, and what is born then stands in its rows, until all is taken back.
@@ -34,10 +34,10 @@ const AGAIN: [(Line, Wanted); 5] = [
     (Line::Polygon { sides: 3 }, Wanted::Made { first: 4_207, count: 6 }),
     (Line::Sew { link: 2, dart: 1, other: 4_207 }, Wanted::Done),
     (Line::Set { dim: 2, dart: 4_207, value: POINT }, Wanted::Done),
-    (Line::Undo { name: "large" }, Wanted::Done),
+    (Line::Undo { name: Name::Large }, Wanted::Done),
 ];
 
-const BACK: [(Line, Wanted); 1] = [(Line::Undo { name: "small" }, Wanted::Done)];
+const BACK: [(Line, Wanted); 1] = [(Line::Undo { name: Name::Small }, Wanted::Done)];
 
 /// All darts, links and values, as a text.
 fn whole(alloc: Global, map: &Map<'_, Alpha, FirstCopy, 2>) -> Result<String, AllocError> {

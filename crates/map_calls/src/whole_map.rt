@@ -2,7 +2,7 @@
 //! values and the cells before a line, and from the cells after it. In the end all lines are taken back.
 ghost use Rattle.std.specs.Prelude.{◌≤◌};
 
-use crate::lines::{Line, obey};
+use crate::lines::{Line, Name, obey};
 use attr_rules::{FirstCopy, Merge, Rule, RuleWith, Split, TableRule};
 use map_core::{Edits, Map};
 use map_kind::{Alpha, Beta, Refused, Value};
@@ -398,7 +398,7 @@ fn begin_script<K: Edits<DIM>, const DIM: usize>(
 ) -> Result<Vec<Standing>, Refused> {
     make_darts(alloc, map)?;
     set_rules(alloc, map, first_rule, random)?;
-    obey(alloc, map, &Line::Mark { name: "begin" })?;
+    obey(alloc, map, &Line::Mark { name: Name::Begin })?;
     standings(alloc, map)
 }
 
@@ -409,7 +409,7 @@ fn check_return<K: Edits<DIM>, const DIM: usize>(
     map: &mut Map<'_, K, FirstCopy, DIM>,
     begin: &[Standing],
 ) -> Result<(), Refused> {
-    obey(alloc, map, &Line::Undo { name: "begin" })?;
+    obey(alloc, map, &Line::Undo { name: Name::Begin })?;
     let end = standings(alloc, map)?;
     assert!(rt; end.as_slice() == begin);
     Ok(())
