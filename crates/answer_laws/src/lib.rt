@@ -43,10 +43,11 @@ pub fn each_program_has_an_answer()
     ensures { (hook : Meaning) (words : List (List ℕ)) (files : Files) → NotNot (HasAnswer hook words files) }
 {}
 
-/// What a call that was cut short has written goes on to a whole text: the program has a text and a status for its words and
-/// files, and what was written is a front of that text.
+/// A text with which the program's text starts, as `Starts` says it, goes on to a whole text: the program has a text and a
+/// status for its words and files, and the first text is a front of that one.
 ///
-/// For whoever reads an output that ends early: `one_front` of `machine_laws` takes the text as given, and here there is one.
+/// For whoever reads an output that ends early, but for the line that a file cannot be read: `one_front` of `machine_laws`
+/// takes the text as given, and here there is one.
 pub fn what_was_written_goes_on()
     ensures { (hook : Meaning) (words : List (List ℕ)) (files : Files) (front : List ℕ) → Starts hook words files front
         → NotNot (HasWhole hook words files front) }

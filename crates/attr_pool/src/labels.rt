@@ -7,8 +7,8 @@ use map_kind::Dart;
 use std::alloc::{AllocError, Global};
 use std::marker::Model;
 
-/// For each dart up to a number, and each dimension, an optional id. A dimension costs memory only once place is made
-/// for its ids: 4 bytes a dart, and room that is kept for darts to come.
+/// For each dart up to a number, and each dimension, an optional id. A dimension for whose ids no place was made keeps none; one
+/// with place keeps 4 bytes a dart, and room for darts to come.
 #[derive(Drop)]
 pub struct Labels<const DIM: usize> {
     made: u32,

@@ -4,7 +4,7 @@ use Rattle.map_defs.specs.Rows.{made, IsLive, IsSound}
 use Rattle.machine_defs.specs.State.{Content, HasPlaces}
 use Rattle.machine_defs.specs.Difference.{Difference, put_forward, taken_back}
 
--- The content b can follow the content a in one step.
+-- What the content b keeps of the content a where it follows that one.
 pub record Follows (a b : Content) : Type 0 where
   -- both are of one kind and dimension, with as many places for rules
   pub kind : b.kind ≡ a.kind

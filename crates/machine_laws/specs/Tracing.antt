@@ -3,6 +3,6 @@ use Rattle.std.specs.Prelude.{[], ◌∷◌, ◌++◌}
 use Rattle.machine_defs.specs.State.{State}
 use Rattle.journal_laws.specs.Following.{AllFollow}
 
--- Each content that the state keeps, the present one last, can follow the one before it in one step.
+-- Each content that the state keeps, the present one last, follows the one before it.
 abbrev pub AreTraced : State → Type 0
 AreTraced s = AllFollow (s.past ++ s.present ∷ [])

@@ -75,7 +75,8 @@ pub fn runs_keep_the_laws()
         → Run hook s lines replies new → IsLawfulState new }
 {}
 
-/// In every state of a run each content that is kept can follow the one before it in one step.
+/// In every state of a run each content that is kept follows the one before it, as `Follows` says: kind, dimension and places
+/// stay, numbers of darts go on, no dart that ended lives again, and none was born and ended between the two.
 pub fn runs_keep_the_trace()
     ensures first { (k : Kind) (n : ℕ) → AreTraced (empty_state k n) }
     ensures mesh { (k : Kind) (n : ℕ) (text : List ℕ) (start : State) → IsLoaded k n text start → AreTraced start }
@@ -105,7 +106,7 @@ pub fn one_answer()
         ProgramAnswer hook words files one status → ProgramAnswer hook words files other status' → status ≡ status' }
 {}
 
-/// What a call that was cut short has written is a front of the program's one text.
+/// A text with which the program's text starts, as `Starts` says it, is a front of the program's one text.
 pub fn one_front()
     ensures { (hook : Meaning) (words : List (List ℕ)) (files : Files) (front text : List ℕ) (status : ℕ) →
         Starts hook words files front → ProgramAnswer hook words files text status → IsFront front text }

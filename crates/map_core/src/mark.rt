@@ -19,7 +19,7 @@ impl<'h, K: Kind, H: Hook, const DIM: usize> Map<'h, K, H, DIM> {
     /// How many marks stand. It takes no memory. Here can be read what the type keeps of the whole state: the present
     /// content, those of the past and each mark's copy are lawful maps with one value or none on each cell; no two marks
     /// have one name, a later mark has no lesser place, and each mark's copy is the content at its place; and each content
-    /// can follow the one before it in one step.
+    /// follows the one before it: kind, dimension and places stay, numbers of darts go on, and no dart that ended lives again.
     ///
     /// For whoever rests on a law that asks for a lawful state, as those of undo, whatever calls led to it.
     pub fn mark_count(&self) -> usize

@@ -56,7 +56,7 @@ impl<'h, K: Edits<DIM>, H: Hook, const DIM: usize> Map<'h, K, H, DIM> {
     }
 
     /// Whether a dart's cell of a dimension can be removed: whether `remove` would not be refused as `NotRemovable`. It
-    /// costs the darts of the cell times a logarithm.
+    /// costs the darts of the cell and the walks across it, for each link of the map, times a logarithm.
     ///
     /// Refused as `BadDim` exactly where the dimension is above the map's, and then as `NoDart` exactly where no live dart
     /// has the number.
@@ -69,7 +69,8 @@ impl<'h, K: Edits<DIM>, H: Hook, const DIM: usize> Map<'h, K, H, DIM> {
     }
 
     /// Whether a dart's cell of a dimension can be contracted: whether `contract` would not be refused as
-    /// `NotContractible`. It costs the darts of the cell times a logarithm.
+    /// `NotContractible`. It costs the darts of the cell and the walks across it, for each link of the map, times a
+    /// logarithm.
     ///
     /// Refused as `BadDim` exactly where the dimension is above the map's, and then as `NoDart` exactly where no live dart
     /// has the number.

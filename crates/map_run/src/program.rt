@@ -115,8 +115,8 @@ fn serve<F: Shelf, S: Sink, H: Hook>(
 /// | 3 | the mesh is refused | `off line N WHAT`, `off face N WHAT` or `off Full` |
 /// | 4 | a file has more than 16,777,216 bytes | `too long` |
 /// | 5 | the shelf has no such file, or could not read it | `cannot read` |
-/// | 6 | the sink could not take the text | a front of the text |
-/// | 7 | there was not enough memory | a front of the text that ends with a line |
+/// | 6 | the sink could not take the text | a front of the text, or of `cannot read` where the shelf had a fault |
+/// | 7 | there was not enough memory | such a front that is empty or ends with a line |
 ///
 /// With the statuses 0 to 5 the sink has handed on all that it took. What is said of the text holds where the shelf tells
 /// what it holds and the sink what was written; what is said of the statuses 2, 5 and 6, and of what was handed on, holds

@@ -20,7 +20,7 @@ IsTold false before after (Some step) = ⊥
 IsTold true before after None = ⊥
 IsTold true before after (Some step) = IsDifference before after step
 
--- The content after is a lawful one and follows the content before in one step, which is told where it was asked for.
+-- The content after is a lawful one and follows the content before, and the step between them is told where it was asked for.
 pub record IsStep (asked : Bool) (before after : Content) (step : Option Difference) : Type 0 where
   pub follows : Follows before after
   pub kept : IsLawfulContent after
