@@ -1,5 +1,5 @@
 -- What the machine does where a mark is set, and where the steps since one are asked for.
-use Rattle.std.proofs.Common.{◌≡◌, ℕ, List, Err, refl, sym, ap, ◌∙◌, subst, inl, inr}
+use Rattle.std.proofs.Common.{◌≡◌, ℕ, List, [], ◌∷◌, map, Err, refl, sym, ap, ◌∙◌, subst, inl, inr}
 use Rattle.map_kind.specs.declared.refusal.Refusal.{Refusal}
 use Rattle.map_kind.specs.declared.refusal.Refusal.TheVariants as told_as
 use Rattle.map_kind.specs.declared.refusal.Refused.{Refused}
@@ -10,19 +10,28 @@ use Rattle.machine_defs.specs.Marking.{IsMark, since}
 use Rattle.machine_defs.specs.Difference.{Difference, AreDifferences}
 use Rattle.map_defs.specs.Refusal.{NoMark}
 use Rattle.machine_defs.specs.Script.{Mark, Log}
+use Rattle.machine_defs.specs.Listing.{names_of}
 use Rattle.machine_defs.specs.Machine.{Step}
 use Rattle.machine_defs.specs.Text as text
 use Rattle.journal_laws.specs.Following.{all_put_forward, all_taken_back}
 use Rattle.machine_laws.proofs.Traced.{leads-back, leads-forward}
 use Rattle.trail_laws.specs.Trails as trails
-use Rattle.trail_laws.specs.Trails.{Trail, steps_since, IsOrdered, marked}
-use Rattle.trail_laws.specs.Told.{told, IsTraced}
+use Rattle.trail_laws.specs.Trails.{Placed, Trail, standing_marks, mark_names, steps_since, IsOrdered, marked}
+use Rattle.trail_laws.specs.Told.{mark_of, told, IsTraced}
 use Rattle.trail_laws.proofs.Naming.{names-told, mark-told, mark-stands, trail-mark, all-kept}
 use Rattle.trail_laws.proofs.Reading.{past-follow}
 use Rattle.trail_laws.proofs.Marking.{told-marked}
 use Rattle.trail_laws.proofs.Returning.{differ-since}
 use Rattle.map_core.specs.Calls.{Does}
 use Rattle.map_core.proofs.GoingBack.{one-mark}
+
+-- marks that are told have the names of those that stand
+names-of-told : (now : Content) (t : Trail) (marks : List Placed) → names_of (map (mark_of now t) marks) ≡ map (λ (m : Placed). m.name) marks
+names-of-told now t [] = refl
+names-of-told now t (mark ∷ marks) = ap (λ (names : List (List ℕ)). mark.name ∷ names) (names-of-told now t marks)
+
+pub told-names : (now : Content) (t : Trail) → names_of (told now t).marks ≡ mark_names t
+told-names now t = names-of-told now t (standing_marks t)
 
 module _ (now : Content) (t : Trail) (h : IsTraced now t) (o : IsOrdered t) (hook : Meaning) (name : List ℕ) where
   -- a mark that is refused

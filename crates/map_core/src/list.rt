@@ -28,8 +28,10 @@ impl<'h, K: Kind, H: Hook, const DIM: usize> Map<'h, K, H, DIM> {
 fn list_marks(alloc: Global, journal: &Journal) -> Result<Vec<MarkName>, AllocError>
     ensures { IfOk result (λ names. names.items ≡ mark_names journal.now.trail) }
 {
-    let mut names = Vec::with_capacity(alloc, journal.mark_count())?;
-    while let Some(name) = journal.mark_name(names.len()) {
+    let count = journal.mark_count();
+    let mut names = Vec::with_capacity(alloc, count)?;
+    for place in 0..count {
+        let name = journal.mark_name(place).unwrap();
         names.push(MarkName::new(name))?;
     }
     Ok(names)
