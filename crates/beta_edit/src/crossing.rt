@@ -83,3 +83,23 @@ pub(crate) fn walk_end<const DIM: usize>(
     }
     None
 }
+
+/// The same as `walk_end`, on the walk from a dart of the cell.
+pub(crate) fn walk_end_from_within<const DIM: usize>(
+    links: &Links<Beta, DIM>,
+    link: usize,
+    beside: Option<usize>,
+    cell: &[Dart],
+    from: Dart,
+) -> Option<u32>
+    requires ascending { IsStrictlyIncreasing cell.now }
+    requires darts { Contains cell.now 0 → ⊥ }
+    requires from { Contains cell.now from }
+    ensures end { IfSome result (λ end. DrawsTo (links_of links.now.rows) beside link cell.now from end) }
+    ensures endless { IfNone result ((y : ℕ) → DrawsTo (links_of links.now.rows) beside link cell.now from y → ⊥) }
+{
+    let Some(next) = across(links, link, beside, from) else {
+        return Some(0);
+    };
+    walk_end(links, link, beside, cell, next)
+}

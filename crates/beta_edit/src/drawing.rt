@@ -7,8 +7,8 @@ ghost use Rattle.cell_edit.specs.Removing.{PlansEnding};
 ghost use Rattle.beta_edit.specs.Crossing.{drawn_step};
 ghost use Rattle.beta_edit.specs.Drawing.{IsDrawn, CanBeDrawn, IsLinkEntry, IsDartEntry, IsCellEntry};
 
-use crate::crossing::{is_among, walk_end};
-use cell_edit::room_for_changes;
+use crate::crossing::{is_among, walk_end_from_within};
+use crate::writing::room_for_ways;
 use link_rows::{Change, Edit, Links};
 use map_kind::{Beta, Dart, Kind};
 use std::alloc::{AllocError, Global};
@@ -50,7 +50,7 @@ fn drawn_changes<const DIM: usize>(
     ensures { IfOk result (λ changes. WritesEntries (links_of links.now.rows)
         (IsCellEntry (links_of links.now.rows) beside darts.now (DIM + 1) darts.now) changes.items) }
 {
-    let mut changes = room_for_changes(alloc, darts.len(), links.dimension())?;
+    let mut changes = room_for_ways(alloc, darts.len(), links.dimension())?;
     for dart in darts {
         push_dart(links, beside, darts, *dart, &mut changes)?;
     }
@@ -107,7 +107,7 @@ fn push_link<const DIM: usize>(
         return Ok(());
     }
     let back = Beta::inverse(link);
-    let Some(end) = walk_end(links, back, beside, darts, dart) else {
+    let Some(end) = walk_end_from_within(links, back, beside, darts, dart) else {
         // Each walk from a remaining dart ends.
         unreachable!()
     };

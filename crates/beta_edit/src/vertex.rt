@@ -7,8 +7,8 @@ ghost use Rattle.cell_edit.specs.Stars.{star_of};
 ghost use Rattle.cell_edit.specs.Writing.{WritesEntries, Appends};
 ghost use Rattle.beta_edit.specs.Splitting.{IsBehindEntry, IsSideEntry, IsSplitEntry, AreSplitEntries, IsWholeEdge};
 
-use crate::writing::{push_link, push_way};
-use cell_edit::{Stars, room_for_changes};
+use crate::writing::{push_link, push_way, room_for_ways};
+use cell_edit::Stars;
 use cell_walk::cell;
 use link_rows::{Change, Edit, Links};
 use map_kind::{Beta, Dart};
@@ -54,7 +54,7 @@ fn split_changes<const DIM: usize>(
 {
     // A map has links 0 to 2 at least.
     links.see_sound();
-    let mut changes = room_for_changes(alloc, stars.darts().len(), links.dimension())?;
+    let mut changes = room_for_ways(alloc, stars.darts().len(), links.dimension())?;
     for dart in stars.darts() {
         push_dart(links, stars, *dart, &mut changes)?;
     }

@@ -1,13 +1,27 @@
-ghost use Rattle.std.specs.Prelude.{◌≤◌, OnOk};
+ghost use Rattle.std.specs.Prelude.{◌≡◌, ◌≤◌, [], IfOk, OnOk};
 ghost use Rattle.map_defs.specs.Rows.{links_of};
 ghost use Rattle.cell_edit.specs.Writing.{Appends};
 ghost use Rattle.beta_edit.specs.Ways.{IsOneEntry, IsWayEntry};
 
 use link_rows::{Change, Links};
 use map_kind::{Beta, Dart};
-use std::alloc::AllocError;
+use std::alloc::{AllocError, Global};
+
+/// No changes yet, with room for two of each link of so many darts of a map of dimension `dim`: of the link, and of the one
+/// that leads back along it.
+pub(crate) fn room_for_ways(
+    alloc: Global,
+    darts: usize,
+    dim: usize,
+) -> Result<Vec<Change>, AllocError>
+    requires { dim ≤ 8 }
+    ensures { IfOk result (λ changes. changes.items ≡ []) }
+{
+    Vec::with_capacity(alloc, darts.saturating_mul(2 * dim + 2))
+}
 
 /// Appends the change by which a link of a dart becomes another dart.
+#[inline(always)]
 pub(crate) fn push_link<const DIM: usize>(
     links: &Links<Beta, DIM>,
     dart: Dart,

@@ -67,6 +67,7 @@ fn ruled_darts<K: Kind, const DIM: usize>(
 /// The darts that an edit touched in a dimension: those that lived before and from which some word of the dimension's cells leads
 /// elsewhere than before. Some may stand there more than once. A dart that was born is in the cell of such a dart, or in a
 /// cell of born darts alone, which has no value.
+#[inline(never)]
 fn touched_in<K: Kind, const DIM: usize>(
     alloc: Global,
     links: &Links<K, DIM>,
@@ -83,53 +84,57 @@ fn touched_in<K: Kind, const DIM: usize>(
 {
     let mut touched = Vec::new(alloc);
     let words = K::words(alloc, links.dimension(), dim)?;
+    let older = links.made() - edit.births;
     for change in &edit.changes {
-        add_at_change(links, edit, &words, *change, &mut touched)?;
+        add_at_change(links, edit, older, &words, *change, &mut touched)?;
     }
     Ok(touched)
 }
 
 /// Adds the darts that a change of a link reroutes along some words. A change of a dart that was born, or has ended, tells
-/// nothing of other darts.
+/// nothing of other darts. The darts up to the number `older` were made before the edit.
 fn add_at_change<K: Kind, const DIM: usize>(
     links: &Links<K, DIM>,
     edit: &Edit,
+    older: u32,
     words: &[LinkWord],
     change: Change,
     touched: &mut Vec<Dart>,
 ) -> Result<(), AllocError>
     requires low { 2 ≤ DIM }
     requires sound { IsSound K.kind DIM links.now.rows }
-    requires births { edit.now.births ≤ made links.now.rows }
+    requires older { older + edit.now.births ≡ made links.now.rows }
     requires words { (w : MapWord) → Contains words.now w → IsWithin DIM w }
     ensures { OnOk result (AreAdded links.now.rows (λ x. (change.dart + edit.now.births ≤ made links.now.rows)
         × IsLive links.now.rows change.dart
         × ((w : MapWord) × Contains words.now w × IsReroutedAt K.kind DIM edit.now links.now.rows w change x))
         touched.old.items touched.new.items) }
 {
-    if change.dart.number() > links.made() - edit.births || !links.is_live(change.dart) {
+    if change.dart.number() > older || !links.is_live(change.dart) {
         return Ok(());
     }
-    add_along_words(links, edit, words, change, touched)
+    add_along_words(links, edit, older, words, change, touched)
 }
 
 /// Adds the darts that a change of a link of a live dart reroutes along some words.
 fn add_along_words<K: Kind, const DIM: usize>(
     links: &Links<K, DIM>,
     edit: &Edit,
+    older: u32,
     words: &[LinkWord],
     change: Change,
     touched: &mut Vec<Dart>,
 ) -> Result<(), AllocError>
     requires low { 2 ≤ DIM }
     requires sound { IsSound K.kind DIM links.now.rows }
+    requires older { older + edit.now.births ≡ made links.now.rows }
     requires live { IsLive links.now.rows change.dart }
     requires words { (w : MapWord) → Contains words.now w → IsWithin DIM w }
     ensures { OnOk result (AreAdded links.now.rows (λ x. (w : MapWord) × Contains words.now w
         × IsReroutedAt K.kind DIM edit.now links.now.rows w change x) touched.old.items touched.new.items) }
 {
     for word in words {
-        add_along(links, edit, *word, change, touched)?;
+        add_along(links, edit, older, *word, change, touched)?;
     }
     Ok(())
 }
@@ -138,19 +143,21 @@ fn add_along_words<K: Kind, const DIM: usize>(
 fn add_along<K: Kind, const DIM: usize>(
     links: &Links<K, DIM>,
     edit: &Edit,
+    older: u32,
     word: LinkWord,
     change: Change,
     touched: &mut Vec<Dart>,
 ) -> Result<(), AllocError>
     requires low { 2 ≤ DIM }
     requires sound { IsSound K.kind DIM links.now.rows }
+    requires older { older + edit.now.births ≡ made links.now.rows }
     requires live { IsLive links.now.rows change.dart }
     requires word { IsWithin DIM word }
     ensures { OnOk result (AreAdded links.now.rows (IsReroutedAt K.kind DIM edit.now links.now.rows word change)
         touched.old.items touched.new.items) }
 {
     add_at_first(links, edit, word, change, touched)?;
-    add_at_second(links, edit, word, change, touched)
+    add_at_second(links, edit, older, word, change, touched)
 }
 
 /// Adds the changed dart, where a word follows the changed link first and then leads elsewhere than before.
@@ -178,12 +185,14 @@ fn add_at_first<K: Kind, const DIM: usize>(
 fn add_at_second<K: Kind, const DIM: usize>(
     links: &Links<K, DIM>,
     edit: &Edit,
+    older: u32,
     word: LinkWord,
     change: Change,
     touched: &mut Vec<Dart>,
 ) -> Result<(), AllocError>
     requires low { 2 ≤ DIM }
     requires sound { IsSound K.kind DIM links.now.rows }
+    requires older { older + edit.now.births ≡ made links.now.rows }
     requires live { IsLive links.now.rows change.dart }
     requires word { IsWithin DIM word }
     ensures { OnOk result (AreAdded links.now.rows (IsThenRerouted K.kind DIM edit.now links.now.rows word change)
@@ -192,7 +201,7 @@ fn add_at_second<K: Kind, const DIM: usize>(
     if word.second != Some(change.link) {
         return Ok(());
     }
-    add_before(links, edit, word.first, change.dart, touched)
+    add_before(links, edit, older, word.first, change.dart, touched)
 }
 
 /// Whether what follows a changed link leads elsewhere than before, if anything does; and in an edit of many changes, always.
@@ -217,16 +226,19 @@ fn leads_elsewhere<K: Kind, const DIM: usize>(
     number_before(links, edit, change.old, link) != number_now(links, change.new, link)
 }
 
-/// Adds the dart from which a link leads to a dart, if it led there before; and in an edit of many changes, always.
+/// Adds the dart from which a link leads to a dart, if it led there before; and in an edit of many changes, always, if it was
+/// not born.
 fn add_before<K: Kind, const DIM: usize>(
     links: &Links<K, DIM>,
     edit: &Edit,
+    older: u32,
     link: usize,
     dart: Dart,
     touched: &mut Vec<Dart>,
 ) -> Result<(), AllocError>
     requires low { 2 ≤ DIM }
     requires sound { IsSound K.kind DIM links.now.rows }
+    requires older { older + edit.now.births ≡ made links.now.rows }
     requires live { IsLive links.now.rows dart }
     requires link { link ≤ DIM }
     ensures { OnOk result (AreAdded links.now.rows (λ x. (old : Rows) × IsLed K.kind DIM edit.now old links.now.rows
@@ -235,13 +247,26 @@ fn add_before<K: Kind, const DIM: usize>(
     let Some(before) = links.link(dart, K::inverse(link)) else {
         return Ok(());
     };
-    if edit.changes.len() <= FEW
-        && number_before(links, edit, before.number(), link) != dart.number()
-    {
+    if before.number() > older || led_elsewhere(links, edit, before, link, dart) {
         return Ok(());
     }
     touched.push(before)?;
     Ok(())
+}
+
+/// Whether a link of a dart led elsewhere than to another dart before an edit; in an edit of many changes, that is not told.
+fn led_elsewhere<K: Kind, const DIM: usize>(
+    links: &Links<K, DIM>,
+    edit: &Edit,
+    dart: Dart,
+    link: usize,
+    other: Dart,
+) -> bool
+    requires sound { IsSound K.kind DIM links.now.rows }
+    requires link { link ≤ DIM }
+    ensures { (old : Rows) → IsLed K.kind DIM edit.now old links.now.rows → IsTrue result → links_of old link dart ≢ other }
+{
+    edit.changes.len() <= FEW && number_before(links, edit, dart.number(), link) != other.number()
 }
 
 /// The number of the dart that stood at a link of the dart of a number before an edit; 0 for none, and for the number 0.
@@ -255,19 +280,22 @@ fn number_before<K: Kind, const DIM: usize>(
     requires link { link ≤ DIM }
     ensures { (old : Rows) → IsLed K.kind DIM edit.now old links.now.rows → result ≡ links_of old link number }
 {
-    match change_of(&edit.changes, number, link) {
+    let Some(dart) = Dart::new(number) else {
+        return 0;
+    };
+    match change_of(&edit.changes, dart, link) {
         Some(change) => change.old,
-        None => number_now(links, number, link),
+        None => links.number_at(dart, link),
     }
 }
 
-/// The change of a link of the dart of a number, if there is one.
-fn change_of(changes: &[Change], number: u32, link: usize) -> Option<Change>
-    ensures some { IfSome result (λ c. Contains changes.now c × (c.dart ≡ number) × (c.link ≡ link)) }
-    ensures none { IsNone result → (c : LinkChange) → Contains changes.now c → c.dart ≡ number → c.link ≡ link → ⊥ }
+/// The change of a link of a dart, if there is one.
+fn change_of(changes: &[Change], dart: Dart, link: usize) -> Option<Change>
+    ensures some { IfSome result (λ c. Contains changes.now c × (c.dart ≡ dart) × (c.link ≡ link)) }
+    ensures none { IsNone result → (c : LinkChange) → Contains changes.now c → c.dart ≡ dart → c.link ≡ link → ⊥ }
 {
     for change in changes {
-        if change.dart.number() == number && change.link == link {
+        if change.dart == dart && change.link == link {
             return Some(*change);
         }
     }
