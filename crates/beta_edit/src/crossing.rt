@@ -84,7 +84,7 @@ pub(crate) fn walk_end<const DIM: usize>(
     None
 }
 
-/// The same as `walk_end`, on the walk from a dart of the cell.
+/// The number that `walk_end` answers, of a walk from a dart of the cell; none exactly where the walk has no end.
 pub(crate) fn walk_end_from_within<const DIM: usize>(
     links: &Links<Beta, DIM>,
     link: usize,

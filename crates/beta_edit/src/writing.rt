@@ -21,7 +21,6 @@ pub(crate) fn room_for_ways(
 }
 
 /// Appends the change by which a link of a dart becomes another dart.
-#[inline(always)]
 pub(crate) fn push_link<const DIM: usize>(
     links: &Links<Beta, DIM>,
     dart: Dart,

@@ -12,7 +12,7 @@ use Rattle.store_defs.specs.Groups.{darts_in}
 use Rattle.edit_laws.proofs.RowWrites.{live-within}
 use Rattle.label_laws.specs.Touching.{OnlyJoins, LeadsApart}
 use Rattle.valued_map.proofs.Adding.{change_at, no_change, find-link, same-else, lived, long}
-use Rattle.valued_map.proofs.DimLists.{which, list-before, list-at, list-past}
+use Rattle.valued_map.proofs.DimLists.{AreListedBelow}
 
 -- an edit without births, whose changes are of free links, only joins
 pub only-joins : (k : Kind) (n : ℕ) (e : Edit) (old new : Rows) → IsLed k n e old new → e.births ≡ 0 → ((j : ℕ) → j < length e.changes → (change_at e.changes j).old ≡ 0) → OnlyJoins old new
@@ -41,39 +41,5 @@ leading-within k n rows sound w x leads =
     stops (Some j) = refl
 
 -- Of the touched darts of each of the first dimensions just some are listed, those among them from which a word leads apart.
-pub record AreApartBelow (k : Kind) (rows : Rows) (labels : Labeling) (touched : List (List ℕ)) (dim : ℕ) (lists : List (List ℕ)) : Type 0 where
-  pub size : length lists ≡ dim
-  pub only : (i x : ℕ) → Contains (darts_in lists i) x → Contains (darts_in touched i) x
-  pub all : (i x : ℕ) → i < dim → Contains (darts_in touched i) x → LeadsApart k i rows labels x → Contains (darts_in lists i) x
-
-module _ (k : Kind) (rows : Rows) (labels : Labeling) (touched : List (List ℕ)) where
-  pub apart-none : AreApartBelow k rows labels touched 0 []
-  apart-none = record { size = refl; only = λ i x here. (let lt : here.0 < 0 = here.1 in absurd (omega arith)); all = λ i x lt. absurd (omega arith) }
-
-  pub apart-more : (dim : ℕ) (lists : List (List ℕ)) (darts : List ℕ) → AreApartBelow k rows labels touched dim lists → ((x : ℕ) → Contains darts x → Contains (darts_in touched dim) x)
-      → ((x : ℕ) → Contains (darts_in touched dim) x → LeadsApart k dim rows labels x → Contains darts x)
-      → AreApartBelow k rows labels touched (dim + 1) (lists ++ darts ∷ [])
-  apart-more dim lists darts a only all = record {
-    size = length-append lists (darts ∷ []) ∙ ap (λ (m : ℕ). m + 1) a.size;
-    only = λ i x here. (elim (which i dim) [
-      | inl low ↦ a.only i x (subst (λ ds. Contains ds x) (early i low) here)
-      | inr rest ↦ elim rest [
-        | inl same ↦ subst (λ j. Contains (darts_in touched j) x) (sym same) (only x (subst (λ ds. Contains ds x) (last i same) here))
-        | inr high ↦ absurd (let nothing : Contains [] x = subst (λ ds. Contains ds x) (list-past lists darts i (omega (arith, a.size))) here in let lt : nothing.0 < 0 = nothing.1 in omega arith)
-      ]
-    ]);
-    all = λ i x lt here apart. (elim (which i dim) [
-      | inl low ↦ subst (λ ds. Contains ds x) (sym (early i low)) (a.all i x low here apart)
-      | inr rest ↦ elim rest [
-        | inl same ↦ subst (λ ds. Contains ds x) (sym (last i same))
-            (all x (subst (λ j. Contains (darts_in touched j) x) same here) (subst (λ j. LeadsApart k j rows labels x) same apart))
-        | inr high ↦ absurd (omega arith)
-      ]
-    ]);
-  }
-    where
-      early : (i : ℕ) → i < dim → darts_in (lists ++ darts ∷ []) i ≡ darts_in lists i
-      early i low = list-before lists darts i (omega (arith, a.size))
-
-      last : (i : ℕ) → i ≡ dim → darts_in (lists ++ darts ∷ []) i ≡ darts
-      last i same = list-at lists darts i (omega (arith, a.size, same))
+abbrev pub AreApartBelow : Kind → Rows → Labeling → List (List ℕ) → ℕ → List (List ℕ) → Type 0
+AreApartBelow k rows labels touched = AreListedBelow (λ i. Contains (darts_in touched i)) (λ i x. Contains (darts_in touched i) x × LeadsApart k i rows labels x)

@@ -13,11 +13,12 @@ use Rattle.edit_laws.proofs.RowWrites.{live-within}
 use Rattle.edit_laws.proofs.EditLinks.{links-at}
 use Rattle.link_laws.proofs.RowFacts.{rows_dimension, rows_lead_to_live}
 use Rattle.map_defs.specs.Values.{Rule}
-use Rattle.store_defs.specs.Groups.{darts_in, rule_at}
+use Rattle.store_defs.specs.Groups.{rule_at}
 use Rattle.label_laws.specs.Touching.{IsReroutedDart}
 use Rattle.valued_map.specs.Changing.{IsReroutedAt}
-use Rattle.valued_map.proofs.DimLists.{which, list-before, list-at, list-past}
+use Rattle.valued_map.proofs.DimLists.{AreListedBelow}
 use Rattle.valued_map.proofs.Heads.{among-more}
+use Rattle.valued_map.proofs.LiveDarts.{zero-dead}
 use Rattle.valued_map.proofs.Adding.{no_change, change_at, find-link, same-else, long}
 
 -- no change is one of this link of the dart
@@ -34,6 +35,26 @@ module _ (k : Kind) (n : ℕ) (e : Edit) (old new : Rows) (led : IsLed k n e old
   -- a link that no change names is as it was
   pub unchanged : (d i : ℕ) → IsUnchanged e.changes d i → links_of new i d ≡ links_of old i d
   unchanged d i none = same-else k n e old new led i d (λ j z h dart link. none (get_or e.changes j z) (j, h, get_or_default e.changes j (get_or e.changes j z) z h) (sym dart) (sym link))
+
+-- a link that leads to a live dart comes from the dart at its inverse link
+pub comes-from : (k : Kind) (n : ℕ) (rows : Rows) → IsSound k n rows → (d link : ℕ) → IsLive rows d → (x : ℕ) → links_of rows link x ≡ d → links_of rows (inverse k link) d ≡ x
+comes-from k n rows sound d link live x at =
+    ap (links_of rows (inverse k link)) (sym at) ∙ sound.back link x (λ none. zero-dead k n rows d sound (sym at ∙ none) live)
+
+-- a dart from which a link led to a live dart was made before the edit
+pub came-before : (k : Kind) (n : ℕ) (e : Edit) (old new : Rows) → IsLed k n e old new → IsSound k n new → (d link : ℕ) → IsLive new d
+    → (x : ℕ) → links_of new link x ≡ d → links_of old link x ≡ d → (older : ℕ) → older + e.births ≡ made new → older < x → ⊥
+came-before k n e old new led sound d link live x at was older made-is above =
+    let within : x < length old = live-within old x lived in
+    let more : length new ≡ length old + e.births = long k n e old new led in
+    let begun : 0 < length old = led.begun in
+    omega (arith, more, made-is)
+  where
+    back : links_of old (inverse k link) d ≡ x
+    back = ap (links_of old (inverse k link)) (sym was) ∙ led.sound.back link x (λ none. zero-dead k n new d sound (sym was ∙ none) live)
+
+    lived : IsLive old x
+    lived = subst (IsLive old) back (led.sound.live (inverse k link) d (λ none. let zero : x ≡ 0 = sym back ∙ none in omega (arith, zero)))
 
 -- the change is of a dart that lived before and lives on, and reroutes x along a word of the i-cells
 abbrev pub IsReroutedOf : Kind → ℕ → Edit → Rows → ℕ → Change → ℕ → Type 0
@@ -153,45 +174,10 @@ module _ (k : Kind) (n : ℕ) (e : Edit) (old new : Rows) (led : IsLed k n e old
   pub touched-are-rerouted : (x : ℕ) → IsReroutedDart k i old new x → Goal x
   touched-are-rerouted x (before, after, (v, cell, apart)) = rerouted-by x before after v cell apart
 
+-- some edit led here from lawful links, and rerouted x along a word of the i-cells, where dimension i has a rule
+abbrev pub IsTouchedIn : Kind → ℕ → Edit → Rows → List (Option Rule) → ℕ → ℕ → Type 0
+IsTouchedIn k n e rows rules i x = (old : Rows) × IsLed k n e old rows × Laws k (links_of old) × Laws k (links_of rows) × IsSome (rule_at rules i) × IsReroutedDart k i old rows x
+
 -- the darts touched in each of the first dimensions, by the lists of these
-pub record AreTouchedBelow (k : Kind) (n : ℕ) (e : Edit) (rows : Rows) (rules : List (Option Rule)) (dim : ℕ) (lists : List (List ℕ)) : Type 0 where
-  pub size : length lists ≡ dim
-  pub live : (i x : ℕ) → Contains (darts_in lists i) x → IsLive rows x
-  pub all : (old : Rows) → IsLed k n e old rows → Laws k (links_of old) → Laws k (links_of rows) → (i x : ℕ) → i < dim → IsSome (rule_at rules i)
-      → IsReroutedDart k i old rows x → Contains (darts_in lists i) x
-
-module _ (k : Kind) (n : ℕ) (e : Edit) (rows : Rows) (rules : List (Option Rule)) where
-  pub touched-none : AreTouchedBelow k n e rows rules 0 []
-  touched-none = record { size = refl; live = λ i x here. (let lt : here.0 < 0 = here.1 in absurd (omega arith)); all = λ old led w wn i x lt. absurd (omega arith) }
-
-  pub touched-more : (dim : ℕ) (lists : List (List ℕ)) (darts : List ℕ) → AreTouchedBelow k n e rows rules dim lists → ((x : ℕ) → Contains darts x → IsLive rows x)
-      → (IsSome (rule_at rules dim) → (old : Rows) → IsLed k n e old rows → Laws k (links_of old) → Laws k (links_of rows) → (x : ℕ)
-      → IsReroutedDart k dim old rows x → Contains darts x)
-      → AreTouchedBelow k n e rows rules (dim + 1) (lists ++ darts ∷ [])
-  touched-more dim lists darts a live all = record {
-    size = length-append lists (darts ∷ []) ∙ ap (λ (m : ℕ). m + 1) a.size;
-    live = λ i x here. (elim (which i dim) [
-      | inl low ↦ a.live i x (subst (λ ds. Contains ds x) (early i low) here)
-      | inr rest ↦ elim rest [ inl same ↦ live x (subst (λ ds. Contains ds x) (last i same) here) | inr high ↦ absurd (none i x high here) ]
-    ]);
-    all = λ old led w wn i x lt ruled t. (elim (which i dim) [
-      | inl low ↦ subst (λ ds. Contains ds x) (sym (early i low)) (a.all old led w wn i x low ruled t)
-      | inr rest ↦ elim rest [
-        | inl same ↦ subst (λ ds. Contains ds x) (sym (last i same)) (all (subst (λ j. IsSome (rule_at rules j)) same ruled) old led w wn x
-            (subst (λ j. IsReroutedDart k j old rows x) same t))
-        | inr high ↦ absurd (omega arith)
-      ]
-    ]);
-  }
-    where
-      early : (i : ℕ) → i < dim → darts_in (lists ++ darts ∷ []) i ≡ darts_in lists i
-      early i low = list-before lists darts i (omega (arith, a.size))
-
-      last : (i : ℕ) → i ≡ dim → darts_in (lists ++ darts ∷ []) i ≡ darts
-      last i same = list-at lists darts i (omega (arith, a.size, same))
-
-      none : (i x : ℕ) → dim < i → Contains (darts_in (lists ++ darts ∷ []) i) x → ⊥
-      none i x high here =
-          let past : darts_in (lists ++ darts ∷ []) i ≡ [] = list-past lists darts i (omega (arith, a.size)) in
-          let nothing : Contains [] x = subst (λ ds. Contains ds x) past here in
-          let lt : nothing.0 < 0 = nothing.1 in omega arith
+abbrev pub AreTouchedBelow : Kind → ℕ → Edit → Rows → List (Option Rule) → ℕ → List (List ℕ) → Type 0
+AreTouchedBelow k n e rows rules = AreListedBelow (λ i. IsLive rows) (IsTouchedIn k n e rows rules)

@@ -67,7 +67,6 @@ fn ruled_darts<K: Kind, const DIM: usize>(
 /// The darts that an edit touched in a dimension: those that lived before and from which some word of the dimension's cells leads
 /// elsewhere than before. Some may stand there more than once. A dart that was born is in the cell of such a dart, or in a
 /// cell of born darts alone, which has no value.
-#[inline(never)]
 fn touched_in<K: Kind, const DIM: usize>(
     alloc: Global,
     links: &Links<K, DIM>,

@@ -10,7 +10,7 @@ use Rattle.valued_map.proofs.touched.add_along_words.Goals as goal
 pub add_along-requires : goal.add_along-requires
 add_along-requires g c =
     let word = c.requires.words c.word-item.result (c.loop-word.word-index, c.loop-word-test.true, sym c.word-item.is) in
-    (lit< tt, (c.requires.low, (c.requires.sound, (c.requires.live, word))))
+    (lit< tt, (c.requires.low, (c.requires.sound, (c.requires.older, (c.requires.live, word)))))
 
 pub loop-word-init : goal.loop-word-init
 loop-word-init g c =

@@ -15,7 +15,7 @@ add_at_change-requires g c = (
     (
       c.dimension.ensures.sound,
       (
-        c.requires.births,
+        let births-is : c.edit.inside.births ≡ c.args.edit.now.births = ap (λ (e : Edit). e.births) c.edit.view_is in omega (arith, c.requires.births, c.made.ensures.made, births-is),
         λ w here.
             (let has = (c.in_ok-words.ensures w).0 (subst (λ (ws : List LinkWord). Contains ws w) c.deref.ensures.value here) in subst (λ (d : ℕ). IsWithin d w) c.dimension.ensures.dimension has.1),
       ),
