@@ -1,4 +1,4 @@
-use Rattle.std.proofs.Common.{ℕ, ◌≡◌, List, Contains, Option, Some, None, refl, sym, subst}
+use Rattle.std.proofs.Common.{ℕ, ◌≡◌, List, Contains, Option, Some, None, sym, subst}
 use Rattle.std.specs.Prelude.{IfSome, IfNone}
 use Rattle.map_defs.specs.Rows.{links_of}
 use Rattle.map_defs.specs.Walks.{Walk, go, stop}
