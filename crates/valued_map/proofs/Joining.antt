@@ -1,9 +1,9 @@
 -- Edits that only join, and the darts from which a word leads to a dart with another id.
-use Rattle.std.proofs.Common.{ℕ, ◌≡◌, ◌≢◌, ◌⊎◌, ◌+◌, ◌<◌, ◌≤◌, List, [], ◌∷◌, ◌++◌, length, length-append, get_or, Contains, Option, Some, None, inl, inr, refl, sym, ap, subst, ◌∙◌, arith}
+use Rattle.std.proofs.Common.{ℕ, ◌≡◌, ◌≢◌, ◌⊎◌, ◌<◌, List, length, get_or, Contains, Option, Some, None, inl, inr, refl, sym, ap, ◌∙◌, arith}
 use Rattle.map_defs.specs.Kind.{Kind}
 use Rattle.map_defs.specs.Links.{Links}
 use Rattle.map_defs.specs.LinkWords.{LinkWord, through, through_second, IsWithin}
-use Rattle.map_defs.specs.Rows.{Rows, IsLive, IsSound, links_of, entry_of}
+use Rattle.map_defs.specs.Rows.{Rows, IsSound, links_of, entry_of}
 use Rattle.link_laws.proofs.RowFacts.{rows_dimension}
 use Rattle.valued_map.proofs.Rerouting.{word-within}
 use Rattle.map_defs.specs.Edits.{Change, Edit, IsLed}

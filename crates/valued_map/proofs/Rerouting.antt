@@ -1,9 +1,9 @@
 -- Which darts an edit touches in a dimension, by its changes.
-use Rattle.std.proofs.Common.{ℕ, zero, suc, ◌≡◌, ◌≢◌, ◌⊎◌, ◌+◌, ◌<◌, ◌≤◌, inl, inr, refl, sym, ap, subst, ◌∙◌, List, [], ◌∷◌, ◌++◌, length, length-append, get_or, take, Option, Some, None, Contains, IsSome, arith}
+use Rattle.std.proofs.Common.{ℕ, ◌≡◌, ◌≢◌, ◌⊎◌, ◌+◌, ◌<◌, ◌≤◌, inl, inr, refl, sym, ap, subst, ◌∙◌, List, length, get_or, take, Option, Some, None, Contains, IsSome, arith}
 use Rattle.std.specs.Prelude.{IfSome}
 use Rattle.std.proofs.lemmas.Bool.{cases_eq, cases_lt}
-use Rattle.std.proofs.lemmas.List.{get_or_default, get_or_past, get_or_append_left, get_or-append-add}
-use Rattle.map_defs.specs.Kind.{Kind, alpha, beta, inverse}
+use Rattle.std.proofs.lemmas.List.{get_or_default}
+use Rattle.map_defs.specs.Kind.{Kind, inverse}
 use Rattle.map_defs.specs.Links.{Links, HasDimension}
 use Rattle.map_defs.specs.LinkWords.{LinkWord, through, through_second, IsCellWord, IsWithin}
 use Rattle.map_defs.specs.Laws.{Laws}

@@ -1,4 +1,4 @@
-use Rattle.std.proofs.Common.{ℕ, ◌≡◌, ◌≢◌, ◌+◌, ◌++◌, List, [], ◌∷◌, Contains, IsTrue, lit<, subst, sym, ◌∙◌, take, take_all, ⊎_elim}
+use Rattle.std.proofs.Common.{ℕ, ◌++◌, List, [], ◌∷◌, Contains, IsTrue, lit<, subst, sym, ◌∙◌, take_all, ⊎_elim}
 use Rattle.std.proofs.lemmas.List.Elements.{Contains-append_left, Contains-push, Contains-push_cases}
 use Rattle.map_defs.specs.LinkWords.{LinkWord, IsWithin}
 use Rattle.valued_map.proofs.Joining.{leading-within}

@@ -1,8 +1,7 @@
-use Rattle.std.proofs.Common.{ℕ, ◌≡◌, ◌+◌, ◌<◌, ◌≤◌, List, Result, Ok, Err, Contains, IsSome, sym, subst, arith, inl, inr}
+use Rattle.std.proofs.Common.{ℕ, ◌≤◌, Result, Ok, Err, Contains, IsSome, subst, arith, inl, inr}
 use Rattle.std.specs.Prelude.{IfOk, None}
 use Rattle.std.proofs.lemmas.Bool.{cases_lt, false≢true}
 use Rattle.std.proofs.lemmas.List.{get_or_past}
-use Rattle.map_defs.specs.Rows.{Rows, links_of}
 use Rattle.store_defs.specs.Groups.{darts_in, rule_at}
 use Rattle.label_laws.proofs.Sparing.{rerouted-spare, joined-spare}
 use Rattle.valued_map.proofs.joined.changed_darts.Goals as goal

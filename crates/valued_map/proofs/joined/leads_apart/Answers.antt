@@ -1,9 +1,9 @@
-use Rattle.std.proofs.Common.{ℕ, ◌≡◌, ◌≢◌, ◌+◌, List, Contains, lit<, subst, sym, ◌∙◌, take, take_all, ⊎_elim}
+use Rattle.std.proofs.Common.{◌≢◌, List, Contains, lit<, subst, sym, ◌∙◌, take_all, ⊎_elim}
 use Rattle.std.proofs.lemmas.Bool.{false≢true}
 use Rattle.map_defs.specs.LinkWords.{LinkWord, through}
 use Rattle.map_defs.specs.Rows.{links_of}
 use Rattle.store_defs.specs.Labelings.{id_of}
-use Rattle.valued_map.proofs.Heads.{among-more, among-none}
+use Rattle.valued_map.proofs.Heads.{among-more}
 use Rattle.valued_map.proofs.joined.leads_apart.Goals as goal
 
 pub leads_to_another-requires : goal.leads_to_another-requires

@@ -1,6 +1,5 @@
-use Rattle.std.proofs.Common.{ℕ, ◌≡◌, ◌+◌, ◌≤◌, ◌<◌, lit<, sym, ap, subst, ◌∙◌}
-use Rattle.map_defs.specs.Kind.{inverse}
-use Rattle.map_defs.specs.Rows.{Rows, links_of, made}
+use Rattle.std.proofs.Common.{ℕ, ◌≡◌, ◌≤◌, ◌<◌, lit<, sym, ap, subst, ◌∙◌}
+use Rattle.map_defs.specs.Rows.{Rows, links_of}
 use Rattle.map_defs.specs.Edits.{IsLed}
 use Rattle.link_laws.proofs.Basics.{inverse_within}
 use Rattle.valued_map.proofs.Adding.{added-none}
