@@ -1,4 +1,4 @@
-ghost use Rattle.std.specs.Prelude.{◌≡◌, ◌≤◌, [], IfOk, OnOk};
+ghost use Rattle.std.specs.Prelude.{◌≡◌, ◌+◌, ◌*◌, ◌≤◌, [], IfOk, OnOk, vec_capacity};
 ghost use Rattle.map_defs.specs.Rows.{links_of};
 ghost use Rattle.cell_edit.specs.Writing.{Appends};
 ghost use Rattle.beta_edit.specs.Ways.{IsOneEntry, IsWayEntry};
@@ -15,7 +15,8 @@ pub(crate) fn room_for_ways(
     dim: usize,
 ) -> Result<Vec<Change>, AllocError>
     requires { dim ≤ 8 }
-    ensures { IfOk result (λ changes. changes.items ≡ []) }
+    ensures items { IfOk result (λ changes. changes.items ≡ []) }
+    ensures room { IfOk result (λ changes. darts * (2 * dim + 2) ≤ vec_capacity changes) }
 {
     Vec::with_capacity(alloc, darts.saturating_mul(2 * dim + 2))
 }

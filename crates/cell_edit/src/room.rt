@@ -1,4 +1,4 @@
-ghost use Rattle.std.specs.Prelude.{◌≡◌, ◌≤◌, [], IfOk};
+ghost use Rattle.std.specs.Prelude.{◌≡◌, ◌+◌, ◌*◌, ◌≤◌, [], IfOk, vec_capacity};
 
 use link_rows::Change;
 use std::alloc::{AllocError, Global};
@@ -7,7 +7,8 @@ use std::alloc::{AllocError, Global};
 /// link that leads to the dart.
 pub fn room_for_changes(alloc: Global, darts: usize, dim: usize) -> Result<Vec<Change>, AllocError>
     requires { dim ≤ 8 }
-    ensures { IfOk result (λ changes. changes.items ≡ []) }
+    ensures items { IfOk result (λ changes. changes.items ≡ []) }
+    ensures room { IfOk result (λ changes. darts * (dim + 2) ≤ vec_capacity changes) }
 {
     Vec::with_capacity(alloc, darts.saturating_mul(dim + 2))
 }
