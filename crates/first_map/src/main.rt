@@ -1,0 +1,120 @@
+//! A first map: two squares are glued along a side, one of them is cut in two, the darts are walked, and the cut is taken
+//! back. `docs/library.md` goes through it.
+#![tactic(auto)]
+
+ghost use Rattle.std.specs.Prelude.{◌≡◌, ◌↔◌, IsNone, IfSome, OnOk};
+ghost use Rattle.map_defs.specs.Rows.{links_of};
+
+use attr_rules::FirstCopy;
+use map_core::{Done, Map};
+use map_kind::{Beta, Dart, Refused, Value};
+use std::alloc::Global;
+use std::io;
+
+/// A combinatorial map of dimension 2, also known as half-edges. A dart is a side of a face that runs from one vertex to the
+/// next; link 1 leads to the next side of the face, and link 2 to the same side as the face behind it has it.
+type Surface = Map<'static, Beta, FirstCopy, 2>;
+
+fn main(rt: HostRuntime) -> anyhow::Result<()> {
+    let alloc = rt.alloc();
+    let mut surface = Surface::new(alloc, &FirstCopy);
+    glue_squares(alloc, &mut surface)?;
+    set_areas(alloc, &mut surface)?;
+    print_surface(&rt, alloc, &surface)?;
+    show_refusal(&rt, alloc, &mut surface)?;
+    show_cut(&rt, alloc, &mut surface)?;
+    print_surface(&rt, alloc, &surface)
+}
+
+/// Two squares, of darts 1 to 4 and 5 to 8, become one surface: side 1 is glued to side 5.
+fn glue_squares(alloc: Global, surface: &mut Surface) -> Result<(), Refused> {
+    let left = surface.polygon(alloc, 4)?;
+    let right = surface.polygon(alloc, 4)?;
+    surface.sew(alloc, 2, u64::from(left.first), u64::from(right.first))?;
+    Ok(())
+}
+
+/// Gives each face an area. The rule says what becomes of it: where faces join, areas add up, and where a face is cut,
+/// its area is dealt out to the pieces.
+fn set_areas(alloc: Global, surface: &mut Surface) -> Result<(), Refused> {
+    surface.rule(alloc, 2, "sum", "share")?;
+    surface.set(alloc, 2, 1, Value { a: 7, b: 0, c: 0 })?;
+    surface.set(alloc, 2, 5, Value { a: 4, b: 0, c: 0 })?;
+    Ok(())
+}
+
+/// Asks for what cannot be: dart 1 is not free at link 2 any more. A refusal says why, and changes nothing.
+fn show_refusal(rt: &impl Print, alloc: Global, surface: &mut Surface) -> io::Result<()> {
+    match surface.sew(alloc, 2, 1, 3) {
+        Ok(_) => println!(rt; "sewn"),
+        Err(refused) => println!(rt; "refused: {refused}"),
+    }
+}
+
+/// Cuts the left square, shows what stands then, and goes back to the mark. All is as it was.
+fn show_cut(rt: &impl Print, alloc: Global, surface: &mut Surface) -> anyhow::Result<()>
+    ensures { OnOk result (surface.new.state.present ≡ surface.old.state.present) }
+{
+    surface.mark("whole")?;
+    let edge = cut_left(alloc, surface)?;
+    print_surface(rt, alloc, surface)?;
+    print_vertex(rt, alloc, surface, u64::from(edge.first))?;
+    surface.undo(alloc, "whole")?;
+    Ok(())
+}
+
+/// Cuts the left square across: a new vertex on side 1 and on side 3, and an edge between the two. It answers the darts of
+/// the edge. Marks stay as they are.
+fn cut_left(alloc: Global, surface: &mut Surface) -> Result<Done, Refused>
+    ensures { surface.new.state.marks ≡ surface.old.state.marks }
+{
+    let begin = surface.vertex(alloc, 1)?;
+    let end = surface.vertex(alloc, 3)?;
+    surface.edge(alloc, u64::from(begin.first), u64::from(end.first))
+}
+
+/// The next side of a face: the dart at link 1 of a dart, and none exactly where that link is free.
+fn next_side(surface: &Surface, dart: Dart) -> Option<Dart>
+    ensures free { IsNone result ↔ (links_of surface.now.state.present.rows 1 dart ≡ 0) }
+    ensures next { IfSome result (λ next. next ≡ links_of surface.now.state.present.rows 1 dart) }
+{
+    surface.links().link(dart, 1)
+}
+
+/// Prints how many darts, vertices, edges, faces and connected parts there are, and each face at one of its darts.
+fn print_surface(rt: &impl Print, alloc: Global, surface: &Surface) -> anyhow::Result<()> {
+    println!(rt; "counts {:?}", surface.count(alloc)?.as_slice())?;
+    print_face(rt, alloc, surface, 1)?;
+    print_face(rt, alloc, surface, 3)?;
+    print_face(rt, alloc, surface, 5)
+}
+
+/// Prints the area of the face of a dart, and its sides as they follow one another.
+fn print_face(rt: &impl Print, alloc: Global, surface: &Surface, dart: u64) -> anyhow::Result<()> {
+    let darts = surface.cell(alloc, 2, dart)?;
+    let area = surface.value(2, dart)?.map_or(0, |value| value.a);
+    print!(rt; "face of {dart}: area {area}, sides")?;
+    let mut side = darts.first().copied();
+    for _ in 0..darts.len() {
+        let Some(dart) = side else { break };
+        print!(rt; " {}", dart.number())?;
+        side = next_side(surface, dart);
+    }
+    println!(rt; "")?;
+    Ok(())
+}
+
+/// Prints the darts that begin at the vertex of a dart, each with its previous and its next side, and the side behind it.
+fn print_vertex(rt: &impl Print, alloc: Global, surface: &Surface, dart: u64) -> anyhow::Result<()> {
+    let links = surface.links();
+    for dart in surface.cell(alloc, 0, dart)? {
+        println!(rt;
+            "dart {}: previous {}, next {}, behind {}",
+            dart.number(),
+            links.number_at(dart, 0),
+            links.number_at(dart, 1),
+            links.number_at(dart, 2)
+        )?;
+    }
+    Ok(())
+}
