@@ -232,7 +232,8 @@ def insertion():
 # The rows of the house, from above. A crate stands on crates of rows below, or of its own.
 ROWS = [
     ("code", [
-        ("program", ["cellmap", "map_run", "script_text", "map_rows", "map_calls"]),
+        ("example, tests", ["first_map", "map_rows", "map_calls"]),
+        ("program", ["cellmap", "map_run", "script_text"]),
         ("the map", ["map_core", "valued_map", "undo_journal", "mesh_build"]),
         ("plans", ["kind_edit", "alpha_edit", "beta_edit", "cell_edit", "sewing", "dual_map"]),
         ("values", ["transport", "attr_pool", "attr_rules"]),
@@ -278,8 +279,6 @@ def layers():
                 if wide:
                     picture.text((x + (step - 7) / 2, y + 35), WORDS[crate], 10.5, "#55606c")
                 x += step
-            if name == "program":
-                picture.text((x + 4, y + 19), "(tests)", 12, "#55606c", "start")
             y += 34
         top += height + 14
     picture.write("layers.svg")

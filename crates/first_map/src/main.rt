@@ -11,8 +11,8 @@ use map_kind::{Beta, Dart, Refused, Value};
 use std::alloc::Global;
 use std::io;
 
-/// A combinatorial map of dimension 2, also known as half-edges. A dart is a side of a face that runs from one vertex to the
-/// next; link 1 leads to the next side of the face, and link 2 to the same side as the face behind it has it.
+/// A combinatorial map of dimension 2, also known as half-edges. A dart is a side of a face and begins at a vertex. Link 1
+/// leads to the next side of the face, link 0 to the one before, and link 2 to the same edge as a side of the face behind.
 type Surface = Map<'static, Beta, FirstCopy, 2>;
 
 fn main(rt: HostRuntime) -> anyhow::Result<()> {
@@ -26,7 +26,7 @@ fn main(rt: HostRuntime) -> anyhow::Result<()> {
     print_surface(&rt, alloc, &surface)
 }
 
-/// Two squares, of darts 1 to 4 and 5 to 8, become one surface: side 1 is glued to side 5.
+/// Makes two squares, of darts 1 to 4 and 5 to 8, and glues side 1 to side 5.
 fn glue_squares(alloc: Global, surface: &mut Surface) -> Result<(), Refused> {
     let left = surface.polygon(alloc, 4)?;
     let right = surface.polygon(alloc, 4)?;
@@ -34,8 +34,8 @@ fn glue_squares(alloc: Global, surface: &mut Surface) -> Result<(), Refused> {
     Ok(())
 }
 
-/// Gives each face an area. The rule says what becomes of it: where faces join, areas add up, and where a face is cut,
-/// its area is dealt out to the pieces.
+/// Gives each face an area. The rule says what becomes of areas: where faces join they add up, and where a face is cut its
+/// area is dealt out to the pieces.
 fn set_areas(alloc: Global, surface: &mut Surface) -> Result<(), Refused> {
     surface.rule(alloc, 2, "sum", "share")?;
     surface.set(alloc, 2, 1, Value { a: 7, b: 0, c: 0 })?;
@@ -43,7 +43,7 @@ fn set_areas(alloc: Global, surface: &mut Surface) -> Result<(), Refused> {
     Ok(())
 }
 
-/// Asks for what cannot be: dart 1 is not free at link 2 any more. A refusal says why, and changes nothing.
+/// Asks for what cannot be: dart 1 is glued at link 2 already.
 fn show_refusal(rt: &impl Print, alloc: Global, surface: &mut Surface) -> io::Result<()> {
     match surface.sew(alloc, 2, 1, 3) {
         Ok(_) => println!(rt; "sewn"),
@@ -51,7 +51,8 @@ fn show_refusal(rt: &impl Print, alloc: Global, surface: &mut Surface) -> io::Re
     }
 }
 
-/// Cuts the left square, shows what stands then, and goes back to the mark. All is as it was.
+/// Sets a mark, cuts the left square, shows what stands then, and goes back to the mark. Where all of this went well,
+/// darts, links, values and rules are as they were.
 fn show_cut(rt: &impl Print, alloc: Global, surface: &mut Surface) -> anyhow::Result<()>
     ensures { OnOk result (surface.new.state.present ≡ surface.old.state.present) }
 {
@@ -63,8 +64,8 @@ fn show_cut(rt: &impl Print, alloc: Global, surface: &mut Surface) -> anyhow::Re
     Ok(())
 }
 
-/// Cuts the left square across: a new vertex on side 1 and on side 3, and an edge between the two. It answers the darts of
-/// the edge. Marks stay as they are.
+/// Cuts the left square across: puts a vertex on side 1 and one on side 3, and an edge between the two. It answers the
+/// darts of the edge. Marks stay as they are.
 fn cut_left(alloc: Global, surface: &mut Surface) -> Result<Done, Refused>
     ensures { surface.new.state.marks ≡ surface.old.state.marks }
 {
@@ -81,7 +82,7 @@ fn next_side(surface: &Surface, dart: Dart) -> Option<Dart>
     surface.links().link(dart, 1)
 }
 
-/// Prints how many darts, vertices, edges, faces and connected parts there are, and each face at one of its darts.
+/// Prints how many darts, vertices, edges, faces and components there are, and the faces of three darts.
 fn print_surface(rt: &impl Print, alloc: Global, surface: &Surface) -> anyhow::Result<()> {
     println!(rt; "counts {:?}", surface.count(alloc)?.as_slice())?;
     print_face(rt, alloc, surface, 1)?;
@@ -104,12 +105,17 @@ fn print_face(rt: &impl Print, alloc: Global, surface: &Surface, dart: u64) -> a
     Ok(())
 }
 
-/// Prints the darts that begin at the vertex of a dart, each with its previous and its next side, and the side behind it.
-fn print_vertex(rt: &impl Print, alloc: Global, surface: &Surface, dart: u64) -> anyhow::Result<()> {
+/// Prints the sides that begin at the vertex of a dart: each with the side before and the next one, and the side behind.
+fn print_vertex(
+    rt: &impl Print,
+    alloc: Global,
+    surface: &Surface,
+    dart: u64,
+) -> anyhow::Result<()> {
     let links = surface.links();
     for dart in surface.cell(alloc, 0, dart)? {
         println!(rt;
-            "dart {}: previous {}, next {}, behind {}",
+            "side {}: before {}, next {}, behind {}",
             dart.number(),
             links.number_at(dart, 0),
             links.number_at(dart, 1),
