@@ -236,8 +236,8 @@ ROWS = [
         ("program", ["cellmap", "map_run", "script_text"]),
         ("the map", ["map_core", "valued_map", "undo_journal", "mesh_build"]),
         ("plans", ["kind_edit", "alpha_edit", "beta_edit", "cell_edit", "sewing", "dual_map"]),
-        ("values", ["transport", "attr_pool", "attr_rules"]),
         ("text", ["list_text", "off_text", "text_lines", "text_words", "map_io"]),
+        ("values", ["transport", "attr_pool", "attr_rules"]),
         ("rows", ["cell_walk", "link_rows", "dart_arena", "map_kind"]),
     ]),
     ("laws", [

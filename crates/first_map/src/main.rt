@@ -7,15 +7,29 @@ ghost use Rattle.map_defs.specs.Rows.{links_of};
 
 use attr_rules::FirstCopy;
 use map_core::{Done, Map};
-use map_kind::{Beta, Dart, Refused, Value};
-use std::alloc::Global;
+use map_kind::{Beta, Dart, Refusal, Refused, Value};
+use std::alloc::{AllocError, Global};
 use std::io;
+use thiserror::Error;
+
+/// Why the program ends early.
+#[derive(Debug, Drop, Error)]
+enum Fault {
+    #[error("a change was refused: {0}")]
+    Change(#[from] Refused),
+    #[error("a question was refused: {0}")]
+    Question(#[from] Refusal),
+    #[error("out of memory")]
+    NoMemory(#[from] AllocError),
+    #[error("the text was not written: {0}")]
+    Text(#[from] io::Error),
+}
 
 /// A combinatorial map of dimension 2, also known as half-edges. A dart is a side of a face and begins at a vertex. Link 1
 /// leads to the next side of the face, link 0 to the one before, and link 2 to the same edge as a side of the face behind.
 type Surface = Map<'static, Beta, FirstCopy, 2>;
 
-fn main(rt: HostRuntime) -> anyhow::Result<()> {
+fn main(rt: HostRuntime) -> Result<(), Fault> {
     let alloc = rt.alloc();
     let mut surface = Surface::new(alloc, &FirstCopy);
     glue_squares(alloc, &mut surface)?;
@@ -53,7 +67,7 @@ fn show_refusal(rt: &impl Print, alloc: Global, surface: &mut Surface) -> io::Re
 
 /// Sets a mark, cuts the left square, shows what stands then, and goes back to the mark. Where all of this went well,
 /// darts, links, values and rules are as they were.
-fn show_cut(rt: &impl Print, alloc: Global, surface: &mut Surface) -> anyhow::Result<()>
+fn show_cut(rt: &impl Print, alloc: Global, surface: &mut Surface) -> Result<(), Fault>
     ensures { OnOk result (surface.new.state.present ≡ surface.old.state.present) }
 {
     surface.mark("whole")?;
@@ -83,7 +97,7 @@ fn next_side(surface: &Surface, dart: Dart) -> Option<Dart>
 }
 
 /// Prints how many darts, vertices, edges, faces and components there are, and the faces of three darts.
-fn print_surface(rt: &impl Print, alloc: Global, surface: &Surface) -> anyhow::Result<()> {
+fn print_surface(rt: &impl Print, alloc: Global, surface: &Surface) -> Result<(), Fault> {
     println!(rt; "counts {:?}", surface.count(alloc)?.as_slice())?;
     print_face(rt, alloc, surface, 1)?;
     print_face(rt, alloc, surface, 3)?;
@@ -91,7 +105,7 @@ fn print_surface(rt: &impl Print, alloc: Global, surface: &Surface) -> anyhow::R
 }
 
 /// Prints the area of the face of a dart, and its sides as they follow one another.
-fn print_face(rt: &impl Print, alloc: Global, surface: &Surface, dart: u64) -> anyhow::Result<()> {
+fn print_face(rt: &impl Print, alloc: Global, surface: &Surface, dart: u64) -> Result<(), Fault> {
     let darts = surface.cell(alloc, 2, dart)?;
     let area = surface.value(2, dart)?.map_or(0, |value| value.a);
     print!(rt; "face of {dart}: area {area}, sides")?;
@@ -106,12 +120,7 @@ fn print_face(rt: &impl Print, alloc: Global, surface: &Surface, dart: u64) -> a
 }
 
 /// Prints the sides that begin at the vertex of a dart: each with the side before and the next one, and the side behind.
-fn print_vertex(
-    rt: &impl Print,
-    alloc: Global,
-    surface: &Surface,
-    dart: u64,
-) -> anyhow::Result<()> {
+fn print_vertex(rt: &impl Print, alloc: Global, surface: &Surface, dart: u64) -> Result<(), Fault> {
     let links = surface.links();
     for dart in surface.cell(alloc, 0, dart)? {
         println!(rt;
