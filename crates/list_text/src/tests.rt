@@ -1,5 +1,6 @@
 //! What no clause says: that a listing is written where memory is there, and what its lines look like.
-use crate::{ListRow, ListValue, Listing, write_listing};
+use crate::{ListRow, ListRule, ListValue, Listing, MarkName, write_listing};
+use attr_rules::{Merge, Split, TableRule};
 use map_kind::{Dart, Place, Value};
 use std::alloc::{AllocError, Global};
 use std::test::Fail;
@@ -36,10 +37,20 @@ fn a_triangle_of_a_combinatorial_map(rt: HostRuntime) -> Result<(), Fail> {
             row(alloc, two, &[1, 3, 0])?,
             row(alloc, three, &[2, 1, 0])?,
         ]?,
+        rules: vec![in alloc;
+            ListRule {
+                dim: 2,
+                rule: TableRule {
+                    merge: Merge::Sum,
+                    split: Split::Share,
+                },
+            },
+        ]?,
         values: vec![in alloc;
             value(0, one, -5, 0, 7),
             value(2, one, 1, i64::MIN, i64::MAX),
         ]?,
+        marks: vec![in alloc; MarkName::new("begin"), MarkName::new("cut_1")]?,
     };
     assert_eq!(rt;
         write_listing(alloc, &listing)?.as_slice(),
@@ -47,8 +58,11 @@ fn a_triangle_of_a_combinatorial_map(rt: HostRuntime) -> Result<(), Fail> {
 1: 3 2 0
 2: 1 3 0
 3: 2 1 0
+rule 2 sum share
 val 0 1 -5 0 7
 val 2 1 1 -9223372036854775808 9223372036854775807
+mark begin
+mark cut_1
 end
 "
             .as_slice()
@@ -65,7 +79,9 @@ fn a_dart_of_a_generalized_map_of_dimension_seven(rt: HostRuntime) -> Result<(),
         dim: 7,
         made: 4_194_304,
         rows: vec![in alloc; row(alloc, last, &[0; 8])?]?,
+        rules: Vec::new(alloc),
         values: Vec::new(alloc),
+        marks: Vec::new(alloc),
     };
     assert_eq!(rt;
         write_listing(alloc, &listing)?.as_slice(),
@@ -86,7 +102,9 @@ fn an_empty_map(rt: HostRuntime) -> Result<(), Fail> {
         dim: 2,
         made: 0,
         rows: Vec::new(alloc),
+        rules: Vec::new(alloc),
         values: Vec::new(alloc),
+        marks: Vec::new(alloc),
     };
     assert_eq!(rt;
         write_listing(alloc, &listing)?.as_slice(),
