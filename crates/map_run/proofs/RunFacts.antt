@@ -11,7 +11,7 @@ use Rattle.map_defs.specs.Values.{Meaning}
 use Rattle.machine_defs.specs.State.{State}
 use Rattle.machine_defs.specs.Script.{lines_of}
 use Rattle.map_defs.specs.TextWords.{words_of}
-use Rattle.machine_defs.specs.Text.{Reply, Done, Truth, Darts, CellValue, Counts, Shown, Logged, Refused, reply_text, replies_text, is_refused, any_refused, ended, spaced, spaced_signed, header_text, row_text, value_text}
+use Rattle.machine_defs.specs.Text.{Reply, Done, Truth, Darts, CellValue, Counts, Shown, Logged, Refused, reply_text, replies_text, is_refused, any_refused, ended, spaced, spaced_signed, header_text, row_text, rule_text, value_text, mark_text}
 use Rattle.machine_defs.specs.LogText.{steps_text}
 use Rattle.map_defs.specs.Refusal.{number, name}
 use Rattle.machine_defs.specs.Machine.{Obeys, Run}
@@ -34,7 +34,7 @@ reply_ends (CellValue None) = inr (codes "value none", refl)
 reply_ends (CellValue (Some v)) = inr (codes "value" ++ spaced_signed v.a ++ spaced_signed v.b ++ spaced_signed v.c, refl)
 reply_ends (Counts counts) = inr (codes "count" ++ flat_map spaced counts, refl)
 reply_ends (Shown l) =
-    let front : List ℕ = header_text l ++ flat_map row_text l.rows ++ flat_map value_text l.values in
+    let front : List ℕ = header_text l ++ flat_map row_text l.rows ++ flat_map rule_text l.rules ++ flat_map value_text l.values ++ flat_map mark_text l.marks in
     inr (front ++ codes "end", sym (append_assoc front (codes "end") (10 ∷ [])))
 reply_ends (Logged steps) =
     let front : List ℕ = ended (codes "log" ++ spaced (length steps)) ++ steps_text 1 steps in
