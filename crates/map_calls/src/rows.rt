@@ -10,18 +10,18 @@ use std::test::Fail;
 
 const POINT: Value = Value { a: 1, b: 2, c: 3 };
 
-/// A triangle with a value.
+/// A triangle with a value, and a mark.
 #[rattlefmt::skip]
-const SMALL: [(Line, Wanted); 3] = [
+const SMALL: [(Line, Wanted); 4] = [
     (Line::Polygon { sides: 3 }, Wanted::Made { first: 1, count: 6 }),
     (Line::Rule { dim: 2, merge: "first", split: "copy" }, Wanted::Done),
     (Line::Set { dim: 2, dart: 1, value: POINT }, Wanted::Done),
+    (Line::Mark { name: Name::Small }, Wanted::Done),
 ];
 
-/// Within a mark a polygon with a value, of so many darts that their rows are used again once they end.
+/// Behind the mark a polygon with a value, of so many darts that their rows are used again once they end.
 #[rattlefmt::skip]
-const LARGE: [(Line, Wanted); 4] = [
-    (Line::Mark { name: Name::Small }, Wanted::Done),
+const LARGE: [(Line, Wanted); 3] = [
     (Line::Polygon { sides: 2_100 }, Wanted::Made { first: 7, count: 4_200 }),
     (Line::Set { dim: 2, dart: 7, value: POINT }, Wanted::Done),
     (Line::Mark { name: Name::Large }, Wanted::Done),
@@ -39,7 +39,7 @@ const AGAIN: [(Line, Wanted); 5] = [
 
 const BACK: [(Line, Wanted); 1] = [(Line::Undo { name: Name::Small }, Wanted::Done)];
 
-/// All darts, links and values, as a text.
+/// All darts, links, rules and values, and the names of the marks, as a text.
 fn whole(alloc: Global, map: &Map<'_, Alpha, FirstCopy, 2>) -> Result<String, AllocError> {
     let listing = map.listing(alloc)?;
     format!(in alloc; "{listing:?}")
