@@ -3,6 +3,7 @@ pub mod Difference
 pub mod Listing
 pub mod TextLines
 pub mod LogText
+pub mod OffText
 pub mod Text
 pub mod Marking
 pub mod Script

@@ -12,6 +12,7 @@ pub mod Refusal
 pub mod Polygon
 pub mod Off
 pub mod MeshMap
+pub mod OffOfMap
 pub mod Pairs
 pub mod Sewing
 pub mod Births
