@@ -31,7 +31,7 @@ next_round k L x = through L (round_word k) x
 -- From x the walk passes these darts, in this order, until it is at d. One that meets a free link is at 0, and stays there.
 pub data Passes (Next : ℕ → ℕ) (d : ℕ) : ℕ → List ℕ → Type 0 where
   there : Passes Next d d []
-  onward : {x : ℕ} {darts : List ℕ} → x ≢ d → Passes Next d (Next x) darts → Passes Next d x (x ∷ darts)
+  past : {x : ℕ} {darts : List ℕ} → x ≢ d → Passes Next d (Next x) darts → Passes Next d x (x ∷ darts)
 
 -- the darts on the way round from d, d first, until the walk is at d again
 abbrev pub IsRound : Kind → Links → ℕ → List ℕ → Type 0

@@ -2,3 +2,5 @@ pub mod Cuts
 pub mod Counted
 pub mod Corners
 pub mod Fitting
+mod Rounds
+mod CellPlaces

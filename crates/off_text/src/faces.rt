@@ -1,0 +1,66 @@
+//! Faces, by the places of 0-cells.
+ghost use Rattle.std.specs.Prelude.{ℕ, ◌≡◌, ◌+◌, ◌^◌, ◌<◌, ◌≤◌, ◌⊎◌, [], All, Contains, length, map, slice_index, slice_index_or, IfOk};
+ghost use Rattle.cell_walk.specs.CellLists.{lists_of};
+ghost use Rattle.off_text.specs.Meanings.{faces_view};
+ghost use Rattle.off_text.specs.MapViews.{IsPlaced};
+
+use map_kind::Dart;
+use std::alloc::{AllocError, Global};
+
+/// For each dart up to `made`, at the place of its number, the place of a cell in which it lies. At other numbers it is 0.
+pub(crate) fn place_cells(
+    alloc: Global,
+    made: u32,
+    cells: &[Vec<Dart>],
+) -> Result<Vec<u32>, AllocError>
+    requires few { length cells.now < 2 ^ 32 }
+    requires made { All (λ cell. All (λ d. d ≤ made) cell) (lists_of cells.now) }
+    ensures long { IfOk result (λ places. length places.items ≡ made + 1) }
+    ensures placed { IfOk result (λ places. (x : ℕ) → All (λ cell. Contains cell x → IsPlaced (lists_of cells.now) x (slice_index places.items x)) (lists_of cells.now)) }
+{
+    let mut places = vec![in alloc; 0; made as usize + 1]?;
+    for (place, cell) in cells.iter().enumerate() {
+        put_place(&mut places, cell, place as u32);
+    }
+    Ok(places)
+}
+
+/// Puts a place at the numbers of these darts.
+fn put_place(places: &mut [u32], darts: &[Dart], place: u32)
+    requires { All (λ d. d < length places.old) darts.now }
+    ensures long { length places.new ≡ length places.old }
+    ensures put { (x : ℕ) → Contains darts.now x → slice_index places.new x ≡ place }
+    ensures kept { (x : ℕ) → (slice_index places.new x ≡ place) ⊎ (slice_index places.new x ≡ slice_index places.old x) }
+{
+    for dart in darts {
+        places[dart.number() as usize] = place;
+    }
+}
+
+/// The faces along these ways round: for each the places of its darts.
+pub(crate) fn faces_of(
+    alloc: Global,
+    rounds: &[Vec<Dart>],
+    places: &[u32],
+) -> Result<Vec<Vec<u32>>, AllocError>
+    requires { All (λ round. All (λ d. d < length places.now) round) (lists_of rounds.now) }
+    ensures { IfOk result (λ faces. faces_view faces.items ≡ map (map (slice_index places.now)) (lists_of rounds.now)) }
+{
+    let mut faces = Vec::with_capacity(alloc, rounds.len())?;
+    for round in rounds {
+        faces.push(face_of(alloc, round, places)?)?;
+    }
+    Ok(faces)
+}
+
+/// The face along a way round.
+fn face_of(alloc: Global, round: &[Dart], places: &[u32]) -> Result<Vec<u32>, AllocError>
+    requires { All (λ d. d < length places.now) round.now }
+    ensures { IfOk result (λ corners. corners.items ≡ map (slice_index places.now) round.now) }
+{
+    let mut corners = Vec::with_capacity(alloc, round.len())?;
+    for dart in round {
+        corners.push(places[dart.number() as usize])?;
+    }
+    Ok(corners)
+}
