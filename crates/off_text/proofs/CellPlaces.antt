@@ -2,6 +2,7 @@
 use Rattle.std.proofs.Common.{◌≡◌, ◌≢◌, ◌⊎◌, ◌↔◌, inl, inr, ℕ, zero, suc, ◌+◌, ◌≤◌, ◌<◌, List, [], length, slice_index, slice_index_or, Option, Some, None, Contains, refl, sym, ap, ◌∙◌, subst, arith}
 use Rattle.std.specs.List.Sorted.{IsStrictlyIncreasing}
 use Rattle.std.proofs.lemmas.Bool.{cases_lt}
+use Rattle.std.proofs.lemmas.List.{get_or_default}
 use Rattle.map_defs.specs.Kind.{Kind}
 use Rattle.map_defs.specs.LinkWords.{through_second}
 use Rattle.map_defs.specs.Rows.{Rows, links_of, row_at, entry_of, IsLive, IsSound, made}
@@ -42,6 +43,9 @@ held_below lists x (suc m) = on (held_below lists x m) (told_held (slice_index_o
         last_or_below p low has (inl below) = none p below has
         last_or_below p low has (inr above) = let same : p ≡ m = omega arith in not_last (subst Held same has)
 
+same_place : (xs : List ℕ) (p m : ℕ) → p < length xs → slice_index_or xs p m ≡ m → slice_index xs p ≡ m
+same_place xs p m low is = get_or_default xs p 0 m low ∙ is
+
 -- each live dart lies in some list of the cells of the map
 pub listed : (k : Kind) (n : ℕ) (rows : Rows) (i : ℕ) (least : List ℕ) (lists : List (List ℕ)) → IsSound k n rows
     → ((d : ℕ) → Contains least d ↔ (IsLive rows d × NamesCell k (links_of rows) i d))
@@ -59,6 +63,3 @@ listed k n rows i least lists sound members are x live = go (held_below lists x 
             let back : InCell k (links_of rows) i m x = cell_turns k (links_of rows) (rows-nothing k n rows sound) sound.back i x m among in
             let named : slice_index least at.0 ≡ m = same_place least at.0 m at.1 at.2 in
             none at.0 (omega (arith, at.1, are.long)) ((are.members at.0 at.1 x).1 (subst (λ d. InCell k (links_of rows) i d x) (sym named) back))
-
-        same_place : (xs : List ℕ) (p m : ℕ) → p < length xs → slice_index_or xs p m ≡ m → slice_index xs p ≡ m
-        same_place xs p m low is = search rules

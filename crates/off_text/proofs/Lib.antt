@@ -4,3 +4,5 @@ pub mod Corners
 pub mod Fitting
 mod Rounds
 mod CellPlaces
+mod Refusing
+mod RoundLists

@@ -1,23 +1,29 @@
 -- Ways round 2-cells: from a dart there is one at most, it meets no free link, and its darts are live.
-use Rattle.std.proofs.Common.{◌≡◌, ◌≢◌, ℕ, ◌+◌, List, [], ◌∷◌, ◌++◌, All, refl, sym, ap, ◌∙◌, subst, append_assoc}
+use Rattle.std.proofs.Common.{◌≡◌, ◌≢◌, ℕ, ◌+◌, List, [], ◌∷◌, ◌++◌, ◌≤◌, All, refl, sym, ap, ap₂, ◌∙◌, subst, append_assoc, arith}
+use Rattle.std.proofs.lemmas.List.{append-nil}
 use Rattle.std.proofs.lemmas.List.Elements.{All-cons, All-nil}
 use Rattle.map_defs.specs.Kind.{Kind, alpha, beta}
 use Rattle.map_defs.specs.Links.{Links}
-use Rattle.map_defs.specs.LinkWords.{through}
+use Rattle.map_defs.specs.LinkWords.{through, IsWithin}
 use Rattle.map_defs.specs.Cells.{InOrbit, Leads, here, onward}
 use Rattle.map_defs.specs.OffOfMap.{round_word, next_round, Passes, there, past, IsRound, IsOpen}
 
-passes-one : (Next : ℕ → ℕ) (d x : ℕ) (one other : List ℕ) → Passes Next d x one → Passes Next d x other → one ≡ other
-passes-one Next d x one other there there = refl
-passes-one Next d x one other there (past apart q) = absurd (apart refl)
-passes-one Next d x one other (past apart p) there = absurd (apart refl)
-passes-one Next d x one other (past {darts = us} apart p) (past {darts = vs} distinct q) =
-    ap (λ (darts : List ℕ). x ∷ darts) (passes-one Next d (Next x) us vs p q)
+passes-one : (Next : ℕ → ℕ) (d x y : ℕ) (one other : List ℕ) → x ≡ y → Passes Next d x one → Passes Next d y other → one ≡ other
+passes-one Next d x y one other same there there = refl
+passes-one Next d x y one other same there (past apart q) = absurd (apart (sym same))
+passes-one Next d x y one other same (past apart p) there = absurd (apart same)
+passes-one Next d x y one other same (past {darts = us} apart p) (past {darts = vs} distinct q) =
+    ap₂ (◌∷◌) same (passes-one Next d (Next x) (Next y) us vs (ap Next same) p q)
 
 -- from a dart there is one way round at most
 pub round-one : (k : Kind) (L : Links) (d : ℕ) (one other : List ℕ) → IsRound k L d one → IsRound k L d other → one ≡ other
 round-one k L d one other p q =
-    p.2 ∙ ap (λ (darts : List ℕ). d ∷ darts) (passes-one (next_round k L) d (next_round k L d) p.0 q.0 p.1 q.1) ∙ sym q.2
+    p.2 ∙ ap (λ (darts : List ℕ). d ∷ darts) (passes-one (next_round k L) d (next_round k L d) (next_round k L d) p.0 q.0 refl p.1 q.1) ∙ sym q.2
+
+-- the links of the word are among those of every map
+pub round-within : (k : Kind) (n : ℕ) → 2 ≤ n → IsWithin n (round_word k)
+round-within alpha n low = (omega arith, omega arith)
+round-within beta n low = (omega arith, tt)
 
 pub next-nothing : (k : Kind) (L : Links) → ((i : ℕ) → L i 0 ≡ 0) → next_round k L 0 ≡ 0
 next-nothing alpha L nil = ap (L 1) (nil 0) ∙ nil 1
@@ -90,7 +96,7 @@ way-more k L d x y old new grown apart at dart way = record {
 
 pub way-round : (k : Kind) (L : Links) (d x : ℕ) (darts : List ℕ) → x ≡ d → IsOnTheWay k L d darts x → IsRound k L d darts
 way-round k L d x darts back way =
-    subst (IsRound k L d) (simp append_assoc) (way.on [] (subst (λ z. Passes (next_round k L) d z []) (sym back) there))
+    subst (IsRound k L d) (append-nil darts) (way.on [] (subst (λ z. Passes (next_round k L) d z []) (sym back) there))
 
 pub way-open : (k : Kind) (L : Links) (d x : ℕ) (darts : List ℕ) → next_round k L x ≡ 0 → IsOnTheWay k L d darts x → IsOpen k L d
 way-open k L d x darts none way = (x, way.reached, none)

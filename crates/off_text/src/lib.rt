@@ -5,6 +5,8 @@ mod cursor;
 mod faces;
 mod fault;
 mod line;
+#[cfg(test)]
+mod map_tests;
 mod mesh;
 mod number;
 mod of_map;

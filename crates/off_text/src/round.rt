@@ -21,6 +21,7 @@ pub(crate) fn rounds_of<K: Kind, const DIM: usize>(
         × AllZip (IsRound K.kind (links_of links.now.rows)) cells (lists_of rounds.items)) }
     ensures refused { IfErr result (λ refused. IfLine refused (λ why. (why ≡ machine.NotClosed) × HasOpenFace K.kind links.now.rows)) }
 {
+    links.see_sound();
     let cells = cells(alloc, links, 2)?;
     let mut rounds = Vec::with_capacity(alloc, cells.len())?;
     for first in &cells {
@@ -57,6 +58,7 @@ fn next_round<K: Kind, const DIM: usize>(
     ensures next { IfOk result (λ next. next ≡ next_round K.kind (links_of links.now.rows) dart) }
     ensures free { IfErr result (λ refusal. (refusal ≡ Refusal.NotClosed) × (next_round K.kind (links_of links.now.rows) dart ≡ 0)) }
 {
+    links.see_sound();
     follow(links, round_word::<K>(), dart).ok_or(Refusal::NotClosed)
 }
 

@@ -1,0 +1,34 @@
+use Rattle.std.proofs.Common.{rules, ◌≡◌, Contains, sym, subst, ap, arith}
+use Rattle.std.proofs.lemmas.List.{take_all}
+use Rattle.std.proofs.lemmas.List.Elements.{Contains-get_or}
+use Rattle.std.specs.List.{AllZip}
+use Rattle.map_defs.specs.Rows.{links_of}
+use Rattle.map_defs.specs.Refusal as machine
+use Rattle.map_defs.specs.OffOfMap.{IsRound, IsOpen, HasOpenFace}
+use Rattle.cell_walk.specs.CellLists.{lists_of}
+use Rattle.off_text.proofs.Refusing.{refused-again}
+use Rattle.off_text.proofs.RoundLists.{zip-more}
+use Rattle.off_text.proofs.round.rounds_of.Goals as goal
+
+pub loop-first-init : goal.loop-first-init
+loop-first-init g c = rw c.in_ok-rounds.ensures.items tt
+
+pub loop-first-preserved : goal.loop-first-preserved
+loop-first-preserved g c =
+    zip-more (IsRound g.K.Kind.kind (links_of c.args.links.now.rows)) c.in_ok-cells.cells.items c.loop-first.first-index c.first-item.result c.loop-first.rounds.items c.push.new.self.items c.in_ok-round_from.field-0
+    c.loop-first-test.true c.first-item.is c.in_ok-push.ensures.items c.loop-first.invariant c.in_ok-round_from.ensures.round
+
+pub returns-clause-rounds : goal.returns-clause-rounds
+returns-clause-rounds g c = (
+  c.in_ok-cells.cells.items,
+  record { members = c.in_ok-cells.ensures.members; ascending = c.in_ok-cells.ensures.ascending },
+  subst (λ cells. AllZip (IsRound g.K.Kind.kind (links_of c.args.links.now.rows)) cells (lists_of c.loop-first.rounds.items)) (take_all c.loop-first.first-index c.in_ok-cells.cells.items c.loop-first-test.false) c.loop-first.invariant,
+)
+
+pub returns-in_err-round_from-clause-refused : goal.returns-in_err-round_from-clause-refused
+returns-in_err-round_from-clause-refused g c =
+    let cell = (c.in_ok-cells.ensures.members c.first-item.result).0 (subst (λ x. Contains c.in_ok-cells.cells.items x) (sym c.first-item.is) (Contains-get_or c.in_ok-cells.cells.items c.loop-first.first-index c.first-item.result c.loop-first-test.true)) in
+    refused-again c.from_residual-in_err-round_from.result c.in_err-round_from.field-0.0
+    (λ why. (why ≡ machine.NotClosed) × IsOpen g.K.Kind.kind (links_of c.args.links.now.rows) c.first-item.result)
+    (λ why. (why ≡ machine.NotClosed) × HasOpenFace g.K.Kind.kind c.args.links.now.rows)
+    c.from_residual-in_err-round_from.ensures.1 (λ why known. (known.0, (c.first-item.result, cell, known.1))) c.in_err-round_from.ensures.refused
