@@ -6,3 +6,4 @@ mod Rounds
 mod CellPlaces
 mod Refusing
 mod RoundLists
+mod Placing
