@@ -1,6 +1,6 @@
 -- What OFF text tells of a map: its 0-cells as points, its 2-cells as faces. Source: the ASCII OFF format; the dart at which a
 -- face begins and the order of the cells are this project's.
-use Rattle.std.specs.Prelude.{ℕ, ◌≡◌, ◌≢◌, ◌<◌, ◌↔◌, List, [], ◌∷◌, length, Option, Some, None, slice_index, Contains}
+use Rattle.std.specs.Prelude.{ℕ, ◌≡◌, ◌≢◌, ◌<◌, ◌↔◌, ◌⊎◌, List, [], ◌∷◌, length, Option, Some, None, slice_index, Contains}
 use Rattle.std.specs.List.{AllZip}
 use Rattle.std.specs.List.Sorted.{IsStrictlyIncreasing}
 use Rattle.map_defs.specs.Kind.{Kind, alpha, beta}
@@ -87,9 +87,13 @@ LacksPoint k rows values = (d : ℕ) × IsCell k rows 0 d × (values d ≡ None)
 abbrev pub HasThinFace : Kind → Rows → Type 0
 HasThinFace k rows = (d : ℕ) × IsCell k rows 2 d × IsThin k (links_of rows) d
 
--- Why a map has no OFF text. Each reason is looked for in the whole map, and only where none before it was found.
-abbrev pub IsRefusedFor : Kind → Rows → (ℕ → Option Value) → Refusal → Type 0
-IsRefusedFor k rows values NotClosed = HasOpenFace k rows
-IsRefusedFor k rows values NoPoint = (HasOpenFace k rows → ⊥) × LacksPoint k rows values
-IsRefusedFor k rows values ThinFace = (HasOpenFace k rows → ⊥) × (LacksPoint k rows values → ⊥) × HasThinFace k rows
-IsRefusedFor k rows values other = ⊥
+-- The map has OFF text: no 2-cell is open or thin, and each 0-cell has a point.
+abbrev pub HasOffText : Kind → Rows → (ℕ → Option Value) → Type 0
+HasOffText k rows values = (HasOpenFace k rows → ⊥) × (LacksPoint k rows values → ⊥) × (HasThinFace k rows → ⊥)
+
+-- Why a map has none. Each reason is looked for in the whole map, and only where none before it was found.
+abbrev pub LacksOffText : Kind → Rows → (ℕ → Option Value) → Refusal → Type 0
+LacksOffText k rows values why =
+    ((why ≡ NotClosed) × HasOpenFace k rows)
+    ⊎ ((why ≡ NoPoint) × (HasOpenFace k rows → ⊥) × LacksPoint k rows values)
+    ⊎ ((why ≡ ThinFace) × (HasOpenFace k rows → ⊥) × (LacksPoint k rows values → ⊥) × HasThinFace k rows)

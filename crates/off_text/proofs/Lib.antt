@@ -7,3 +7,7 @@ mod CellPlaces
 mod Refusing
 mod RoundLists
 mod Placing
+mod Putting
+mod Zips
+mod OffFacts
+mod Gathered

@@ -16,7 +16,7 @@ pub(crate) fn place_cells(
     requires few { length cells.now < 2 ^ 32 }
     requires made { All (λ cell. All (λ d. d ≤ made) cell) (lists_of cells.now) }
     ensures long { IfOk result (λ places. length places.items ≡ made + 1) }
-    ensures placed { IfOk result (λ places. (x : ℕ) → All (λ cell. Contains cell x → IsPlaced (lists_of cells.now) x (slice_index places.items x)) (lists_of cells.now)) }
+    ensures placed { IfOk result (λ places. (x p : ℕ) → IsPlaced (lists_of cells.now) x p → IsPlaced (lists_of cells.now) x (slice_index places.items x)) }
 {
     let mut places = vec![in alloc; 0; made as usize + 1]?;
     for (place, cell) in cells.iter().enumerate() {
@@ -26,11 +26,11 @@ pub(crate) fn place_cells(
 }
 
 /// Puts a place at the numbers of these darts.
-fn put_place(places: &mut [u32], darts: &[Dart], place: u32)
-    requires { All (λ d. d < length places.old) darts.now }
-    ensures long { length places.new ≡ length places.old }
-    ensures put { (x : ℕ) → Contains darts.now x → slice_index places.new x ≡ place }
-    ensures kept { (x : ℕ) → (slice_index places.new x ≡ place) ⊎ (slice_index places.new x ≡ slice_index places.old x) }
+fn put_place(places: &mut Vec<u32>, darts: &[Dart], place: u32)
+    requires { All (λ d. d < length places.old.items) darts.now }
+    ensures long { length places.new.items ≡ length places.old.items }
+    ensures put { (x : ℕ) → Contains darts.now x → slice_index places.new.items x ≡ place }
+    ensures kept { (x : ℕ) → Contains darts.now x ⊎ (slice_index places.new.items x ≡ slice_index places.old.items x) }
 {
     for dart in darts {
         places[dart.number() as usize] = place;

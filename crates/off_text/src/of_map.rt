@@ -1,7 +1,6 @@
-ghost use Rattle.std.specs.Prelude.{ℕ, ◌≡◌, IfOk, IfErr, OnOk, map};
+ghost use Rattle.std.specs.Prelude.{IfOk, IfErr, OnOk, map};
 ghost use Rattle.std.specs.List.Sorted.{IsStrictlyIncreasing};
-ghost use Rattle.map_defs.specs.Refusal.{Refusal};
-ghost use Rattle.map_defs.specs.OffOfMap.{AreOffRows, IsRefusedFor};
+ghost use Rattle.map_defs.specs.OffOfMap.{AreOffRows, HasOffText, LacksOffText};
 ghost use Rattle.off_text.specs.MapViews.{placed, off_view, IfLine};
 
 use crate::faces::{faces_of, place_cells};
@@ -45,9 +44,10 @@ pub fn off_of<K: Kind, const DIM: usize>(
     ensures rows { IfOk result (λ off. AreOffRows K.kind links.now.rows (placed places.now) (off_view off)) }
 
     // It is answered exactly where there is no reason to refuse it, and else refused for the first.
-    ensures answered { OnOk result ((why : Refusal) → IsRefusedFor K.kind links.now.rows (placed places.now) why → ⊥) }
-    ensures refused { IfErr result (λ refused. IfLine refused (IsRefusedFor K.kind links.now.rows (placed places.now))) }
+    ensures answered { OnOk result (HasOffText K.kind links.now.rows (placed places.now)) }
+    ensures refused { IfErr result (λ refused. IfLine refused (LacksOffText K.kind links.now.rows (placed places.now))) }
 {
+    links.see_sound();
     let rounds = rounds_of(alloc, links)?;
     let vertices = cell_lists(alloc, links, 0)?;
     let points = points_of(alloc, &vertices.least, places)?;

@@ -1,0 +1,42 @@
+use Rattle.std.proofs.Common.{rules, ◌≡◌, ℕ, List, [], ◌∷◌, ◌++◌, Vec, length, map, codes, refl, ap, ap₂, sym, ◌∙◌, subst, append_assoc}
+use Rattle.std.specs.List.{concat, flat_map}
+use Rattle.std.specs.declared.alloc.Global.{Global}
+use Rattle.std.proofs.lemmas.List.{append-nil}
+use Rattle.std.proofs.lemmas.Iterator.{YieldsList-from_slice, YieldsList-from_map_by}
+use Rattle.std.proofs.lemmas.Iterator.Consumers.{YieldsList-from_chain, YieldsList-at}
+use Rattle.std.proofs.lemmas.Iterator.Adapters.{YieldsList-from_once}
+use Rattle.map_defs.specs.Values.{Value}
+use Rattle.machine_defs.specs.TextLines.{ended}
+use Rattle.machine_defs.specs.OffText.{off_counts_text, off_point_text, off_face_text, off_text}
+use Rattle.text_lines.specs.Writing.{WritesText}
+use Rattle.text_lines.proofs.LineTexts.{YieldsList-seen, concat-append, concat-map}
+use Rattle.off_text.specs.Meanings.{faces_view}
+use Rattle.off_text.specs.OffLines.{line_text}
+use Rattle.off_text.proofs.write.put_off.Goals as goal
+
+face_text : Vec ℕ Global → List ℕ
+face_text face = off_face_text face.items
+
+faces-joined : (faces : List (Vec ℕ Global)) → concat (map face_text faces) ≡ flat_map off_face_text (faces_view faces)
+unfolding face_text
+faces-joined [] = refl
+faces-joined (face ∷ faces) = ap (λ (t : List ℕ). off_face_text face.items ++ t) (faces-joined faces)
+
+-- the text, from its lines
+joined : (points : List Value) (faces : List (Vec ℕ Global)) (edges : ℕ)
+    → concat ((((ended (codes "OFF") ∷ []) ++ off_counts_text (length points) (length faces) edges ∷ []) ++ map off_point_text points) ++ map face_text faces)
+    ≡ ended (codes "OFF") ++ off_counts_text (length points) (length faces) edges ++ flat_map off_point_text points ++ flat_map off_face_text (faces_view faces)
+joined points faces edges =
+    let first : List (List ℕ) = ended (codes "OFF") ∷ [] in
+    let counts : List (List ℕ) = off_counts_text (length points) (length faces) edges ∷ [] in
+    concat-append ((first ++ counts) ++ map off_point_text points) (map face_text faces)
+    ∙ ap₂ ◌++◌
+    (concat-append (first ++ counts) (map off_point_text points)
+    ∙ ap₂ ◌++◌
+    (concat-append first counts ∙ ap₂ ◌++◌ (append-nil (ended (codes "OFF"))) (append-nil (off_counts_text (length points) (length faces) edges)))
+    (concat-map off_point_text points))
+    (faces-joined faces)
+
+pub returns-clause-written : goal.returns-clause-written
+unfolding face_text
+returns-clause-written g c = ?
