@@ -18,7 +18,7 @@ pub rows-nothing : (k : Kind) (n : ℕ) (rows : Rows) → IsSound k n rows → (
 rows-nothing k n rows sound i = ap (λ row. entry_of row i) sound.nothing
 
 -- the darts of a live dart's cell are live
-cell-live : (k : Kind) (n : ℕ) (rows : Rows) → IsSound k n rows → (i d x : ℕ) → IsLive rows d → InCell k (links_of rows) i d x → IsLive rows x
+pub cell-live : (k : Kind) (n : ℕ) (rows : Rows) → IsSound k n rows → (i d x : ℕ) → IsLive rows d → InCell k (links_of rows) i d x → IsLive rows x
 cell-live k n rows sound i d x live here = live
 cell-live k n rows sound i d x live (onward {x = u} {y = v} o s) = go s.0.first s.0.second s.2
   where

@@ -76,7 +76,7 @@ module _ (k : Kind) (n : ℕ) (rows : Rows) (sound : IsSound k n rows) where
       → ((x p : ℕ) → IsPlaced lists x p → IsPlaced lists x (slice_index places x)) → (x : ℕ) → IsLive rows x → LiesIn k (links_of rows) vertices x (slice_index places x)
   lies-in vertices lists places named are placed x live =
       let some = listed k n rows 0 vertices lists sound named.members are x live in
-      let own = placed x some.0 some.1 in
+      let own = placed x some.0 (some.1, some.2) in
       let within : slice_index places x < length vertices = omega (arith, own.0, are.long) in
       (within, (are.members (slice_index places x) within x).0 own.1)
 

@@ -7,12 +7,12 @@ use Rattle.std.proofs.lemmas.List.Elements.{All-cons, All-nil}
 pub zip-find : {A B : Type 0} (R : A → B → Type 0) (xs : List A) (ys : List B) (x : A) → AllZip R xs ys → Contains xs x → (y : B) × Contains ys y × R x y
 zip-find R [] ys x zip has = absurd (omega (arith, has.1))
 zip-find R (u ∷ xs) [] x zip has = absurd zip
-zip-find {A = A} {B = B} R (u ∷ xs) (v ∷ ys) x zip has = go has.0 has.1 has.2
+zip-find {A = A} {B = B} R (u ∷ xs) (v ∷ ys) x zip has = go (zip-find R xs ys x zip.1) has.0 has.1 has.2
   where
-    go : (k : ℕ) → k < length (u ∷ xs) → slice_index_or (u ∷ xs) k x ≡ x → (y : B) × Contains (v ∷ ys) y × R x y
-    go zero low is = (v, (0, omega arith, refl), subst (λ z. R z v) is zip.0)
-    go (suc k) low is =
-        let more = zip-find R xs ys x zip.1 (k, omega arith, is) in
+    go : (Contains xs x → (y : B) × Contains ys y × R x y) → (k : ℕ) → k < length (u ∷ xs) → slice_index_or (u ∷ xs) k x ≡ x → (y : B) × Contains (v ∷ ys) y × R x y
+    go later zero low is = (v, (0, omega arith, refl), subst (λ z. R z v) is zip.0)
+    go later (suc k) low is =
+        let more = later (k, omega arith, is) in
         let at = more.1 in
         (more.0, (suc at.0, omega (arith, at.1), at.2), more.2)
 
@@ -20,12 +20,12 @@ zip-find {A = A} {B = B} R (u ∷ xs) (v ∷ ys) x zip has = go has.0 has.1 has.
 pub zip-found : {A B : Type 0} (R : A → B → Type 0) (xs : List A) (ys : List B) (y : B) → AllZip R xs ys → Contains ys y → (x : A) × Contains xs x × R x y
 zip-found R xs [] y zip has = absurd (omega (arith, has.1))
 zip-found R [] (v ∷ ys) y zip has = absurd zip
-zip-found {A = A} {B = B} R (u ∷ xs) (v ∷ ys) y zip has = go has.0 has.1 has.2
+zip-found {A = A} {B = B} R (u ∷ xs) (v ∷ ys) y zip has = go (zip-found R xs ys y zip.1) has.0 has.1 has.2
   where
-    go : (k : ℕ) → k < length (v ∷ ys) → slice_index_or (v ∷ ys) k y ≡ y → (x : A) × Contains (u ∷ xs) x × R x y
-    go zero low is = (u, (0, omega arith, refl), subst (R u) is zip.0)
-    go (suc k) low is =
-        let more = zip-found R xs ys y zip.1 (k, omega arith, is) in
+    go : (Contains ys y → (x : A) × Contains xs x × R x y) → (k : ℕ) → k < length (v ∷ ys) → slice_index_or (v ∷ ys) k y ≡ y → (x : A) × Contains (u ∷ xs) x × R x y
+    go later zero low is = (u, (0, omega arith, refl), subst (R u) is zip.0)
+    go later (suc k) low is =
+        let more = later (k, omega arith, is) in
         let at = more.1 in
         (more.0, (suc at.0, omega (arith, at.1), at.2), more.2)
 

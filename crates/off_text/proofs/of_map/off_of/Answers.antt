@@ -22,7 +22,7 @@ returns-in_err-points-clause-refused g c =
     (λ why known. inr (inl (
       known.0,
       none-open g.K.Kind.kind g.row.DIM c.args.links.now.rows c.see_sound.ensures.sound r.0 (lists_of c.in_ok-rounds.rounds.items) r.1 r.2,
-      (known.1, (c.in_ok-vertices.ensures.members known.1).0 (subst (λ vertices. Contains vertices known.1) c.deref.ensures.value known.2), known.3),
+      (known.1.0, (c.in_ok-vertices.ensures.members known.1.0).0 (subst (λ vertices. Contains vertices known.1.0) c.deref.ensures.value known.1.1), known.1.2),
     )))
     c.in_err-points.ensures.refused
 
@@ -38,8 +38,8 @@ returns-in_err-refuse_thin-clause-refused g c =
       none-open g.K.Kind.kind g.row.DIM c.args.links.now.rows c.see_sound.ensures.sound r.0 (lists_of c.in_ok-rounds.rounds.items) r.1 r.2,
       none-lacks g.K.Kind.kind c.args.links.now.rows (placed c.args.places.now) c.in_ok-vertices.vertices.least.items c.in_ok-points.points.items named
       (subst (λ vertices. AllZip (λ d point. placed c.args.places.now d ≡ Some point) vertices c.in_ok-points.points.items) c.deref.ensures.value c.in_ok-points.ensures.points),
-      some-thin g.K.Kind.kind g.row.DIM c.args.links.now.rows c.see_sound.ensures.sound r.0 (lists_of c.in_ok-rounds.rounds.items) thin.1 r.1 r.2
-      (subst (λ (rounds : List (Vec ℕ Global)). Contains (lists_of rounds) thin.1) c.deref-2.ensures.value thin.2) thin.3,
+      some-thin g.K.Kind.kind g.row.DIM c.args.links.now.rows c.see_sound.ensures.sound r.0 (lists_of c.in_ok-rounds.rounds.items) thin.1.0 r.1 r.2
+      (subst (λ (rounds : List (Vec ℕ Global)). Contains (lists_of rounds) thin.1.0) c.deref-2.ensures.value thin.1.1) thin.1.2,
     )))
 
 pub place_cells-requires-clause-few : goal.place_cells-requires-clause-few
