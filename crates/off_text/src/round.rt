@@ -51,10 +51,7 @@ fn round_from<K: Kind, const DIM: usize>(
 }
 
 /// The dart behind a dart on the way round its 2-cell. It is refused as `NotClosed` where a link on the way is free.
-fn next_round<K: Kind, const DIM: usize>(
-    links: &Links<K, DIM>,
-    dart: Dart,
-) -> Result<Dart, Refusal>
+fn next_round<K: Kind, const DIM: usize>(links: &Links<K, DIM>, dart: Dart) -> Result<Dart, Refusal>
     ensures next { IfOk result (λ next. next ≡ next_round K.kind (links_of links.now.rows) dart) }
     ensures free { IfErr result (λ refusal. (refusal ≡ Refusal.NotClosed) × (next_round K.kind (links_of links.now.rows) dart ≡ 0)) }
 {

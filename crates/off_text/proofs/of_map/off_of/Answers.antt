@@ -37,9 +37,9 @@ returns-in_err-refuse_thin-clause-refused g c =
       ap meaning thin.0,
       none-open g.K.Kind.kind g.row.DIM c.args.links.now.rows c.see_sound.ensures.sound r.0 (lists_of c.in_ok-rounds.rounds.items) r.1 r.2,
       none-lacks g.K.Kind.kind c.args.links.now.rows (placed c.args.places.now) c.in_ok-vertices.vertices.least.items c.in_ok-points.points.items named
-      (subst (λ vertices. AllZip (λ d point. placed c.args.places.now d ≡ Some point) vertices c.in_ok-points.points.items) c.deref.ensures.value c.in_ok-points.ensures.points),
+          (subst (λ vertices. AllZip (λ d point. placed c.args.places.now d ≡ Some point) vertices c.in_ok-points.points.items) c.deref.ensures.value c.in_ok-points.ensures.points),
       some-thin g.K.Kind.kind g.row.DIM c.args.links.now.rows c.see_sound.ensures.sound r.0 (lists_of c.in_ok-rounds.rounds.items) thin.1.0 r.1 r.2
-      (subst (λ (rounds : List (Vec ℕ Global)). Contains (lists_of rounds) thin.1.0) c.deref-2.ensures.value thin.1.1) thin.1.2,
+          (subst (λ (rounds : List (Vec ℕ Global)). Contains (lists_of rounds) thin.1.0) c.deref-2.ensures.value thin.1.1) thin.1.2,
     )))
 
 pub place_cells-requires-clause-few : goal.place_cells-requires-clause-few
@@ -85,7 +85,7 @@ returns-clause-answered g c =
     let named : ListsCells g.K.Kind.kind c.args.links.now.rows 0 c.in_ok-vertices.vertices.least.items = record { members = c.in_ok-vertices.ensures.members; ascending = c.in_ok-vertices.ensures.ascending } in (
       none-open g.K.Kind.kind g.row.DIM c.args.links.now.rows c.see_sound.ensures.sound r.0 (lists_of c.in_ok-rounds.rounds.items) r.1 r.2,
       none-lacks g.K.Kind.kind c.args.links.now.rows (placed c.args.places.now) c.in_ok-vertices.vertices.least.items c.in_ok-points.points.items named
-      (subst (λ vertices. AllZip (λ d point. placed c.args.places.now d ≡ Some point) vertices c.in_ok-points.points.items) c.deref.ensures.value c.in_ok-points.ensures.points),
+          (subst (λ vertices. AllZip (λ d point. placed c.args.places.now d ≡ Some point) vertices c.in_ok-points.points.items) c.deref.ensures.value c.in_ok-points.ensures.points),
       none-thin g.K.Kind.kind g.row.DIM c.args.links.now.rows c.see_sound.ensures.sound r.0 (lists_of c.in_ok-rounds.rounds.items) r.1 r.2
-      (subst (λ (rounds : List (Vec ℕ Global)). All (λ round. 3 ≤ length round) (lists_of rounds)) c.deref-2.ensures.value c.in_ok-refuse_thin.ensures.thick),
+          (subst (λ (rounds : List (Vec ℕ Global)). All (λ round. 3 ≤ length round) (lists_of rounds)) c.deref-2.ensures.value c.in_ok-refuse_thin.ensures.thick),
     )
