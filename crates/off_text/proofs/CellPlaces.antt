@@ -1,12 +1,11 @@
 -- Lists of cells: each live dart lies in one of them.
-use Rattle.std.proofs.Common.{◌≡◌, ◌≢◌, ◌⊎◌, ◌↔◌, inl, inr, ℕ, zero, suc, ◌+◌, ◌≤◌, ◌<◌, List, [], length, slice_index, slice_index_or, Option, Some, None, Contains, refl, sym, ap, ◌∙◌, subst, arith}
-use Rattle.std.specs.List.Sorted.{IsStrictlyIncreasing}
+use Rattle.std.proofs.Common.{◌≡◌, ◌⊎◌, ◌↔◌, inl, inr, ℕ, zero, suc, ◌≤◌, ◌<◌, List, [], length, slice_index, slice_index_or, Option, Some, None, Contains, sym, ap, ◌∙◌, subst, arith}
 use Rattle.std.proofs.lemmas.Bool.{cases_lt}
 use Rattle.std.proofs.lemmas.List.{get_or_default}
 use Rattle.map_defs.specs.Kind.{Kind}
 use Rattle.map_defs.specs.LinkWords.{through_second}
-use Rattle.map_defs.specs.Rows.{Rows, links_of, row_at, entry_of, IsLive, IsSound, made}
-use Rattle.map_defs.specs.Cells.{InCell, NamesCell, InOrbit, Leads, here, onward}
+use Rattle.map_defs.specs.Rows.{Rows, links_of, entry_of, IsLive, IsSound}
+use Rattle.map_defs.specs.Cells.{InCell, NamesCell, Leads, here, onward}
 use Rattle.map_defs.specs.LinkWords.{IsCellWord}
 use Rattle.link_laws.proofs.Orbits.{orbit_trans}
 use Rattle.link_laws.proofs.CellTurns.{cell_turns}

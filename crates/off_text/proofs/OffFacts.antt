@@ -1,5 +1,5 @@
 -- From the ways round 2-cells, the lists of 0-cells and their points to the OFF rows of a map.
-use Rattle.std.proofs.Common.{◌≡◌, ◌≢◌, ◌⊎◌, ◌↔◌, inl, inr, ℕ, zero, suc, ◌+◌, ◌-◌, ◌≤◌, ◌<◌, List, [], ◌∷◌, length, map, get_or, slice_index, slice_index_or, is_some, Option, Some, None, All, Contains, refl, sym, ap, ◌∙◌, subst, arith}
+use Rattle.std.proofs.Common.{◌≡◌, ◌≢◌, ◌⊎◌, inl, inr, ℕ, zero, suc, ◌+◌, ◌≤◌, ◌<◌, List, [], length, map, get_or, slice_index, slice_index_or, is_some, Option, Some, None, All, Contains, refl, sym, ap, ◌∙◌, subst, arith}
 use Rattle.std.specs.List.{AllZip}
 use Rattle.std.specs.List.Sorted.{IsStrictlyIncreasing}
 use Rattle.std.proofs.lemmas.Bool.{cases_lt, false≢true}
@@ -7,9 +7,8 @@ use Rattle.std.proofs.lemmas.List.{get_or_past, get_or_default}
 use Rattle.std.proofs.lemmas.List.Elements.{Contains-get_or}
 use Rattle.map_defs.specs.Kind.{Kind}
 use Rattle.map_defs.specs.Rows.{Rows, links_of, row_at, IsLive, IsSound, made, made_max}
-use Rattle.map_defs.specs.Cells.{InCell, NamesCell}
 use Rattle.map_defs.specs.Values.{Value}
-use Rattle.map_defs.specs.OffOfMap.{OffRows, IsRound, IsOpen, IsThin, IsCell, ListsCells, LiesIn, IsFaceOf, AreOffRows, HasOpenFace, LacksPoint, HasThinFace}
+use Rattle.map_defs.specs.OffOfMap.{OffRows, IsRound, ListsCells, LiesIn, IsFaceOf, AreOffRows, HasOpenFace, LacksPoint, HasThinFace}
 use Rattle.cell_walk.specs.CellLists.{AreCellsOf}
 use Rattle.off_text.specs.MapViews.{IsPlaced}
 use Rattle.off_text.proofs.Rounds.{round-one, round-closed, round-all}

@@ -1,4 +1,4 @@
-use Rattle.std.proofs.Common.{rules, ◌<◌, All, length, map, slice_index, sym, subst, ap, ◌∙◌}
+use Rattle.std.proofs.Common.{◌<◌, All, length, map, slice_index, sym, subst, ap, ◌∙◌}
 use Rattle.off_text.proofs.RoundLists.{all-vectors, faces-more}
 use Rattle.off_text.proofs.faces.faces_of.Goals as goal
 

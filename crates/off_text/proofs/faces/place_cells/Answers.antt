@@ -1,7 +1,6 @@
-use Rattle.std.proofs.Common.{rules, ◌≤◌, ◌<◌, All, length, sym, subst, ap, ◌∙◌, arith}
+use Rattle.std.proofs.Common.{◌≤◌, All, sym, subst, ap, ◌∙◌, arith}
 use Rattle.std.proofs.lemmas.List.{length-map}
 use Rattle.cell_walk.specs.CellLists.{items_of, lists_of}
-use Rattle.off_text.specs.MapViews.{IsPlaced}
 use Rattle.off_text.proofs.RoundLists.{all-vectors, list-at}
 use Rattle.off_text.proofs.Putting.{placed-more}
 use Rattle.off_text.proofs.faces.place_cells.Goals as goal

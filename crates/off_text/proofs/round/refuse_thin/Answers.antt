@@ -1,4 +1,4 @@
-use Rattle.std.proofs.Common.{rules, ◌≤◌, All, length, vec_len, take, get_or, ap, subst, arith}
+use Rattle.std.proofs.Common.{◌≤◌, All, length, vec_len, subst, arith}
 use Rattle.std.proofs.lemmas.List.{take_all}
 use Rattle.std.proofs.lemmas.List.Elements.{All-more}
 use Rattle.off_text.proofs.RoundLists.{all-lists, all-long}

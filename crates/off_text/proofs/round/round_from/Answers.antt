@@ -1,11 +1,11 @@
-use Rattle.std.proofs.Common.{rules, ◌≡◌, ◌≢◌, ◌<◌, [], ◌∷◌, ◌++◌, refl, sym, ap, ◌∙◌, subst, arith}
+use Rattle.std.proofs.Common.{rules, ◌≡◌, ◌≢◌, ◌<◌, [], ◌∷◌, ◌++◌, ap, ◌∙◌, arith}
 use Rattle.map_defs.specs.Rows.{links_of}
 use Rattle.map_defs.specs.Refusal as machine
-use Rattle.map_defs.specs.OffOfMap.{IsOpen, next_round}
+use Rattle.map_defs.specs.OffOfMap.{IsOpen}
 use Rattle.map_defs.specs.Cells.{here}
 use Rattle.map_kind.specs.Refusals.{meaning}
 use Rattle.off_text.proofs.Refusing.{refused-line}
-use Rattle.off_text.proofs.Rounds.{way-begun, way-more, way-round, way-open}
+use Rattle.off_text.proofs.Rounds.{way-begun, way-more, way-round}
 use Rattle.off_text.proofs.round.round_from.Goals as goal
 
 pub returns-in_err-dart-clause-refused : goal.returns-in_err-dart-clause-refused
