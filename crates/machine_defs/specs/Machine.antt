@@ -6,6 +6,7 @@ use Rattle.map_defs.specs.Links.{Links}
 use Rattle.map_defs.specs.Rows.{made, made_max, IsLive, links_of}
 use Rattle.map_defs.specs.Cells.{InCell}
 use Rattle.map_defs.specs.Counts.{AreCounts}
+use Rattle.map_defs.specs.OffOfMap.{OffRows, AreOffRows, HasOpenFace, LacksPoint, HasThinFace}
 use Rattle.map_defs.specs.Pairs.{IsGood}
 use Rattle.map_defs.specs.Sewing.{SewnPairs, IsSewable, IsSewn, IsUnsewn}
 use Rattle.map_defs.specs.Edits.{free_row}
@@ -27,8 +28,8 @@ use Rattle.machine_defs.specs.Marking.{IsMark, HasMark, with_mark, back_to, sinc
 use Rattle.map_defs.specs.Refusal as why
 use Rattle.map_defs.specs.Refusal.{Refusal}
 use Rattle.machine_defs.specs.Listing.{ListValue, ListsValues, names_of, listing_with}
-use Rattle.machine_defs.specs.Text.{Reply, Done, Truth, Darts, CellValue, Counts, Shown, Logged, Refused}
-use Rattle.machine_defs.specs.Script.{Line, Polygon, Dart, Del, Sew, Unsew, Vertex, Edge, Face, Remove, Contract, Dual, Rule, Set, Clear, Mark, Undo, Log, Cell, Same, Free, Value, Removable, Contractible, Sewable, Count, Show, line_of}
+use Rattle.machine_defs.specs.Text.{Reply, Done, Truth, Darts, CellValue, Counts, Shown, Logged, Meshed, Refused}
+use Rattle.machine_defs.specs.Script.{Line, Polygon, Dart, Del, Sew, Unsew, Vertex, Edge, Face, Remove, Contract, Dual, Rule, Set, Clear, Mark, Undo, Log, Cell, Same, Free, Value, Removable, Contractible, Sewable, Off, Count, Show, line_of}
 use Rattle.map_defs.specs.TextWords.{words_of}
 
 -- a refusal with the condition under which a line fails by it, and that under which it passes
@@ -88,8 +89,7 @@ path_check c path = refuse_unless (All (IsLive c.rows) path) why.NoDart
 abbrev pub room_check : Content → (ℕ → Type 0) → Check
 room_check c K = refuse_if (IsTooMany c K) why.Full
 
--- The table of refusals: what each line is checked for, in ascending number. A line that the machine does not offer yet is
--- refused as one outside the grammar.
+-- The table of refusals: what each line is checked for, in ascending number.
 abbrev pub checks_on : Content → Line → List Check
 checks_on c (Polygon sides) = refuse_if ((sides < 3) ⊎ (65536 < sides)) why.BadCount ∷ full_if c (per_side c.kind * sides) ∷ []
 checks_on c Dart = full_if c 1 ∷ []
@@ -120,9 +120,12 @@ checks_on c (Free i d) = dimension_check c i ∷ live_check c d ∷ []
 checks_on c (Removable i d) = dimension_check c i ∷ live_check c d ∷ []
 checks_on c (Contractible i d) = dimension_check c i ∷ live_check c d ∷ []
 checks_on c (Sewable i d e) = link_check c i ∷ live_check c d ∷ live_check c e ∷ []
+checks_on c Off =
+    refuse_if (HasOpenFace c.kind c.rows) why.NotClosed ∷ refuse_if (LacksPoint c.kind c.rows (value_at c 0)) why.NoPoint
+    ∷ refuse_if (HasThinFace c.kind c.rows) why.ThinFace ∷ []
 checks_on c Count = []
 checks_on c Show = []
-checks_on c line = refuse_unless ⊥ why.Syntax ∷ []
+checks_on c line = []
 
 -- the table for all lines: those about marks look at the marks, the others at the present content
 abbrev pub checks : State → Line → List Check
@@ -204,11 +207,12 @@ Effect hook s (Free i d) = TellsWhether s (links_in s.present i d ≡ 0)
 Effect hook s (Removable i d) = TellsWhether s (IsRemovable s.present.kind (links_in s.present) i d)
 Effect hook s (Contractible i d) = TellsWhether s (IsContractible s.present.kind (links_in s.present) i d)
 Effect hook s (Sewable i d e) = TellsWhether s (IsSewable s.present.kind (links_in s.present) i d e)
+Effect hook s Off = λ reply new. (off : OffRows) × AreOffRows s.present.kind s.present.rows (value_at s.present 0) off
+    × (reply ≡ Meshed off) × (new ≡ s)
 Effect hook s Count = λ reply new. (counts : List ℕ) × AreCounts s.present.kind s.present.dim s.present.rows counts
     × (reply ≡ Counts counts) × (new ≡ s)
 Effect hook s Show = λ reply new. (values : List ListValue) × ListsValues s.present values
     × (reply ≡ Shown (listing_with s.present values (names_of s.marks))) × (new ≡ s)
-Effect hook s line = λ reply new. ⊥
 
 -- The first check that fails refuses the line and leaves the state as it was; a check is looked at only after those
 -- before it passed.

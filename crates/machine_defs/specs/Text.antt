@@ -7,13 +7,15 @@ use Rattle.map_defs.specs.Kind.{letter}
 use Rattle.map_defs.specs.Refusal.{Refusal, number, name}
 use Rattle.map_defs.specs.Values.{Value}
 use Rattle.map_defs.specs.RuleNames.{merge_name, split_name}
+use Rattle.map_defs.specs.OffOfMap.{OffRows}
 use Rattle.machine_defs.specs.Listing.{ListRow, ListRule, ListValue, Listing}
 use Rattle.machine_defs.specs.Difference.{Difference}
 use Rattle.machine_defs.specs.LogText.{log_text}
+use Rattle.machine_defs.specs.OffText.{off_text}
 
 -- One reply: a changing line's first new dart and how many were made, both 0 if none was; an answer to a question of yes
 -- or no; the darts of a cell, ascending; the value of a cell, or none; the counts of the map; a listing; the steps of a
--- log, oldest first; or a refusal.
+-- log, oldest first; the points and faces of the map; or a refusal.
 pub data Reply : Type 0 where
   Done : ℕ → ℕ → Reply
   Truth : Bool → Reply
@@ -22,6 +24,7 @@ pub data Reply : Type 0 where
   Counts : List ℕ → Reply
   Shown : Listing → Reply
   Logged : List Difference → Reply
+  Meshed : OffRows → Reply
   Refused : Refusal → Reply
 
 abbrev pub is_refused : Reply → Bool
@@ -32,6 +35,7 @@ is_refused (CellValue value) = false
 is_refused (Counts counts) = false
 is_refused (Shown listing) = false
 is_refused (Logged steps) = false
+is_refused (Meshed off) = false
 is_refused (Refused r) = true
 
 -- a listing's first line: its version, the kind's letter, the dimension, the darts made and the live ones
@@ -87,6 +91,7 @@ reply_text (CellValue value) = cell_value_text value
 reply_text (Counts counts) = numbers_text (codes "count") counts
 reply_text (Shown listing) = listing_text listing
 reply_text (Logged steps) = log_text steps
+reply_text (Meshed off) = off_text off
 reply_text (Refused r) = refusal_text r
 
 abbrev pub replies_text : List Reply → List ℕ

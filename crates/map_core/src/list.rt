@@ -1,14 +1,17 @@
-//! The listing of a map.
+//! The listing of a map, and its OFF text.
 ghost use Rattle.std.specs.Prelude.{◌≡◌, IfOk};
-ghost use Rattle.machine_defs.specs.Script.{Show};
+ghost use Rattle.machine_defs.specs.Script.{Off, Show};
 ghost use Rattle.machine_defs.specs.Machine.{Step};
-ghost use Rattle.machine_defs.specs.Text.{Shown};
+ghost use Rattle.machine_defs.specs.Text.{Meshed, Shown};
+ghost use Rattle.map_core.specs.Calls.{AnswersQuestion};
+ghost use Rattle.off_text.specs.MapViews.{off_view};
 ghost use Rattle.trail_laws.specs.Trails.{mark_names};
 
 use crate::map::Map;
 use attr_rules::Hook;
 use list_text::{Listing, MarkName};
-use map_kind::Kind;
+use map_kind::{Kind, Refused};
+use off_text::OffRows;
 use std::alloc::{AllocError, Global};
 use undo_journal::Journal;
 
@@ -21,6 +24,19 @@ impl<'h, K: Kind, H: Hook, const DIM: usize> Map<'h, K, H, DIM> {
     {
         let marks = list_marks(alloc, &self.journal)?;
         self.present.listing(alloc, marks)
+    }
+
+    /// What OFF text tells of the map, to be written by `off_text`: the value of each 0-cell as a point, and each 2-cell as a
+    /// face, cells by ascending least dart; and how many 1-cells there are. A face begins at the least dart of its cell and goes
+    /// on from each dart with link 0 and then link 1, in a combinatorial map with link 1 alone. It costs the size of the map
+    /// times a logarithm.
+    ///
+    /// Refused as `NotClosed` exactly where the way round a 2-cell meets a free link, then as `NoPoint` exactly where a 0-cell
+    /// has no value, and then as `ThinFace` exactly where the way round a 2-cell has fewer than three darts.
+    pub fn off_rows(&self, alloc: Global) -> Result<OffRows, Refused>
+        ensures { AnswersQuestion (H.meaning self.now.hook) self.now.state Off (λ off. Meshed (off_view off)) result }
+    {
+        self.present.off_rows(alloc)
     }
 }
 

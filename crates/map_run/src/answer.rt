@@ -4,25 +4,28 @@ ghost use Rattle.map_defs.specs.Values.{Meaning};
 ghost use Rattle.machine_defs.specs.State.{State};
 ghost use Rattle.machine_defs.specs.Script.{Line as MapLine};
 ghost use Rattle.machine_defs.specs.Machine.{Step};
-ghost use Rattle.machine_defs.specs.Text.{reply_text, Truth, Darts, CellValue, Counts, Logged, is_refused};
+ghost use Rattle.machine_defs.specs.Text.{reply_text, Truth, Darts, CellValue, Counts, Logged, Meshed, is_refused};
 ghost use Rattle.map_core.specs.Calls.{Does, AnswersQuestion, AnswersAtOnce};
 ghost use Rattle.map_io.specs.Cause.{HasCause};
+ghost use Rattle.off_text.specs.MapViews.{off_view};
 ghost use Rattle.text_lines.specs.Writing.{WritesText};
 ghost use Rattle.map_run.specs.Lines.{answer_meaning};
 
 use list_text::{Listing, put_listing};
 use map_io::{PutFault, Sink};
 use map_kind::{Dart, Done, Refusal, Refused, Value};
+use off_text::{OffRows, put_off};
 use script_text::{Reply, put_log};
 use std::alloc::{AllocError, Global};
 use text_lines::put_line_over;
 use undo_journal::Step as Changed;
 
-/// The answer to a line: a reply of one line, a listing, or the steps of a log, which are lent.
+/// The answer to a line: a reply of one line, a listing, the points and faces of a map, or the steps of a log, which are lent.
 #[derive(Drop)]
 pub enum Answer<'a> {
     Line(Reply),
     Listing(Listing),
+    Off(OffRows),
     Log(&'a [Changed]),
 }
 
@@ -33,7 +36,7 @@ impl<'a> Answer<'a> {
     {
         match self {
             Answer::Line(reply) => reply.is_refused(),
-            Answer::Listing(_) | Answer::Log(_) => false,
+            Answer::Listing(_) | Answer::Off(_) | Answer::Log(_) => false,
         }
     }
 
@@ -50,6 +53,7 @@ impl<'a> Answer<'a> {
         match self {
             Answer::Line(reply) => put_line_over(text, out, reply),
             Answer::Listing(listing) => put_listing(alloc, out, listing),
+            Answer::Off(rows) => put_off(alloc, out, rows),
             Answer::Log(steps) => put_log(alloc, out, steps),
         }
     }
@@ -113,6 +117,17 @@ pub fn counts<'a>(counts: Result<Vec<u64>, AllocError>) -> Result<Answer<'a>, Al
     ensures { (hook : Meaning) (s : State) (line : MapLine) → IfOk counts (λ found. Step hook s line (Counts found.items) s) → IfOk result (λ said. Step hook s line (answer_meaning said) s) }
 {
     Ok(Answer::Line(Reply::Count(counts?)))
+}
+
+/// What is said of the OFF text of a map.
+pub fn meshed<'a>(rows: Result<OffRows, Refused>) -> Result<Answer<'a>, AllocError>
+    ensures { (hook : Meaning) (s : State) (line : MapLine) → AnswersQuestion hook s line (λ off. Meshed (off_view off)) rows → IfOk result (λ said. Step hook s line (answer_meaning said) s) }
+{
+    match rows {
+        Ok(rows) => Ok(Answer::Off(rows)),
+        Err(Refused::Line(refusal)) => Ok(Answer::Line(Reply::No(refusal))),
+        Err(Refused::NoMemory) => Err(AllocError),
+    }
 }
 
 /// What is said of a log: the steps, as the map lends them.

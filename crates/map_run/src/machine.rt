@@ -8,11 +8,11 @@ ghost use Rattle.script_text.specs.Meanings.{change_meaning, question_meaning};
 ghost use Rattle.map_run.specs.Lines.{answer_meaning, IsTold};
 ghost use Rattle.map_run.specs.Writing.{AnswersLine, Says};
 
-use crate::answer::{Answer, cell_value, counts, darts, done, logged, told, truth};
+use crate::answer::{Answer, cell_value, counts, darts, done, logged, meshed, told, truth};
 use attr_rules::Hook;
 use map_core::{Done, Edits, Map};
 use map_io::{PutFault, Sink};
-use map_kind::{Refusal, Refused};
+use map_kind::Refused;
 use script_text::{Change, Line, Question, Reply, read_line};
 use std::alloc::{AllocError, Global};
 
@@ -106,7 +106,7 @@ fn ask<'a, K: Edits<DIM>, H: Hook, const DIM: usize>(
         Question::Removable(dim, dart) => truth(map.removable(alloc, *dim, *dart)),
         Question::Contractible(dim, dart) => truth(map.contractible(alloc, *dim, *dart)),
         Question::Sewable(link, one, other) => truth(map.sewable(alloc, *link, *one, *other)),
-        Question::Off => Ok(Answer::Line(Reply::No(Refusal::Syntax))),
+        Question::Off => meshed(map.off_rows(alloc)),
         Question::Count => counts(map.count(alloc)),
         Question::Show => Ok(Answer::Listing(map.listing(alloc)?)),
     }

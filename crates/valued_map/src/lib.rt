@@ -14,6 +14,7 @@ mod list;
 mod load;
 mod map;
 mod near;
+mod off;
 mod restore;
 mod rules;
 mod told;

@@ -114,7 +114,7 @@ pub(crate) fn list_values<K: Kind, const DIM: usize>(
 }
 
 /// Lists the cells of a dimension with a value. Without a rule it has none, and is not looked at.
-fn list_dimension<K: Kind, const DIM: usize>(
+pub(crate) fn list_dimension<K: Kind, const DIM: usize>(
     alloc: Global,
     links: &Links<K, DIM>,
     labels: &Labels<DIM>,

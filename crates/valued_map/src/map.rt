@@ -1,19 +1,23 @@
 //! The map with values, and what is read of it.
-ghost use Rattle.std.specs.Prelude.{◌≡◌, ◌+◌, ◌≤◌, List, IfOk};
+ghost use Rattle.std.specs.Prelude.{◌≡◌, ◌+◌, ◌≤◌, List, IfOk, IfErr, OnOk};
 ghost use Rattle.map_defs.specs.Laws.{Laws};
 ghost use Rattle.map_defs.specs.Rows.{IsSound, links_of, live_count};
 ghost use Rattle.machine_defs.specs.State.{empty_content, rule_at, value_at};
 ghost use Rattle.machine_defs.specs.Listing.{ListValue, ListsValues, listing_with};
 ghost use Rattle.machine_defs.specs.Kept.{IsLawfulContent};
+ghost use Rattle.map_defs.specs.OffOfMap.{AreOffRows, HasOffText, LacksOffText};
+ghost use Rattle.off_text.specs.MapViews.{off_view, IfLine};
 
 use crate::ids::stored_value;
 use crate::list::{list_rows, list_rules, list_values};
+use crate::off::points;
 use crate::rules::rule_of;
 use attr_pool::{Labels, Pool};
 use attr_rules::TableRule;
 use link_rows::Links;
 use list_text::{Listing, MarkName};
-use map_kind::{Dart, Kind, Value};
+use map_kind::{Dart, Kind, Refused, Value};
+use off_text::{OffRows, off_of};
 use std::alloc::{AllocError, Global};
 use std::marker::Model;
 use transport::RuleRow;
@@ -110,5 +114,21 @@ impl<K: Kind, const DIM: usize> ValuedMap<K, DIM> {
             values: list_values(alloc, &self.links, &self.labels, &self.pool, &self.rules)?,
             marks,
         })
+    }
+
+    /// What OFF text tells of the map: the value of each 0-cell as a point, and each 2-cell as a face, cells by ascending least
+    /// dart; and how many 1-cells there are. A face begins at the least dart of its cell.
+    ///
+    /// It is refused as `NotClosed` where the way round a 2-cell meets a free link, else as `NoPoint` where a 0-cell has no
+    /// value, and else as `ThinFace` where the way round a 2-cell has fewer than three darts; `NoMemory` may come any time. It
+    /// costs the size of the map times a logarithm.
+    pub fn off_rows(&self, alloc: Global) -> Result<OffRows, Refused>
+        ensures rows { IfOk result (λ off. AreOffRows K.kind self.now.content.rows (value_at self.now.content 0) (off_view off)) }
+        ensures answered { OnOk result (HasOffText K.kind self.now.content.rows (value_at self.now.content 0)) }
+        ensures refused { IfErr result (λ refused.
+            IfLine refused (LacksOffText K.kind self.now.content.rows (value_at self.now.content 0))) }
+    {
+        let places = points(alloc, &self.links, &self.labels, &self.pool, &self.rules)?;
+        off_of(alloc, &self.links, &places)
     }
 }
