@@ -51,7 +51,7 @@ decided s (says.Contractible i d) = (if-decided _, (unless-decided _, tt))
 decided s (says.Sewable i d e) = (if-decided _, (unless-decided _, (unless-decided _, tt)))
 decided s says.Count = tt
 decided s says.Show = tt
-decided s says.Off = (unless-decided _, tt)
+decided s says.Off = (if-decided _, (if-decided _, (if-decided _, tt)))
 
 pub judged_found : (s : State) (effect : Reply → State → Type 0) (list : List Check) → AreDecided list → (AllPass list → NotNot (Has effect)) → NotNot (Has (Judged s list effect))
 judged_found s effect [] d found never = found tt never

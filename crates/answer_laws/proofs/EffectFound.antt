@@ -18,7 +18,7 @@ use Rattle.machine_defs.specs.Marking.{IsMark, with_mark, back_to, since}
 use Rattle.machine_defs.specs.Listing.{names_of, listing_with}
 use Rattle.machine_defs.specs.Script as says
 use Rattle.machine_defs.specs.Script.{Line}
-use Rattle.machine_defs.specs.Text.{Reply, Done, Darts, CellValue, Counts, Shown, Logged}
+use Rattle.machine_defs.specs.Text.{Reply, Done, Darts, CellValue, Counts, Shown, Logged, Meshed}
 use Rattle.machine_defs.specs.Machine.{Effect, Gives, InsertsDarts, Values, checks, links_in, with_polygon, with_dart, with_rule}
 use Rattle.journal_laws.specs.Following.{AllFollow}
 use Rattle.machine_laws.specs.Tracing.{AreTraced}
@@ -30,6 +30,7 @@ use Rattle.machine_laws.proofs.Traced.{follow-rest}
 use Rattle.answer_laws.specs.Answering.{NotNot, AnswerNeeds}
 use Rattle.answer_laws.proofs.Checked.{Has}
 use Rattle.answer_laws.proofs.Questions.{tells_found, cell_found, counts_found, values_listed}
+use Rattle.answer_laws.proofs.OffFound.{off_found}
 use Rattle.answer_laws.proofs.DifferenceFound.{differences_found}
 use Rattle.answer_laws.proofs.ValuedFound.{valued_found}
 use Rattle.answer_laws.proofs.SewnFound.{sewn_found, unsewn_found}
@@ -115,4 +116,5 @@ module _ (hook : Meaning) (s : State) (kept : IsLawfulState s) where
   effect_found (says.Sewable i d e) needs p = tells_found s (IsSewable c.kind L i d e)
   effect_found says.Count needs p = λ never. counts_found c.kind c.dim c.rows (λ counts. never (Counts counts.0, s, (counts.0, counts.1, refl, refl)))
   effect_found says.Show needs p = λ never. values_listed c kept.present.places (λ listed. never (Shown (listing_with c listed.0 (names_of s.marks)), s, (listed.0, listed.1, refl, refl)))
-  effect_found says.Off needs p = absurd p.0
+  effect_found says.Off needs p = λ never. off_found c.kind c.rows (laws-of c kept.present) (value_at c 0) (p.0, p.1.0, p.1.1.0) (λ off.
+      never (Meshed off.0, s, (off.0, off.1, refl, refl)))

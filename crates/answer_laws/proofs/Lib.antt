@@ -5,6 +5,7 @@ pub mod CarriedFound
 pub mod RelinkedFound
 pub mod Checked
 pub mod Questions
+pub mod OffFound
 pub mod DifferenceFound
 pub mod LinksFound
 pub mod SewnFound

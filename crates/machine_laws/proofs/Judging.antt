@@ -88,7 +88,7 @@ ordered s (says.Log name) = (unless-apart _, tt, tt)
 ordered s (says.Value i d) = (if-apart _, (lit≤ tt, tt), (unless-apart _, tt, tt))
 ordered s (says.Removable i d) = (if-apart _, (lit≤ tt, tt), (unless-apart _, tt, tt))
 ordered s (says.Contractible i d) = (if-apart _, (lit≤ tt, tt), (unless-apart _, tt, tt))
-ordered s says.Off = (unless-apart _, tt, tt)
+ordered s says.Off = (if-apart _, (lit≤ tt, (lit≤ tt, tt)), (if-apart _, (lit≤ tt, tt), (if-apart _, tt, tt)))
 
 refused-is : (r q : Refusal) → Refused r ≡ Refused q → r ≡ q
 refused-is r q e = cc

@@ -13,6 +13,7 @@ pub mod Ended
 pub mod Begun
 pub mod Dualled
 pub mod Answers
+pub mod OffOne
 pub mod Followed
 pub mod Traced
 pub mod Outcomes

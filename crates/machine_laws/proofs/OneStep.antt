@@ -15,7 +15,7 @@ use Rattle.map_defs.specs.Sewing.{IsSewn, IsUnsewn}
 use Rattle.map_defs.specs.Refusal.{Refusal}
 use Rattle.map_defs.specs.RuleNames.{named_merge, named_split}
 use Rattle.map_defs.specs.Values.{Meaning, Value}
-use Rattle.machine_defs.specs.State.{State, Content, Mark, rule_at, with_born, without_dart, steps_to}
+use Rattle.machine_defs.specs.State.{State, Content, Mark, rule_at, value_at, with_born, without_dart, steps_to}
 use Rattle.machine_defs.specs.Script as says
 use Rattle.machine_defs.specs.Script.{Line}
 use Rattle.machine_defs.specs.Listing.{ListValue, names_of, listing_with}
@@ -24,7 +24,7 @@ use Rattle.machine_defs.specs.Marking.{since, back_to}
 use Rattle.map_defs.specs.Removal.{IsRemovable, IsRemoved}
 use Rattle.map_defs.specs.Contraction.{IsContractible, IsContracted}
 use Rattle.machine_defs.specs.Kept.{IsLawfulContent, IsLawfulState}
-use Rattle.machine_defs.specs.Text.{Reply, Done, Truth, Darts, Counts, Shown, Logged, Refused}
+use Rattle.machine_defs.specs.Text.{Reply, Done, Truth, Darts, Counts, Shown, Logged, Meshed, Refused}
 use Rattle.machine_defs.specs.Machine.{Step, Effect, Gives, TellsWhether, InsertsDarts, Values, AreFree, ArePaired, checks, links_in, with_polygon, with_dart}
 use Rattle.link_laws.proofs.Sewn.{sewing_keeps}
 use Rattle.link_laws.proofs.Unsewn.{unsewing_keeps}
@@ -53,6 +53,7 @@ use Rattle.machine_laws.proofs.Marked.{mark-one}
 use Rattle.machine_laws.proofs.Followed.{stays-follows, relinked-follows, born-follows}
 use Rattle.machine_laws.proofs.Outcomes.{Leads, to_same, to_next, to_marked, to_earlier, leads-kept, leads-traced}
 use Rattle.machine_laws.proofs.Answers.{truth-one, darts-one, counts-one}
+use Rattle.machine_laws.proofs.OffOne.{off-one}
 
 pub effect-refuses : (hook : Meaning) (s : State) (line : Line) (r : Refusal) (new : State) → Effect hook s line (Refused r) new → ⊥
 effect-refuses hook s (says.Polygon sides) r new e = let f = e.0 in cc
@@ -81,7 +82,7 @@ effect-refuses hook s (says.Log name) r new f = let g = f.3.2 in cc
 effect-refuses hook s (says.Value i d) r new f = let g = f.0 in cc
 effect-refuses hook s (says.Removable i d) r new f = let g = f.2 in cc
 effect-refuses hook s (says.Contractible i d) r new f = let g = f.2 in cc
-effect-refuses hook s says.Off r new f = f
+effect-refuses hook s says.Off r new f = let g = f.2 in cc
 
 -- A change of links by which no dart is born and those of Ended end: what sewing, unsewing, removal and contraction are.
 abbrev Changes : Meaning → State → (ℕ → Type 0) → (Links → Type 0) → Reply → State → Type 0
@@ -229,7 +230,8 @@ module _ (hook : Meaning) (s : State) where
       (e.3.2 ∙ ap Logged (differences-one (since s f.1) e.3.0 f.3.0 are f.3.1) ∙ sym f.3.2, e.3.3 ∙ sym f.3.3)
   effect-one (says.Removable i d) needs told p = tells-one s _
   effect-one (says.Contractible i d) needs told p = tells-one s _
-  effect-one says.Off needs told p = λ one other new new' e f. absurd e
+  effect-one says.Off needs told p = λ one other new new' e f.
+      (e.2 ∙ ap Meshed (off-one s.present.kind s.present.rows told (value_at s.present 0) e.0 f.0 e.1 f.1) ∙ sym f.2, e.3 ∙ sym f.3)
 
   effect-reply : (line : Line) → ReplyNeeds line s → AllPass (checks s line) → HasOneReply (Effect hook s line)
   effect-reply (says.Edge d e) told p = inserts-reply _ _
@@ -241,6 +243,7 @@ module _ (hook : Meaning) (s : State) where
 
   effect-state : (line : Line) → LineNeeds line s → AllPass (checks s line) → HasOneState (Effect hook s line)
   effect-state (says.Log name) needs p = λ one other new new' e f. e.3.3 ∙ sym f.3.3
+  effect-state says.Off needs p = λ one other new new' e f. e.3 ∙ sym f.3
   effect-state line needs p = λ one other new new' e f. (effect-one line needs tt p one other new new' e f).1
 
   pub step-reply : (line : Line) → ReplyNeeds line s → HasOneReply (Step hook s line)
@@ -284,6 +287,7 @@ module _ (hook : Meaning) (s : State) (kept : IsLawfulState s) where
 
   told-kept : (line : Line) → ReplyNeeds line s
   told-kept (says.Log name) = kept.marked.named
+  told-kept says.Off = laws
   told-kept line = tt
 
   -- every line leads to one state from a state that keeps what the machine's states keep
@@ -345,7 +349,7 @@ module _ (hook : Meaning) (s : State) (kept : IsLawfulState s) where
   effect-leads (says.Log name) p reply new e = to_same e.3.3
   effect-leads (says.Removable i d) p reply new f = to_same f.3
   effect-leads (says.Contractible i d) p reply new f = to_same f.3
-  effect-leads says.Off p reply new e = absurd e
+  effect-leads says.Off p reply new e = to_same e.3
 
   step-leads : (line : Line) (reply : Reply) (new : State) → Step hook s line reply new → Leads s new
   step-leads line reply new =

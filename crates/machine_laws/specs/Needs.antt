@@ -5,7 +5,7 @@ use Rattle.map_defs.specs.Rows.{IsLive}
 use Rattle.map_defs.specs.Laws.{Laws}
 use Rattle.machine_defs.specs.State.{Content, State}
 use Rattle.machine_defs.specs.Kept.{AreNamedApart}
-use Rattle.machine_defs.specs.Script.{Line, Edge, Face, Remove, Contract, Undo, Log}
+use Rattle.machine_defs.specs.Script.{Line, Edge, Face, Remove, Contract, Undo, Log, Off}
 use Rattle.machine_defs.specs.Machine.{links_in}
 
 -- the links obey the laws
@@ -27,7 +27,9 @@ LineNeeds (Contract i d) s = IsDartIfLive s.present d × HasLaws s.present
 LineNeeds (Undo name) s = AreNamedApart s.marks
 LineNeeds line s = Unit {0}
 
--- Where two marks have one name, a log may be told since either. No other line needs anything for its reply.
+-- Where two marks have one name, a log may be told since either. In a map that breaks the laws a dart may lie in two cells, and
+-- so be a corner at two points. No other line needs anything for its reply.
 abbrev pub ReplyNeeds : Line → State → Type 0
 ReplyNeeds (Log name) s = AreNamedApart s.marks
+ReplyNeeds Off s = HasLaws s.present
 ReplyNeeds line s = Unit {0}

@@ -24,4 +24,5 @@ pub mod Edited
 pub mod Revalued
 pub mod Dualled
 pub mod Loaded
+pub mod MeshPoints
 pub mod KindNames
