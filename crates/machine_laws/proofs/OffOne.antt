@@ -42,9 +42,9 @@ module _ (k : Kind) (rows : Rows) (laws : Laws k (links_of rows)) where
 
   -- two darts of one cell that name it are one
   names-one : (i d e x : ℕ) → NamesCell k L i d → NamesCell k L i e → InCell k L i d x → InCell k L i e x → d ≡ e
-  names-one i d e x names names' here there =
-      let low = names e (cell_trans k L i d x e here (cell_back k L laws i e x there)) in
-      let high = names' d (cell_trans k L i e x d there (cell_back k L laws i d x here)) in
+  names-one i d e x names names' in_one in_other =
+      let low = names e (cell_trans k L i d x e in_one (cell_back k L laws i e x in_other)) in
+      let high = names' d (cell_trans k L i e x d in_other (cell_back k L laws i d x in_one)) in
       omega (arith, low, high)
 
   module _ (vertices : List ℕ) (lists : ListsCells k rows 0 vertices) where
