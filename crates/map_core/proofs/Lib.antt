@@ -4,6 +4,7 @@ pub mod InsertingSteps
 pub mod RemovingSteps
 pub mod Stepped
 pub mod Marks
+pub mod MeshSteps
 pub mod GoingBack
 pub mod DualSteps
 pub mod Holdings

@@ -16,6 +16,8 @@ mod marks;
 #[cfg(test)]
 mod meshes;
 #[cfg(test)]
+mod off;
+#[cfg(test)]
 mod polygons;
 #[cfg(test)]
 mod removals;

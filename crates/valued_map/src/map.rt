@@ -123,10 +123,10 @@ impl<K: Kind, const DIM: usize> ValuedMap<K, DIM> {
     /// value, and else as `ThinFace` where the way round a 2-cell has fewer than three darts; `NoMemory` may come any time. It
     /// costs the size of the map times a logarithm.
     pub fn off_rows(&self, alloc: Global) -> Result<OffRows, Refused>
-        ensures rows { IfOk result (λ off. AreOffRows K.kind self.now.content.rows (value_at self.now.content 0) (off_view off)) }
-        ensures answered { OnOk result (HasOffText K.kind self.now.content.rows (value_at self.now.content 0)) }
+        ensures rows { IfOk result (λ off. AreOffRows self.now.content.kind self.now.content.rows (value_at self.now.content 0) (off_view off)) }
+        ensures answered { OnOk result (HasOffText self.now.content.kind self.now.content.rows (value_at self.now.content 0)) }
         ensures refused { IfErr result (λ refused.
-            IfLine refused (LacksOffText K.kind self.now.content.rows (value_at self.now.content 0))) }
+            IfLine refused (LacksOffText self.now.content.kind self.now.content.rows (value_at self.now.content 0))) }
     {
         let places = points(alloc, &self.links, &self.labels, &self.pool, &self.rules)?;
         off_of(alloc, &self.links, &places)
