@@ -1,5 +1,6 @@
 -- The points of a map: its 0-cells with values as places, and what they tell of its OFF text.
-use Rattle.std.proofs.Common.{◌≡◌, ◌≢◌, ◌⊎◌, inl, inr, ℕ, zero, suc, ◌+◌, ◌<◌, List, [], ◌∷◌, length, map, get_or, slice_index_or, Option, Some, None, Contains, refl, sym, ap, ◌∙◌, subst, arith}
+use Rattle.std.proofs.Common.{◌≡◌, ◌≢◌, ◌⊎◌, inl, inr, Result, Ok, Err, ℕ, zero, suc, ◌+◌, ◌<◌, List, [], ◌∷◌, length, map, get_or, slice_index_or, Option, Some, None, Contains, refl, sym, ap, ◌∙◌, subst, arith}
+use Rattle.std.specs.Prelude.{IfErr, IsErrAnd}
 use Rattle.std.specs.List.{AllZip}
 use Rattle.std.specs.List.Sorted.{IsStrictlyIncreasing}
 use Rattle.std.proofs.lemmas.Bool.{cases_eq}
@@ -135,3 +136,8 @@ module _ (k : Kind) (rows : Rows) (v w : ℕ → Option Value) (same : (d : ℕ)
   pub refused-alike : (refused : Refused) → IfLine refused (LacksOffText k rows v) → IfLine refused (LacksOffText k rows w)
   refused-alike (Line refusal) why = reason-alike (meaning refusal) why
   refused-alike NoMemory why = tt
+
+-- want of memory is no reason
+pub refused-memory : {Y : Type 0} (result : Result Y Refused) (Why : Refusal → Type 0) → IsErrAnd result (λ refused. refused ≡ NoMemory) → IfErr result (λ refused. IfLine refused Why)
+refused-memory (Ok x) Why is = absurd is
+refused-memory (Err refused) Why is = subst (λ r. IfLine r Why) (sym is) tt
