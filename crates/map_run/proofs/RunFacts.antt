@@ -1,5 +1,6 @@
 -- Runs that go on by one line, and what is written of them.
 use Rattle.std.proofs.Common.{◌≡◌, ℕ, ◌≤◌, List, [], ◌∷◌, ◌++◌, Option, Ok, Err, Bool, true, false, ◌||◌, ◌==◌, cond, codes, arith, refl, sym, ap, ◌∙◌, subst, append_assoc, inl, inr, Some, None, length}
+use Rattle.std.specs.Fmt.{decimal, signed_decimal}
 use Rattle.std.specs.List.{flat_map}
 use Rattle.std.proofs.lemmas.Grind.{flat_map-append}
 use Rattle.std.proofs.lemmas.List.{append-nil}
@@ -7,13 +8,15 @@ use Rattle.map_io.specs.declared.sink.PutFault.{PutFault}
 use Rattle.map_io.specs.declared.sink.PutFault.TheVariants.{Failed, NoMemory}
 use Rattle.map_io.specs.Cause.{HasCause}
 use Rattle.machine_defs.specs.Outside.{Appended, IsFront, Rose}
-use Rattle.map_defs.specs.Values.{Meaning}
+use Rattle.map_defs.specs.Values.{Meaning, Value}
 use Rattle.machine_defs.specs.State.{State}
 use Rattle.machine_defs.specs.Script.{lines_of}
 use Rattle.map_defs.specs.TextWords.{words_of}
-use Rattle.machine_defs.specs.Text.{Reply, Done, Truth, Darts, CellValue, Counts, Shown, Logged, Refused, reply_text, replies_text, is_refused, any_refused, ended, spaced, spaced_signed, header_text, row_text, rule_text, value_text, mark_text}
+use Rattle.machine_defs.specs.Text.{Reply, Done, Truth, Darts, CellValue, Counts, Shown, Logged, Meshed, Refused, reply_text, replies_text, is_refused, any_refused, ended, spaced, spaced_signed, header_text, row_text, rule_text, value_text, mark_text}
 use Rattle.machine_defs.specs.LogText.{steps_text}
+use Rattle.machine_defs.specs.OffText.{off_counts_text, off_point_text, off_face_text}
 use Rattle.map_defs.specs.Refusal.{number, name}
+use Rattle.map_defs.specs.OffOfMap.{OffRows}
 use Rattle.machine_defs.specs.Machine.{Obeys, Run}
 use Rattle.machine_defs.specs.Program.{EndsLine, Begins, run_status}
 use Rattle.map_run.specs.Writing.{IsAnswered, AnswersLine, IsFrontOfLine}
@@ -24,6 +27,22 @@ use Rattle.text_lines.proofs.WritingFacts.{Appended-nothing, Appended-then, Ends
 done_ends : (b : Bool) (text : List ℕ) → EndsLine (cond b (ended (codes "ok")) (ended text))
 done_ends true text = inr (codes "ok", refl)
 done_ends false text = inr (text, refl)
+
+-- texts that end with a line do so one after another
+each_ends : {A : Type 0} (text : A → List ℕ) → ((x : A) → EndsLine (text x)) → (xs : List A) → EndsLine (flat_map text xs)
+each_ends text ends [] = inl refl
+each_ends text ends (x ∷ xs) = EndsLine-then (text x) (flat_map text xs) (ends x) (each_ends text ends xs)
+
+off_ends : (off : OffRows) → EndsLine (reply_text (Meshed off))
+off_ends off =
+    let points : List ℕ = flat_map off_point_text off.points in
+    let faces : List ℕ = flat_map off_face_text off.faces in
+    let counts : List ℕ = off_counts_text (length off.points) (length off.faces) off.edges in
+    EndsLine-then (ended (codes "OFF")) (counts ++ points ++ faces) (inr (codes "OFF", refl))
+    (EndsLine-then counts (points ++ faces) (inr (decimal (length off.points) ++ spaced (length off.faces) ++ spaced off.edges, refl))
+    (EndsLine-then points faces
+    (each_ends off_point_text (λ (v : Value). inr (signed_decimal v.a ++ spaced_signed v.b ++ spaced_signed v.c, refl)) off.points)
+    (each_ends off_face_text (λ (corners : List ℕ). inr (decimal (length corners) ++ flat_map spaced corners, refl)) off.faces)))
 
 reply_ends : (reply : Reply) → EndsLine (reply_text reply)
 reply_ends (Done first count) = done_ends (count == 0) (codes "ok" ++ spaced first ++ spaced count)
@@ -39,6 +58,7 @@ reply_ends (Shown l) =
 reply_ends (Logged steps) =
     let front : List ℕ = ended (codes "log" ++ spaced (length steps)) ++ steps_text 1 steps in
     inr (front ++ codes "end", sym (append_assoc front (codes "end") (10 ∷ [])))
+reply_ends (Meshed off) = off_ends off
 reply_ends (Refused r) = inr (codes "no" ++ spaced (number r) ++ 32 ∷ name r, refl)
 
 pub replies_end : (replies : List Reply) → EndsLine (replies_text replies)
