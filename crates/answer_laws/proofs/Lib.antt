@@ -21,4 +21,5 @@ pub mod CutFound
 pub mod GrownFound
 pub mod EffectFound
 pub mod RunFound
+pub mod AuditFound
 pub mod ProgramFound

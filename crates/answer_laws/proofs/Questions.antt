@@ -7,10 +7,11 @@ use Rattle.std.proofs.lemmas.Bool.{cases_lt}
 use Rattle.std.proofs.lemmas.List.{get_or_append_left, get_or_push, length-append}
 use Rattle.std.proofs.lemmas.List.FromFn.{get_or-map-range_with_len, length-map-range_with_len}
 use Rattle.map_defs.specs.Kind.{Kind}
+use Rattle.map_defs.specs.Links.{Links}
 use Rattle.map_defs.specs.Laws.{Laws}
 use Rattle.map_defs.specs.Rows.{Rows, IsLive, links_of, live_count}
 use Rattle.map_defs.specs.Cells.{InCell, NamesCell, NamesComponent}
-use Rattle.map_defs.specs.Counts.{HasCount, AreCounts}
+use Rattle.map_defs.specs.Counts.{HasCount, AreCountsAmong, AreCounts}
 use Rattle.map_defs.specs.Values.{Value}
 use Rattle.map_defs.specs.Carry.{known}
 use Rattle.machine_defs.specs.State.{Content, State, value_at, HasPlaces}
@@ -42,13 +43,14 @@ cell_found k rows w i d live =
 pub count_found : (P : ℕ → Type 0) (top : ℕ) → ((x : ℕ) → P x → x < top) → NotNot ((count : ℕ) × HasCount P count)
 count_found P top bound never = ascending P top bound (λ found. never (length found.0, record { numbers = found.0; ascending = found.1; members = found.2; counted = refl }))
 
-module _ (k : Kind) (n : ℕ) (rows : Rows) where
+-- links among live darts, of which there are so many, below a bound
+module _ (k : Kind) (n : ℕ) (Live : ℕ → Type 0) (live : ℕ) (L : Links) (top : ℕ) (within : (x : ℕ) → Live x → x < top) where
   module _ (cells : ℕ → ℕ) (components : ℕ) where
     middle : List ℕ
     middle = map cells (range_with_len 0 (n + 1))
 
     counts : List ℕ
-    counts = live_count rows ∷ (middle ++ components ∷ [])
+    counts = live ∷ (middle ++ components ∷ [])
 
     long_middle : length middle ≡ n + 1
     unfolding middle
@@ -69,22 +71,25 @@ module _ (k : Kind) (n : ℕ) (rows : Rows) where
     unfolding counts
     at_last = let e : suc (n + 1) ≡ n + 2 = omega arith in ap (slice_index counts) (sym e) ∙ get_or_push middle components 0 (n + 1) long_middle
 
-    are_counts : ((i : ℕ) → i < n + 1 → HasCount (λ d. IsLive rows d × NamesCell k (links_of rows) i d) (cells i))
-        → HasCount (λ d. IsLive rows d × NamesComponent (links_of rows) d) components → AreCounts k n rows counts
+    are_counts : ((i : ℕ) → i < n + 1 → HasCount (λ d. Live d × NamesCell k L i d) (cells i))
+        → HasCount (λ d. Live d × NamesComponent L d) components → AreCountsAmong k n Live live L counts
     unfolding counts
     are_counts each all = record {
       long = long;
       darts = refl;
-      cells = λ i l. subst (HasCount (λ d. IsLive rows d × NamesCell k (links_of rows) i d)) (sym (at_cell i l)) (each i (omega arith));
-      components = subst (HasCount (λ d. IsLive rows d × NamesComponent (links_of rows) d)) (sym at_last) all;
+      cells = λ i l. subst (HasCount (λ d. Live d × NamesCell k L i d)) (sym (at_cell i l)) (each i (omega arith));
+      components = subst (HasCount (λ d. Live d × NamesComponent L d)) (sym at_last) all;
     }
 
-  pub counts_found : NotNot ((all : List ℕ) × AreCounts k n rows all)
-  counts_found never =
-      choose (λ i count. HasCount (λ d. IsLive rows d × NamesCell k (links_of rows) i d) count) 0 (n + 1)
-      (λ i l. count_found (λ d. IsLive rows d × NamesCell k (links_of rows) i d) (length rows) (λ x h. live-within rows x h.0))
-      (λ cells. count_found (λ d. IsLive rows d × NamesComponent (links_of rows) d) (length rows) (λ x h. live-within rows x h.0)
+  pub counts_among_found : NotNot ((all : List ℕ) × AreCountsAmong k n Live live L all)
+  counts_among_found never =
+      choose (λ i count. HasCount (λ d. Live d × NamesCell k L i d) count) 0 (n + 1)
+      (λ i l. count_found (λ d. Live d × NamesCell k L i d) top (λ x h. within x h.0))
+      (λ cells. count_found (λ d. Live d × NamesComponent L d) top (λ x h. within x h.0)
       (λ all. never (counts cells.0 all.0, are_counts cells.0 all.0 cells.1 all.1)))
+
+pub counts_found : (k : Kind) (n : ℕ) (rows : Rows) → NotNot ((all : List ℕ) × AreCounts k n rows all)
+counts_found k n rows = counts_among_found k n (IsLive rows) (live_count rows) (links_of rows) (length rows) (live-within rows)
 
 some-known : (o : Option Value) → IsSome o → o ≡ Some (known o)
 some-known None h = absurd (cc (h))

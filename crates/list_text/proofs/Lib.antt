@@ -1,1 +1,17 @@
 pub mod Gathered
+pub mod Cuts
+pub mod Sections
+pub mod Entries
+pub mod RowsRead
+pub mod RowsAt
+pub mod LawParts
+pub mod LinesRead
+pub mod Ranking
+pub mod RankSteps
+pub mod RankCounts
+pub mod Judged
+pub mod ValuesMeant
+pub mod Searched
+pub mod SpelledWords
+pub mod LinesAgain
+pub mod TextAgain

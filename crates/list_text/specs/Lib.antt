@@ -1,2 +1,8 @@
 pub mod Letters
 pub mod Lines
+pub mod Meanings
+pub mod Views
+pub mod Rows
+pub mod Judging
+pub mod Ranks
+pub mod Again

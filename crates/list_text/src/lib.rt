@@ -1,14 +1,36 @@
 //! Listings: the text that tells a whole map, its darts, links and values.
 #![tactic(auto)]
 
+mod again;
+mod cells;
+mod counts;
+#[cfg(test)]
+mod counts_tests;
+mod cursor;
+mod cut;
+mod fault;
+mod form;
+mod judge;
+mod laws;
 mod line;
+mod lines;
 mod listing;
 mod name;
+mod names;
+mod read;
+mod table;
 #[cfg(test)]
 mod tests;
+mod told;
+mod values;
+mod words;
 mod write;
 
+pub use again::written_again;
+pub use counts::listing_counts;
+pub use fault::{ListFault, ListWhat};
 pub use line::ListLine;
 pub use listing::{ListRow, ListRule, ListValue, Listing};
 pub use name::MarkName;
+pub use read::{LISTING_MAX, read_listing};
 pub use write::{put_listing, write_listing};

@@ -1,5 +1,10 @@
 //! What no clause says: that a listing is written where memory is there, and what its lines look like.
-use crate::{ListRow, ListRule, ListValue, Listing, MarkName, write_listing};
+ghost use Rattle.std.specs.Prelude.{◌≤◌, length};
+
+use crate::{
+    LISTING_MAX, ListFault, ListRow, ListRule, ListValue, ListWhat, Listing, MarkName,
+    read_listing, write_listing,
+};
 use attr_rules::{Merge, Split, TableRule};
 use map_kind::{Dart, Place, Value};
 use std::alloc::{AllocError, Global};
@@ -110,5 +115,99 @@ fn an_empty_map(rt: HostRuntime) -> Result<(), Fail> {
         write_listing(alloc, &listing)?.as_slice(),
         b"cellmap 2 g 2 0 0\nend\n".as_slice()
     );
+    Ok(())
+}
+
+/// What reading a text answers: the fault, or nothing where it is read.
+fn fault_of(alloc: Global, text: &[u8]) -> Option<(u32, ListWhat)>
+    requires { length text.now ≤ LISTING_MAX }
+{
+    match read_listing(alloc, text) {
+        Err(ListFault::Bad { line, what }) => Some((line, what)),
+        _ => None,
+    }
+}
+
+#[test]
+fn a_triangle_of_version_1(rt: HostRuntime) -> Result<(), Fail> {
+    let alloc = rt.alloc();
+    let text = b"cellmap 1 g 2 6 6
+1: 2 6 0
+2: 1 3 0
+3: 4 2 0
+4: 3 5 0
+5: 6 4 0
+6: 5 1 0
+val 0 1 1 1 1
+end
+";
+    let listing = read_listing(alloc, text)?;
+    assert_eq!(rt;
+        write_listing(alloc, &listing)?.as_slice(),
+        b"cellmap 2 g 2 6 6
+1: 2 6 0
+2: 1 3 0
+3: 4 2 0
+4: 3 5 0
+5: 6 4 0
+6: 5 1 0
+rule 0 first copy
+val 0 1 1 1 1
+end
+"
+            .as_slice()
+    );
+    Ok(())
+}
+
+#[test]
+fn a_triangle_of_version_2(rt: HostRuntime) -> Result<(), Fail> {
+    let alloc = rt.alloc();
+    let text = b"cellmap 2 c 2 5 3
+1: 5 3 0
+3: 1 5 0
+5: 3 1 0
+rule 1 first keep
+rule 2 sum share
+val 1 3 -1 0 1
+val 2 1 1 -9223372036854775808 9223372036854775807
+mark begin
+mark cut_1
+end
+";
+    let listing = read_listing(alloc, text)?;
+    assert_eq!(rt; write_listing(alloc, &listing)?.as_slice(), text.as_slice());
+    Ok(())
+}
+
+#[test]
+fn lines_without_the_form_of_their_place(rt: HostRuntime) -> Result<(), Fail> {
+    let alloc = rt.alloc();
+    // No memory is taken for the rows that are promised.
+    assert_eq!(rt;
+        fault_of(alloc, b"cellmap 2 g 2 4194304 4194304\nend\n"),
+        Some((2, ListWhat::Form))
+    );
+    assert_eq!(rt;
+        fault_of(alloc, b"cellmap 2 g 2 0 0\nend"),
+        Some((2, ListWhat::Form))
+    );
+    assert_eq!(rt;
+        fault_of(alloc, b"cellmap 2 g 2 0 0\nend\n\n"),
+        Some((3, ListWhat::Form))
+    );
+    Ok(())
+}
+
+#[test]
+fn the_other_faults(rt: HostRuntime) -> Result<(), Fail> {
+    let alloc = rt.alloc();
+    let twice = b"cellmap 2 g 2 2 2\n1: 0 0 0\n1: 0 0 0\nend\n";
+    assert_eq!(rt; fault_of(alloc, twice), Some((3, ListWhat::Order)));
+    let one_way = b"cellmap 2 g 2 2 2\n1: 0 0 0\n2: 1 0 0\nend\n";
+    assert_eq!(rt; fault_of(alloc, one_way), Some((3, ListWhat::Laws)));
+    let not_least =
+        b"cellmap 2 g 2 2 2\n1: 2 0 0\n2: 1 0 0\nrule 1 sum share\nval 1 2 0 0 0\nend\n";
+    assert_eq!(rt; fault_of(alloc, not_least), Some((5, ListWhat::Values)));
     Ok(())
 }

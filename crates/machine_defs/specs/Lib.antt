@@ -7,6 +7,9 @@ pub mod OffText
 pub mod Text
 pub mod Marking
 pub mod Script
+pub mod ListingLines
+pub mod ListingForm
+pub mod ListingFaults
 pub mod Relinking
 pub mod Valuing
 pub mod Kept
@@ -14,4 +17,5 @@ pub mod Loading
 pub mod Machine
 pub mod Outside
 pub mod Dualling
+pub mod Auditing
 pub mod Program

@@ -10,18 +10,22 @@ use Rattle.machine_defs.specs.Machine.{Run}
 use Rattle.map_defs.specs.Off.{mesh_of}
 use Rattle.machine_defs.specs.Loading.{IsLoaded, refusal_line}
 use Rattle.machine_defs.specs.Outside.{Files, held, IsFront}
+use Rattle.machine_defs.specs.Auditing.{AuditAnswer}
 
--- a command: run a script over a map of a kind and a dimension, the empty one or that of a mesh in a file
+-- a command: run a script over a map of a kind and a dimension, the empty one or that of a mesh in a file; or audit the
+-- listing in a file
 pub data Command : Type 0 where
   RunScript : Kind → ℕ → Option (List ℕ) → List ℕ → Command
+  Audit : List ℕ → Command
 
 -- the word for the empty map
 abbrev pub no_mesh : List ℕ
 no_mesh = codes "-"
 
--- the commands that the program offers: generalized and combinatorial maps of dimension 2, 3 or 4
+-- the commands that the program offers: scripts over maps of both kinds of dimension 2, 3 or 4, and audits
 abbrev pub IsOffered : Command → Type 0
 IsOffered (RunScript kind dim mesh script) = (2 ≤ dim) × (dim ≤ 4) × (mesh ≢ Some no_mesh)
+IsOffered (Audit listing) = Unit {0}
 
 abbrev pub mesh_word : Option (List ℕ) → List ℕ
 mesh_word None = no_mesh
@@ -30,6 +34,7 @@ mesh_word (Some name) = name
 -- the words of a command
 abbrev pub words_for : Command → List (List ℕ)
 words_for (RunScript kind dim mesh script) = codes "run" ∷ (letter kind ∷ []) ∷ decimal dim ∷ mesh_word mesh ∷ script ∷ []
+words_for (Audit listing) = codes "audit" ∷ listing ∷ []
 
 -- the words tell this command
 abbrev pub TellsCommand : List (List ℕ) → Command → Type 0
@@ -41,6 +46,7 @@ IsNoCommand words = (command : Command) → TellsCommand words command → ⊥
 -- the names of the files that a command needs
 abbrev pub IsNeededBy : Command → List ℕ → Type 0
 IsNeededBy (RunScript kind dim mesh script) name = (mesh ≡ Some name) ⊎ (name ≡ script)
+IsNeededBy (Audit listing) name = name ≡ listing
 
 abbrev pub NeedsFile : List (List ℕ) → List ℕ → Type 0
 NeedsFile words name = (command : Command) × TellsCommand words command × IsNeededBy command name
@@ -80,11 +86,12 @@ MeshAnswer hook kind dim mesh script text status =
     ((refusal_line kind (mesh_of mesh) ≡ Some text) × (status ≡ 3))
     ⊎ ((start : State) × IsLoaded kind dim mesh start × ScriptAnswer hook start script text status)
 
--- Both files are needed before the mesh is read.
+-- Both files of a script and its mesh are needed before the mesh is read.
 abbrev pub CommandAnswer : Meaning → Files → Command → List ℕ → ℕ → Type 0
 CommandAnswer hook files (RunScript kind dim None script) = FileAnswer (held files script) (ScriptAnswer hook (empty_state kind dim))
 CommandAnswer hook files (RunScript kind dim (Some name) script) =
     FileAnswer (held files name) (λ mesh. FileAnswer (held files script) (MeshAnswer hook kind dim mesh))
+CommandAnswer hook files (Audit listing) = FileAnswer (held files listing) AuditAnswer
 
 -- The program's whole text and its status.
 pub data ProgramAnswer (hook : Meaning) (words : List (List ℕ)) (files : Files) (text : List ℕ) (status : ℕ) : Type 0 where
@@ -110,9 +117,11 @@ abbrev pub StartsFrom : Files → Kind → ℕ → Option (List ℕ) → State �
 StartsFrom files kind dim None start = start ≡ empty_state kind dim
 StartsFrom files kind dim (Some name) start = (mesh : List ℕ) × IsFile files name mesh × IsLoaded kind dim mesh start
 
+-- The replies to a script begin so. An audit that has no whole text yet has written nothing.
 abbrev pub CommandBegins : Meaning → Files → Command → List ℕ → Type 0
 CommandBegins hook files (RunScript kind dim mesh script) front =
     (start : State) × (bytes : List ℕ) × StartsFrom files kind dim mesh start × IsFile files script bytes × Begins hook start (lines_of bytes) front
+CommandBegins hook files (Audit listing) front = front ≡ []
 
 -- The program's text begins so: as a front of a whole text, or as a front of what the machine answers to the first lines.
 pub data Starts (hook : Meaning) (words : List (List ℕ)) (files : Files) (front : List ℕ) : Type 0 where

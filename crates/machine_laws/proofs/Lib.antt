@@ -19,6 +19,7 @@ pub mod Traced
 pub mod Outcomes
 pub mod Logs
 pub mod Runs
+pub mod Audits
 pub mod Programs
 pub mod OneStep
 pub mod ListedTotals

@@ -12,7 +12,9 @@ use Rattle.machine_defs.specs.Machine.{Run}
 use Rattle.machine_defs.specs.Outside.{Files, held, IsFront}
 use Rattle.map_defs.specs.Off.{Mesh, mesh_of}
 use Rattle.machine_defs.specs.Loading.{IsLoaded, IsMeshContent, first_state, refusal_line}
-use Rattle.machine_defs.specs.Program.{Command, IsOffered, RunScript, TellsCommand, no_mesh, mesh_word, FileAnswer, ScriptAnswer, MeshAnswer, CommandAnswer, StartsFrom, ProgramAnswer, untold, told, Begins, Starts, whole, lines, file_limit, run_status}
+use Rattle.machine_defs.specs.Program.{Command, IsOffered, RunScript, Audit, TellsCommand, no_mesh, mesh_word, FileAnswer, ScriptAnswer, MeshAnswer, CommandAnswer, StartsFrom, ProgramAnswer, untold, told, Begins, Starts, whole, lines, file_limit, run_status}
+use Rattle.machine_defs.specs.Auditing.{AuditAnswer}
+use Rattle.machine_laws.proofs.Audits.{audit-one}
 use Rattle.machine_laws.proofs.Runs.{run-one, run-front}
 use Rattle.machine_laws.proofs.Begun.{empty-kept, first-kept}
 use Rattle.loading_laws.proofs.MeshOne.{mesh-content-one}
@@ -41,6 +43,9 @@ told-one words (RunScript k n mesh script) (RunScript k' n' mesh' script') t t' 
     let meshes : mesh ≡ mesh' = mesh-one mesh mesh' t.0.2 t'.0.2 (cc (same)) in
     let scripts : script ≡ script' = cc in
     cc
+told-one words (RunScript k n mesh script) (Audit listing) t t' = absurd (let same = ap length (sym t.1 ∙ t'.1) in omega arith)
+told-one words (Audit listing) (RunScript k n mesh script) t t' = absurd (let same = ap length (sym t.1 ∙ t'.1) in omega arith)
+told-one words (Audit listing) (Audit listing') t t' = let same = sym t.1 ∙ t'.1 in cc
 
 script-one : (hook : Meaning) (start : State) (script one other : List ℕ) (status status' : ℕ) → IsLawfulState start → ScriptAnswer hook start script one status → ScriptAnswer hook start script other status' → (one ≡ other) × (status ≡ status')
 script-one hook start script one other status status' kept a b =
@@ -87,6 +92,8 @@ command-one hook files (RunScript k n (Some name) script) one other status statu
     file-one (held files name) (λ mesh. FileAnswer (held files script) (MeshAnswer hook k n mesh)) one other status status'
     (λ mesh x y. file-one (held files script) (MeshAnswer hook k n mesh) one other status status'
     (λ bytes v w. mesh-answer-one hook k n mesh bytes one other status status' offered.0 v w) x y) a b
+command-one hook files (Audit listing) one other status status' offered a b =
+    file-one (held files listing) AuditAnswer one other status status' (λ bytes x y. audit-one bytes one other status status' x y) a b
 
 pub answer-one : (hook : Meaning) (words : List (List ℕ)) (files : Files) (one other : List ℕ) (status status' : ℕ) → ProgramAnswer hook words files one status → ProgramAnswer hook words files other status' → (one ≡ other) × (status ≡ status')
 answer-one hook words files one other status status' (untold n t s) (untold n' t' s') = (t ∙ sym t', s ∙ sym s')
@@ -132,3 +139,4 @@ front-one hook words files front text status (lines (RunScript k n mesh script) 
     front-of-all hook f.0 f.1 front text status (starts-kept files k n mesh f.0 tells.0.0 f.2) f.4
     (command-run hook files k n mesh script f.0 f.1 text status f.2 f.3.0 f.3.1
     (subst (λ (d : Command). CommandAnswer hook files d text status) (told-one words c' (RunScript k n mesh script) tells' tells) a))
+front-one hook words files front text status (lines (Audit listing) tells f) (told c' tells' a) = (text, rw f refl)

@@ -43,10 +43,10 @@ pub fn accepted_without_refusal()
 
 /// A line has one reply, and leads to one state where the state has what the line needs. An edge in a combinatorial map and
 /// a face in a generalized map need links that obey the laws; a cell that is removed or contracted needs them in both kinds,
-/// and that its dart, if it lives, is not 0; undo, and the reply of a log, need that no two marks have one name. No other
-/// line needs anything, and no other reply. Each state of a run has what all lines need. In a map that breaks the laws an
-/// edge or a face may leave a link of a new dart open, and a walk across the cell may go on for ever, so that nothing tells a
-/// link.
+/// and that its dart, if it lives, is not 0; undo, and the reply of a log, need that no two marks have one name; and the reply
+/// of `off` needs links that obey the laws. No other line needs anything, and no other reply. Each state of a run has what all
+/// lines need. In a map that breaks the laws an edge or a face may leave a link of a new dart open, and a walk across the cell
+/// may go on for ever, so that nothing tells a link; and a dart may lie in two 0-cells, and so be a corner at two points.
 pub fn one_step()
     ensures reply { (hook : Meaning) (s : State) (line : Line) (one other : Reply) (new new' : State)
         → ReplyNeeds line s → Step hook s line one new → Step hook s line other new' → one ≡ other }

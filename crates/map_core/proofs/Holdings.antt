@@ -10,7 +10,7 @@ use Rattle.trail_laws.specs.Trails.{Trail, empty_trail, standing_steps, steps_si
 use Rattle.trail_laws.specs.Trails as trails
 use Rattle.trail_laws.proofs.TrailFacts.{mark_within}
 use Rattle.trail_laws.specs.Told.{origin, contents_along, contents_of, past_of, IsTraced}
-use Rattle.trail_laws.proofs.Along.{along-push, along-front}
+use Rattle.trail_laws.proofs.Along.{along-push}
 use Rattle.trail_laws.proofs.Reading.{within, along-standing, past-and-now}
 use Rattle.trail_laws.proofs.Noting.{origin-noted}
 use Rattle.trail_laws.proofs.Marking.{origin-marked}

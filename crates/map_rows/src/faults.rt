@@ -71,10 +71,13 @@ impl Sink for Narrow {
 }
 
 /// Words that are no command: none, an unknown one, one too few, one too many, an unknown kind, dimensions below and above
-/// those offered, and a dimension with a leading zero.
-const NO_COMMANDS: [&[&str]; 8] = [
+/// those offered, and a dimension with a leading zero; an audit of nothing, and of two listings.
+const NO_COMMANDS: [&[&str]; 11] = [
     &[],
     &["fly"],
+    &["audit"],
+    &["audits", "x"],
+    &["audit", "x", "x"],
     &["run", "g", "2", "-"],
     &["run", "g", "2", "-", "s", "s"],
     &["run", "gc", "2", "-", "s"],
@@ -190,6 +193,28 @@ const NO_ROOM_FOR_IT: Fault = Fault {
     status: 6,
     ..NO_MESH
 };
+
+const NO_LISTING: Fault = Fault {
+    text: "listing line 1 Form\n",
+    ..NO_MESH
+};
+
+const LISTING_CUT_SHORT: Fault = Fault {
+    file: Some(b"cellmap 1 g 2 1 1\n1: 0 0 0\nend\n"),
+    room: 3,
+    flushes: true,
+    text: "cellmap 2 g 2 1 1\n1: 0 0 0\nend\n",
+    status: 6,
+};
+
+/// A listing that cannot be fetched, one that is refused, and one whose counts cannot be written.
+#[test]
+fn what_fails_with_a_listing(rt: HostRuntime) -> Result<(), AllocError> {
+    for fault in &[NO_FILE, NO_LISTING, LISTING_CUT_SHORT] {
+        check(&rt, rt.alloc(), &["audit", "x"], fault)?;
+    }
+    Ok(())
+}
 
 /// A mesh that cannot be fetched, one that is refused, and one whose refusal cannot be written.
 #[test]

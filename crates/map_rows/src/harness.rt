@@ -57,6 +57,19 @@ pub fn obey(alloc: Global, kind: &str, dim: &str, script: Vec<u8>) -> Result<Ans
     run_over(alloc, words.as_slice(), files)
 }
 
+/// Runs `audit x`, where the file `x` has these bytes.
+pub fn audit(alloc: Global, listing: Vec<u8>) -> Result<Answer, AllocError> {
+    let mut words = Vec::new(alloc);
+    words.push(text(alloc, "audit")?)?;
+    words.push(text(alloc, "x")?)?;
+    let mut files = Vec::new(alloc);
+    files.push(Held {
+        name: text(alloc, "x")?,
+        bytes: listing,
+    })?;
+    run_over(alloc, words.as_slice(), files)
+}
+
 /// Runs each row's script over a map of a kind and a dimension, and compares the text and the status.
 pub fn check_rows(
     rt: &impl Abort,

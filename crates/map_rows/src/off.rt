@@ -39,7 +39,7 @@ const COMBINATORIAL: [Row; 2] = [
     },
 ];
 
-const GENERALIZED_MESHES: [MeshRow; 2] = [
+const GENERALIZED_MESHES: [MeshRow; 3] = [
     // a triangle
     MeshRow {
         mesh: "OFF\n3 1 3\n0 0 0\n4 0 0\n0 3 0\n3 0 1 2\n",
@@ -52,11 +52,18 @@ const GENERALIZED_MESHES: [MeshRow; 2] = [
         mesh: CUBE,
         script: "off\nunsew 2 1\noff\n",
         text: "OFF\n8 6 12\n0 0 0\n0 2 0\n2 2 0\n2 0 0\n0 0 2\n2 0 2\n2 2 2\n0 2 2\n4 0 1 2 3\n4 4 5 6 7\n4 0 3 5 4\n4 3 2 6 5\n4 2 1 7 6\n4 1 0 4 7\nok\nOFF\n8 6 13\n0 0 0\n0 2 0\n2 2 0\n2 0 0\n0 0 2\n2 0 2\n2 2 2\n0 2 2\n4 0 1 2 3\n4 4 5 6 7\n4 0 3 5 4\n4 3 2 6 5\n4 2 1 7 6\n4 1 0 4 7\n",
+        status: 0,
+    },
+    // the text of the cube that is cut along an edge, which is whole again when it is read
+    MeshRow {
+        mesh: "OFF\n8 6 13\n0 0 0\n0 2 0\n2 2 0\n2 0 0\n0 0 2\n2 0 2\n2 2 2\n0 2 2\n4 0 1 2 3\n4 4 5 6 7\n4 0 3 5 4\n4 3 2 6 5\n4 2 1 7 6\n4 1 0 4 7\n",
+        script: "count\n",
+        text: "count 48 8 12 6 1\n",
         status: 0,
     },
 ];
 
-const COMBINATORIAL_MESHES: [MeshRow; 2] = [
+const COMBINATORIAL_MESHES: [MeshRow; 3] = [
     // a triangle
     MeshRow {
         mesh: "OFF\n3 1 3\n0 0 0\n4 0 0\n0 3 0\n3 0 1 2\n",
@@ -69,6 +76,13 @@ const COMBINATORIAL_MESHES: [MeshRow; 2] = [
         mesh: CUBE,
         script: "off\nunsew 2 1\noff\n",
         text: "OFF\n8 6 12\n0 0 0\n0 2 0\n2 2 0\n2 0 0\n0 0 2\n2 0 2\n2 2 2\n0 2 2\n4 0 1 2 3\n4 4 5 6 7\n4 0 3 5 4\n4 3 2 6 5\n4 2 1 7 6\n4 1 0 4 7\nok\nOFF\n8 6 13\n0 0 0\n0 2 0\n2 2 0\n2 0 0\n0 0 2\n2 0 2\n2 2 2\n0 2 2\n4 0 1 2 3\n4 4 5 6 7\n4 0 3 5 4\n4 3 2 6 5\n4 2 1 7 6\n4 1 0 4 7\n",
+        status: 0,
+    },
+    // the text of the cube that is cut along an edge, which is whole again when it is read
+    MeshRow {
+        mesh: "OFF\n8 6 13\n0 0 0\n0 2 0\n2 2 0\n2 0 0\n0 0 2\n2 0 2\n2 2 2\n0 2 2\n4 0 1 2 3\n4 4 5 6 7\n4 0 3 5 4\n4 3 2 6 5\n4 2 1 7 6\n4 1 0 4 7\n",
+        script: "count\n",
+        text: "count 24 8 12 6 1\n",
         status: 0,
     },
 ];

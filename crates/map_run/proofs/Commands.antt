@@ -1,8 +1,8 @@
 -- Words that are a command, and words that are none.
-use Rattle.std.proofs.Common.{◌≡◌, ◌≢◌, ◌≤◌, ℕ, List, [], ◌∷◌, length, get_or, Option, Some, refl, sym, ap, ◌∙◌, arith, codes}
+use Rattle.std.proofs.Common.{◌≡◌, ◌≢◌, ◌≤◌, ℕ, List, [], ◌∷◌, length, get_or, Option, Some, refl, ap, arith, codes}
 use Rattle.std.specs.Fmt.{decimal}
 use Rattle.map_defs.specs.Kind.{Kind, letter}
-use Rattle.machine_defs.specs.Program.{Command, RunScript, TellsCommand, IsNoCommand, mesh_word, no_mesh}
+use Rattle.machine_defs.specs.Program.{RunScript, Audit, TellsCommand, IsNoCommand, mesh_word, no_mesh}
 
 -- a list of five elements
 pub five : {X : Type 0} (xs : List X) (a b c d e : X) → length xs ≡ 5 → a ≡ get_or xs 0 a → b ≡ get_or xs 1 b → c ≡ get_or xs 2 c
@@ -15,36 +15,40 @@ five (x ∷ y ∷ z ∷ v ∷ []) a b c d e len p q r s t = absurd (omega arith)
 five (x ∷ y ∷ z ∷ v ∷ w ∷ []) a b c d e len p q r s t = cc
 five (x ∷ y ∷ z ∷ v ∷ w ∷ u ∷ xs) a b c d e len p q r s t = absurd (omega arith)
 
--- the words of a command are five, of which the first is always the same
-pub told : (words : List (List ℕ)) (command : Command) → TellsCommand words command
-    → (k : Kind) × (n : ℕ) × (2 ≤ n) × (n ≤ 4) × (mesh : List ℕ) × (script : List ℕ) × (words ≡ codes "run" ∷ (letter k ∷ []) ∷ decimal n ∷ mesh ∷ script ∷ [])
-told words (RunScript kind dim mesh script) t = (kind, dim, t.0.0, t.0.1, mesh_word mesh, script, t.1)
+-- a list of two elements
+pub two : {X : Type 0} (xs : List X) (a b : X) → length xs ≡ 2 → a ≡ get_or xs 0 a → b ≡ get_or xs 1 b → xs ≡ a ∷ b ∷ []
+two [] a b len p q = absurd (omega arith)
+two (x ∷ []) a b len p q = absurd (omega arith)
+two (x ∷ y ∷ []) a b len p q = cc
+two (x ∷ y ∷ z ∷ xs) a b len p q = absurd (omega arith)
 
-pub no_command : (words : List (List ℕ))
-    → ((k : Kind) (n : ℕ) (mesh script : List ℕ) → 2 ≤ n → n ≤ 4 → words ≡ codes "run" ∷ (letter k ∷ []) ∷ decimal n ∷ mesh ∷ script ∷ [] → ⊥) → IsNoCommand words
-no_command words other command t = let found = told words command t in other found.0 found.1 found.4 found.5 found.2 found.3 found.6
+-- five words are a command where they are those of a script over a map
+no_run : (run kind dim mesh script : List ℕ) → ((k : Kind) (n : ℕ) (other file : List ℕ) → 2 ≤ n → n ≤ 4
+    → run ∷ kind ∷ dim ∷ mesh ∷ script ∷ [] ≡ codes "run" ∷ (letter k ∷ []) ∷ decimal n ∷ other ∷ file ∷ [] → ⊥) → IsNoCommand (run ∷ kind ∷ dim ∷ mesh ∷ script ∷ [])
+no_run run kind dim mesh script differ (RunScript k n name file) t = differ k n (mesh_word name) file t.0.0 t.0.1 t.1
+no_run run kind dim mesh script differ (Audit listing) t = absurd (let same = ap length t.1 in omega arith)
 
 -- these words are those of the command
-pub as_told : (words : List (List ℕ)) (run kind dim mesh script : List ℕ) (k : Kind) (n : ℕ) (name : Option (List ℕ)) → words ≡ run ∷ kind ∷ dim ∷ mesh ∷ script ∷ []
-    → run ≡ codes "run" → kind ≡ letter k ∷ [] → (mesh_word name ≡ mesh) × (name ≢ Some no_mesh) → dim ≡ decimal n → 2 ≤ n → n ≤ 4 → TellsCommand words (RunScript k n name script)
-as_told words run kind dim mesh script k n name are runs lettered named dims low high =
-    ((low, high, named.1), are ∙ rw (runs, lettered, dims, named.0) refl)
+pub as_told : (run kind dim mesh script : List ℕ) (k : Kind) (n : ℕ) (name : Option (List ℕ))
+    → run ≡ codes "run" → kind ≡ letter k ∷ [] → (mesh_word name ≡ mesh) × (name ≢ Some no_mesh) → dim ≡ decimal n → 2 ≤ n → n ≤ 4
+    → TellsCommand (run ∷ kind ∷ dim ∷ mesh ∷ script ∷ []) (RunScript k n name script)
+as_told run kind dim mesh script k n name runs lettered named dims low high = ((low, high, named.1), rw (runs, lettered, dims, named.0) refl)
 
-pub not_run : (words : List (List ℕ)) (run kind dim mesh script : List ℕ) → words ≡ run ∷ kind ∷ dim ∷ mesh ∷ script ∷ []
-    → run ≢ codes "run" → IsNoCommand words
-not_run words run kind dim mesh script are differ =
-    no_command words (λ k n other file low high e. let same = sym are ∙ e in differ (cc))
+pub not_run : (run kind dim mesh script : List ℕ) → run ≢ codes "run" → IsNoCommand (run ∷ kind ∷ dim ∷ mesh ∷ script ∷ [])
+not_run run kind dim mesh script differ = no_run run kind dim mesh script (λ k n other file low high e. differ (cc))
 
-pub not_lettered : (words : List (List ℕ)) (run kind dim mesh script : List ℕ) → words ≡ run ∷ kind ∷ dim ∷ mesh ∷ script ∷ []
-    → ((k : Kind) → kind ≡ letter k ∷ [] → ⊥) → IsNoCommand words
-not_lettered words run kind dim mesh script are differ =
-    no_command words (λ k n other file low high e. let same = sym are ∙ e in differ k (cc))
+pub not_lettered : (run kind dim mesh script : List ℕ) → ((k : Kind) → kind ≡ letter k ∷ [] → ⊥) → IsNoCommand (run ∷ kind ∷ dim ∷ mesh ∷ script ∷ [])
+not_lettered run kind dim mesh script differ = no_run run kind dim mesh script (λ k n other file low high e. differ k (cc))
 
-pub not_numbered : (words : List (List ℕ)) (run kind dim mesh script : List ℕ) → words ≡ run ∷ kind ∷ dim ∷ mesh ∷ script ∷ []
-    → ((n : ℕ) → 2 ≤ n → n ≤ 4 → dim ≡ decimal n → ⊥) → IsNoCommand words
-not_numbered words run kind dim mesh script are differ =
-    no_command words (λ k n other file low high e. let same = sym are ∙ e in differ n low high (cc))
+pub not_numbered : (run kind dim mesh script : List ℕ) → ((n : ℕ) → 2 ≤ n → n ≤ 4 → dim ≡ decimal n → ⊥) → IsNoCommand (run ∷ kind ∷ dim ∷ mesh ∷ script ∷ [])
+not_numbered run kind dim mesh script differ = no_run run kind dim mesh script (λ k n other file low high e. differ n low high (cc))
 
--- fewer or more words are no command
-pub not_five : (words : List (List ℕ)) → length words ≢ 5 → IsNoCommand words
-not_five words differ = no_command words (λ k n other file low high e. differ (ap length e))
+-- two words are a command where the first names the audit of a listing
+pub not_audit : (audit listing : List ℕ) → audit ≢ codes "audit" → IsNoCommand (audit ∷ listing ∷ [])
+not_audit audit listing differ (RunScript k n name file) t = absurd (let same = ap length t.1 in omega arith)
+not_audit audit listing differ (Audit other) t = differ (let same = t.1 in cc)
+
+-- no other number of words is a command
+pub not_counted : (words : List (List ℕ)) → length words ≢ 5 → length words ≢ 2 → IsNoCommand words
+not_counted words five two (RunScript k n name file) t = five (ap length t.1)
+not_counted words five two (Audit listing) t = two (ap length t.1)

@@ -12,9 +12,11 @@ use Rattle.machine_defs.specs.Outside.{Files, held, Appended}
 use Rattle.machine_defs.specs.State.{State, empty_state}
 use Rattle.map_defs.specs.Off.{mesh_of}
 use Rattle.machine_defs.specs.Loading.{refusal_line}
-use Rattle.machine_defs.specs.Program.{RunScript, TellsCommand, ProgramAnswer, told, ScriptAnswer, FileAnswer, MeshAnswer, CommandAnswer, IsFile, StartsFrom, Starts, whole, lines, Outcome, answered, unread, unwritten, no_memory, cannot_read, too_long}
+use Rattle.machine_defs.specs.Program.{Command, RunScript, Audit, TellsCommand, ProgramAnswer, told, ScriptAnswer, FileAnswer, MeshAnswer, CommandAnswer, IsFile, StartsFrom, Starts, whole, lines, Outcome, answered, unread, unwritten, no_memory, cannot_read, too_long}
 use Rattle.map_run.specs.Going.{IsObeyed}
-use Rattle.map_run.specs.Texts.{AreFetched, IsMeshOf, IsFirst, TextsEnd, refused, starved, obeyed, EndsTexts}
+use Rattle.map_run.specs.Texts.{IsUnfetched, IsMeshOf, IsFirst, TextsEnd, refused, starved, obeyed, EndsTexts}
+use Rattle.machine_defs.specs.Auditing.{AuditAnswer}
+use Rattle.map_run.specs.Audits.{AuditEnd, done, cut_short, out_of_memory, EndsAudit}
 use Rattle.map_run.specs.Ending.{IsLast, WritesLast, EndsCall, EndsWhole, status_of}
 use Rattle.map_run.proofs.StartFacts.{starts-nothing}
 use Rattle.text_lines.proofs.WritingFacts.{Appended-nothing, Appended-then, IsFront-all, IsFront-nothing}
@@ -82,6 +84,18 @@ module _ (hook : Meaning) (words : List (List ℕ)) (files : Files) (shelf_rose 
     texts-outcome status piece (obeyed start result first is p rose) =
         subst (λ (n : ℕ). Outcome hook words files shelf_rose sink_rose n piece) (sym is) (obeyed-outcome start result piece first rose p)
 
+  -- a listing that was fetched
+  module _ (name bytes : List ℕ) (tells : TellsCommand words (Audit name)) (is : IsFile files name bytes) where
+    audit-answers : (text : List ℕ) (status : ℕ) → AuditAnswer bytes text status → ProgramAnswer hook words files text status
+    audit-answers text status answer =
+        told (Audit name) tells (subst (λ (o : Option (List ℕ)). FileAnswer o AuditAnswer text status) (sym is.0) (inr (is.1, answer)))
+
+    audit-outcome : (status : ℕ) (piece : List ℕ) → AuditEnd bytes sink_rose status piece → Outcome hook words files shelf_rose sink_rose status piece
+    audit-outcome status piece (done answer small) = answered small (audit-answers piece status answer)
+    audit-outcome status piece (cut_short text n answer front (inl (six, rose))) = unwritten six rose (inl (whole text n (audit-answers text n answer) front))
+    audit-outcome status piece (cut_short text n answer front (inr (seven, ends))) = no_memory seven ends (inl (whole text n (audit-answers text n answer) front))
+    audit-outcome status piece (out_of_memory seven none) = no_memory seven (inl none) (inl (lines (Audit name) tells none))
+
   -- what was kept back is handed on
   flushed-outcome : (sink_rose' : Type 0) (status : ℕ) (piece : List ℕ) → (sink_rose → sink_rose') → Outcome hook words files shelf_rose sink_rose status piece
       → Outcome hook words files shelf_rose sink_rose' status piece
@@ -125,25 +139,25 @@ Ends-unread hook before after words files shelf_rose sink_rose result shelf w = 
   outcome = unread-outcome hook words files shelf_rose sink_rose result w.piece shelf w.is;
 }
 
-pub Ends-nothing : (hook : Meaning) (k : Kind) (n : ℕ) (mesh : Option (List ℕ)) (script : List ℕ) (o : Option (List ℕ)) (words : List (List ℕ)) (files : Files) (shelf_rose sink_rose : Type 0)
-    → TellsCommand words (RunScript k n mesh script) → EndsCall hook o o words files shelf_rose sink_rose 7
-Ends-nothing hook k n mesh script o words files shelf_rose sink_rose tells = record {
+pub Ends-nothing : (hook : Meaning) (o : Option (List ℕ)) (words : List (List ℕ)) (files : Files) (shelf_rose sink_rose : Type 0)
+    → Starts hook words files [] → EndsCall hook o o words files shelf_rose sink_rose 7
+Ends-nothing hook o words files shelf_rose sink_rose starts = record {
   text = [];
   appended = Appended-nothing o;
-  outcome = no_memory refl (inl refl) (inl (starts-nothing hook words files k n script mesh tells));
+  outcome = no_memory refl (inl refl) (inl starts);
 }
 
 -- a file was not fetched
-pub Ends-unfetched : (hook : Meaning) (k : Kind) (n : ℕ) (mesh : Option (List ℕ)) (script : List ℕ) (before after : Option (List ℕ)) (words : List (List ℕ)) (files : Files) (shelf_rose sink_rose : Type 0)
-    (fault : FetchFault) (result : ℕ) → TellsCommand words (RunScript k n mesh script) → AreFetched files (RunScript k n mesh script) (Err fault) → (fault ≡ fetch.Failed → shelf_rose)
+pub Ends-unfetched : (hook : Meaning) (command : Command) (before after : Option (List ℕ)) (words : List (List ℕ)) (files : Files) (shelf_rose sink_rose : Type 0)
+    (fault : FetchFault) (result : ℕ) → TellsCommand words command → Starts hook words files [] → IsUnfetched files command fault → (fault ≡ fetch.Failed → shelf_rose)
     → (fault ≡ fetch.Failed → WritesLast before after sink_rose cannot_read 5 result) → ((seen : ℕ) → fault ≡ fetch.TooLong seen → WritesLast before after sink_rose too_long 4 result)
     → (fault ≡ fetch.NoMemory → (result ≡ 7) × (after ≡ before)) → EndsCall hook before after words files shelf_rose sink_rose result
-Ends-unfetched hook k n mesh script before after words files shelf_rose sink_rose fetch.Failed result tells fetched rose failed long memory =
+Ends-unfetched hook command before after words files shelf_rose sink_rose fetch.Failed result tells starts unfetched rose failed long memory =
     Ends-unread hook before after words files shelf_rose sink_rose result (rose refl) (failed refl)
-Ends-unfetched hook k n mesh script before after words files shelf_rose sink_rose (fetch.TooLong seen) result tells fetched rose failed long memory =
-    Ends-last hook before after words files shelf_rose sink_rose too_long 4 result (told (RunScript k n mesh script) tells (fetched hook)) (lit≤ tt) (long seen refl)
-Ends-unfetched hook k n mesh script before after words files shelf_rose sink_rose fetch.NoMemory result tells fetched rose failed long memory =
-    let end = memory refl in rw (end.0, end.1) (Ends-nothing hook k n mesh script before words files shelf_rose sink_rose tells)
+Ends-unfetched hook command before after words files shelf_rose sink_rose (fetch.TooLong seen) result tells starts unfetched rose failed long memory =
+    Ends-last hook before after words files shelf_rose sink_rose too_long 4 result (told command tells (unfetched hook)) (lit≤ tt) (long seen refl)
+Ends-unfetched hook command before after words files shelf_rose sink_rose fetch.NoMemory result tells starts unfetched rose failed long memory =
+    let end = memory refl in rw (end.0, end.1) (Ends-nothing hook before words files shelf_rose sink_rose starts)
 
 pub Ends-texts : (hook : Meaning) (k : Kind) (n : ℕ) (mesh : Option (List ℕ)) (script : List ℕ) (words : List (List ℕ)) (files : Files) (before after : Option (List ℕ)) (shelf_rose sink_rose : Type 0) (status : ℕ)
     (bytes : Option (List ℕ)) (text : List ℕ) → TellsCommand words (RunScript k n mesh script) → IsMeshOf files mesh bytes × IsFile files script text
@@ -152,6 +166,14 @@ Ends-texts hook k n mesh script words files before after shelf_rose sink_rose st
   text = e.piece;
   appended = e.appended;
   outcome = texts-outcome hook words files shelf_rose sink_rose k n mesh script tells bytes text are.0 are.1 status e.piece e.end;
+}
+
+pub Ends-audit : (hook : Meaning) (name bytes : List ℕ) (words : List (List ℕ)) (files : Files) (before after : Option (List ℕ)) (shelf_rose sink_rose : Type 0) (status : ℕ)
+    → TellsCommand words (Audit name) → IsFile files name bytes → EndsAudit bytes sink_rose before after status → EndsCall hook before after words files shelf_rose sink_rose status
+Ends-audit hook name bytes words files before after shelf_rose sink_rose status tells is e = record {
+  text = e.piece;
+  appended = e.appended;
+  outcome = audit-outcome hook words files shelf_rose sink_rose name bytes tells is status e.piece e.end;
 }
 
 pub Ends-flushed : (hook : Meaning) (before middle after : Option (List ℕ)) (words : List (List ℕ)) (files : Files) (shelf_rose sink_rose sink_rose' : Type 0) (status : ℕ)

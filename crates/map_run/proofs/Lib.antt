@@ -7,3 +7,4 @@ pub mod StartFacts
 pub mod ToldLines
 pub mod EndingFacts
 pub mod MeshFacts
+pub mod AuditFacts

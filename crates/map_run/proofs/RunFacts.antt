@@ -38,11 +38,11 @@ off_ends off =
     let points : List ℕ = flat_map off_point_text off.points in
     let faces : List ℕ = flat_map off_face_text off.faces in
     let counts : List ℕ = off_counts_text (length off.points) (length off.faces) off.edges in
-    EndsLine-then (ended (codes "OFF")) (counts ++ points ++ faces) (inr (codes "OFF", refl))
-    (EndsLine-then counts (points ++ faces) (inr (decimal (length off.points) ++ spaced (length off.faces) ++ spaced off.edges, refl))
-    (EndsLine-then points faces
-    (each_ends off_point_text (λ (v : Value). inr (signed_decimal v.a ++ spaced_signed v.b ++ spaced_signed v.c, refl)) off.points)
-    (each_ends off_face_text (λ (corners : List ℕ). inr (decimal (length corners) ++ flat_map spaced corners, refl)) off.faces)))
+    EndsLine-then (ended (codes "OFF") ++ counts ++ points) faces
+    (EndsLine-then (ended (codes "OFF") ++ counts) points
+    (EndsLine-then (ended (codes "OFF")) counts (inr (codes "OFF", refl)) (inr (decimal (length off.points) ++ spaced (length off.faces) ++ spaced off.edges, refl)))
+    (each_ends off_point_text (λ (v : Value). inr (signed_decimal v.a ++ spaced_signed v.b ++ spaced_signed v.c, refl)) off.points))
+    (each_ends off_face_text (λ (corners : List ℕ). inr (decimal (length corners) ++ flat_map spaced corners, refl)) off.faces)
 
 reply_ends : (reply : Reply) → EndsLine (reply_text reply)
 reply_ends (Done first count) = done_ends (count == 0) (codes "ok" ++ spaced first ++ spaced count)

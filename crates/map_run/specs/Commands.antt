@@ -9,6 +9,8 @@ use Rattle.map_run.specs.declared.command.MapKind.TheVariants.{Generalized, Comb
 use Rattle.map_run.specs.declared.command.Dimension.{Dimension}
 use Rattle.map_run.specs.declared.command.Dimension.TheVariants.{Two, Three, Four}
 use Rattle.map_run.specs.declared.command.RunScript.{RunScript}
+use Rattle.map_run.specs.declared.command.Command.{Command}
+use Rattle.map_run.specs.declared.command.Command.TheVariants.{Run, Audit}
 
 abbrev pub kind_of : MapKind → Kind
 kind_of Generalized = alpha
@@ -38,5 +40,9 @@ mesh_name (Some name) = Some name.now
 abbrev pub IsMeshNamed : Option (Bor (List ℕ)) → List ℕ → Type 0
 IsMeshNamed mesh word = (told.mesh_word (mesh_name mesh) ≡ word) × (mesh_name mesh ≢ Some told.no_mesh)
 
-abbrev pub command_of : RunScript → told.Command
-command_of command = told.RunScript (kind_of command.kind) (number command.dimension) (mesh_name command.mesh) command.script.now
+abbrev pub run_of : RunScript → told.Command
+run_of command = told.RunScript (kind_of command.kind) (number command.dimension) (mesh_name command.mesh) command.script.now
+
+abbrev pub command_of : Command → told.Command
+command_of (Run command) = run_of command
+command_of (Audit listing) = told.Audit listing.now

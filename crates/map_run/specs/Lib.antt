@@ -5,5 +5,6 @@ pub mod Going
 pub mod Ending
 pub mod Loads
 pub mod Texts
+pub mod Audits
 pub use Rattle.machine_defs.specs.Program
 pub use Rattle.machine_defs.specs.Outside

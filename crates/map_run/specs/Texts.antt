@@ -12,8 +12,10 @@ use Rattle.machine_defs.specs.State.{State, empty_state}
 use Rattle.map_defs.specs.Off.{mesh_of}
 use Rattle.machine_defs.specs.Loading.{IsLoaded, refusal_line}
 use Rattle.machine_defs.specs.Outside.{Files, Appended}
-use Rattle.machine_defs.specs.Program.{Command, RunScript, CommandAnswer, IsFile, too_long, file_limit}
+use Rattle.machine_defs.specs.Program.{Command, CommandAnswer, IsFile, too_long, file_limit}
+use Rattle.map_run.specs.declared.command.RunScript.{RunScript}
 use Rattle.map_run.specs.declared.files.Texts.{Texts}
+use Rattle.map_run.specs.Commands.{mesh_name, run_of}
 use Rattle.map_run.specs.Ending.{IsLast, status_of}
 use Rattle.map_run.specs.Going.{IsObeyed}
 
@@ -47,12 +49,16 @@ IsMeshOf files None bytes = bytes ≡ None
 IsMeshOf files (Some name) None = ⊥
 IsMeshOf files (Some name) (Some bytes) = IsFile files name bytes
 
--- the files of the command; or the first one that is needed is too long
-abbrev pub AreFetched : Files → Command → Result Texts FetchFault → Type 0
-AreFetched files (RunScript kind dim mesh script) (Ok texts) = IsMeshOf files mesh (mesh_bytes texts.mesh) × IsFile files script texts.script.items
-AreFetched files command (Err (fetch.TooLong seen)) = (hook : Meaning) → CommandAnswer hook files command too_long 4
-AreFetched files command (Err fetch.Failed) = Unit {0}
-AreFetched files command (Err fetch.NoMemory) = Unit {0}
+-- A file that a command needs was not fetched: one that is too long decides what the command answers.
+abbrev pub IsUnfetched : Files → Command → FetchFault → Type 0
+IsUnfetched files command (fetch.TooLong seen) = (hook : Meaning) → CommandAnswer hook files command too_long 4
+IsUnfetched files command fetch.Failed = Unit {0}
+IsUnfetched files command fetch.NoMemory = Unit {0}
+
+-- the files of a script and its mesh; or the first one that is needed was not fetched
+abbrev pub AreFetched : Files → RunScript → Result Texts FetchFault → Type 0
+AreFetched files command (Ok texts) = IsMeshOf files (mesh_name command.mesh) (mesh_bytes texts.mesh) × IsFile files command.script.now texts.script.items
+AreFetched files command (Err fault) = IsUnfetched files (run_of command) fault
 
 -- the state that a script starts from
 abbrev pub IsFirst : Kind → ℕ → Option (List ℕ) → State → Type 0

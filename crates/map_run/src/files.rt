@@ -3,7 +3,7 @@ ghost use Rattle.std.specs.Prelude.{◌≡◌, ℕ, ◌↔◌, List, Some, IfOk,
 ghost use Rattle.machine_defs.specs.Outside.{Files};
 ghost use Rattle.machine_defs.specs.Program.{IsNeededBy};
 ghost use Rattle.map_io.specs.Cause.{HasCause};
-ghost use Rattle.map_run.specs.Commands.{mesh_name, command_of};
+ghost use Rattle.map_run.specs.Commands.{mesh_name, run_of};
 ghost use Rattle.map_run.specs.Texts.{AreFetched, AreShort, IsMeshFetched, MayAsk};
 
 use crate::command::RunScript;
@@ -28,9 +28,9 @@ pub fn fetch_texts<F: Shelf>(
     command: RunScript<'_>,
     shelf: &mut F,
 ) -> Result<Texts, FetchFault>
-    requires asked { (name : List ℕ) → IsNeededBy (command_of command) name → F.may_ask shelf.old name }
+    requires asked { (name : List ℕ) → IsNeededBy (run_of command) name → F.may_ask shelf.old name }
     ensures short { IfOk result (λ texts. AreShort texts) }
-    ensures fetched { (files : Files) → F.holds shelf.old ≡ Some files → AreFetched files (command_of command.entry) result }
+    ensures fetched { (files : Files) → F.holds shelf.old ≡ Some files → AreFetched files command.entry result }
     ensures cause { HasCause (F.faults shelf.old) (F.faults shelf.new) (IsErrOf result FetchFault.Failed) }
 {
     let mesh = match fetch_mesh(alloc, command.mesh, shelf) {

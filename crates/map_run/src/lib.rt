@@ -1,7 +1,8 @@
-//! The program: it runs a script over a map and writes the replies of the plain map machine.
+//! The program: it runs a script over a map and writes the replies of the plain map machine, or audits a listing.
 #![tactic(auto)]
 
 mod answer;
+mod audit;
 mod command;
 mod files;
 mod last;

@@ -2,10 +2,11 @@
 ghost use Rattle.std.specs.Prelude.{◌≡◌, ◌≢◌, ℕ, ◌⊎◌, ◌≤◌, List, [], Some, map, string_bytes, nat_lt, if◌then◌else◌};
 ghost use Rattle.machine_defs.specs.Outside.{Files, Rose};
 ghost use Rattle.machine_defs.specs.Program.{TellsCommand, NeedsFile, IsNeededBy, Known, IsNoCommand};
-ghost use Rattle.map_run.specs.Commands.{command_of};
+ghost use Rattle.map_run.specs.Commands.{run_of};
 ghost use Rattle.map_run.specs.Ending.{EndsCall, EndsWhole};
 
-use crate::command::{RunScript, read_command};
+use crate::audit::audit;
+use crate::command::{Command, RunScript, read_command};
 use crate::files::fetch_texts;
 use crate::last::{write_last, write_unfetched};
 use crate::obey::obey_in_kind;
@@ -23,8 +24,8 @@ fn run_script<F: Shelf, S: Sink, H: Hook>(
     hook: &H,
 ) -> u8
     requires ready { H.ready hook.now }
-    requires asked { (name : List ℕ) → IsNeededBy (command_of command) name → F.may_ask shelf.old name }
-    ensures outcome { (words : List (List ℕ)) (files : Files) → TellsCommand words (command_of command.entry)
+    requires asked { (name : List ℕ) → IsNeededBy (run_of command) name → F.may_ask shelf.old name }
+    ensures outcome { (words : List (List ℕ)) (files : Files) → TellsCommand words (run_of command.entry)
         → F.holds shelf.old ≡ Some files →
         EndsCall (H.meaning hook.now) (S.written out.old) (S.written out.new) words files
         (Rose (F.faults shelf.old) (F.faults shelf.new)) (Rose (S.faults out.old) (S.faults out.new)) result }
@@ -67,7 +68,8 @@ fn answer<F: Shelf, S: Sink, H: Hook>(
     ensures later { S.faults out.old ≤ S.faults out.new }
 {
     match read_command(words) {
-        Some(command) => run_script(alloc, command, shelf, out, hook),
+        Some(Command::Run(command)) => run_script(alloc, command, shelf, out, hook),
+        Some(Command::Audit(name)) => audit(alloc, name, shelf, out),
         None => write_last(out, b"usage\n", 2),
     }
 }
@@ -104,15 +106,15 @@ fn serve<F: Shelf, S: Sink, H: Hook>(
 ///
 /// The words are `run KIND DIM MESH SCRIPT`, where KIND is `g` for a generalized map or `c` for a combinatorial map, DIM is
 /// 2, 3 or 4, MESH is the name of a mesh in OFF text, or `-` for the empty map, and SCRIPT is the name of a script, which is
-/// obeyed from that map. Other words are answered by `usage`. Both files are fetched, the mesh first, before the mesh is
-/// read.
+/// obeyed from that map. Both files are fetched, the mesh first, before the mesh is read. Or the words are `audit FILE`: the
+/// listing in FILE is read, and written again with the counts of its map. Other words are answered by `usage`.
 ///
 /// | status | when | text |
 /// |---|---|---|
-/// | 0 | every line was accepted | the replies |
+/// | 0 | every line was accepted, or the listing was read | the replies, or the listing and its counts |
 /// | 1 | some line was refused | the replies |
 /// | 2 | the words are no command | `usage` |
-/// | 3 | the mesh is refused | `off line N WHAT`, `off face N WHAT` or `off Full` |
+/// | 3 | the mesh or the listing is refused | `off line N WHAT`, `off face N WHAT` or `off Full`; `listing line N WHAT` |
 /// | 4 | a file has more than 16,777,216 bytes | `too long` |
 /// | 5 | the shelf has no such file, or could not read it | `cannot read` |
 /// | 6 | the sink could not take the text | a front of the text, or of `cannot read` where the shelf had a fault |

@@ -1,4 +1,3 @@
-pub mod Digits
 pub mod AsciiWords
 pub mod ReadWords
 pub mod NumberLines

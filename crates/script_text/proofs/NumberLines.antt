@@ -10,7 +10,7 @@ use Rattle.std.proofs.lemmas.Option.{none-some, cond_some, option_and_then_some}
 use Rattle.std.proofs.lemmas.Slice.Eq.{bytes_eq-Decides}
 use Rattle.map_defs.specs.TextWords.{is_text, value_of}
 use Rattle.machine_defs.specs.Script.{Line, is_numeral, numeral, numerals, found, alone, with_one, with_two, with_three, numbers_line, line_of}
-use Rattle.script_text.proofs.Digits.{numeral_digits}
+use Rattle.text_words.proofs.Digits.{numeral_digits}
 
 -- digits are printed characters
 digits-text : (word : List ℕ) → list_all is_ascii_digit word ≡ true → is_text word ≡ true

@@ -2,4 +2,3 @@ pub mod Meanings
 pub mod Reading
 pub mod ReplyEnds
 pub mod LogLines
-pub mod Numerals

@@ -8,7 +8,6 @@ mod read;
 mod reply;
 #[cfg(test)]
 mod tests;
-mod word;
 
 pub use line::{Change, Line, Question};
 pub use log::{log_text, put_log};

@@ -8,11 +8,12 @@ ghost use Rattle.text_words.specs.Taking.{words_in};
 ghost use Rattle.script_text.specs.Meanings.{line_meaning, Tell, IsSyntax};
 ghost use Rattle.script_text.specs.Reading.{Reads, now_of, items_of};
 
-use crate::word::{read_integer, read_name, read_numeral};
 use crate::{Change, Line, Question};
 use map_kind::{PATH_MAX, Refusal, Refused, Value};
 use std::alloc::Global;
-use text_words::{are_text, split_words, take_word, without_comment};
+use text_words::{
+    are_text, read_integer, read_name, read_numeral, split_words, take_word, without_comment,
+};
 
 /// The line that these bytes tell; none exactly where they have no word. The bytes are one line without its line feed: a
 /// number sign begins a comment, and the rest is cut into words at spaces, tabs and carriage returns. It is refused as

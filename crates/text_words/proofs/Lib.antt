@@ -1,3 +1,5 @@
 pub mod FirstPlaces
 pub mod WordCuts
 pub mod AsciiText
+pub mod NameText
+pub mod Digits

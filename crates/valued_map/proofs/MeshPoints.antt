@@ -1,6 +1,5 @@
 -- The points of a map: its 0-cells with values as places, and what they tell of its OFF text.
-use Rattle.std.proofs.Common.{◌≡◌, ◌≢◌, ◌⊎◌, inl, inr, Result, Ok, Err, ℕ, zero, suc, ◌+◌, ◌<◌, List, [], ◌∷◌, length, map, get_or, slice_index_or, Option, Some, None, Contains, refl, sym, ap, ◌∙◌, subst, arith}
-use Rattle.std.specs.Prelude.{IfErr, IsErrAnd}
+use Rattle.std.proofs.Common.{◌≡◌, ◌≢◌, ◌⊎◌, inl, inr, ℕ, zero, suc, ◌+◌, ◌<◌, List, [], ◌∷◌, length, map, get_or, slice_index_or, Option, Some, None, Contains, refl, sym, ap, ◌∙◌, arith}
 use Rattle.std.specs.List.{AllZip}
 use Rattle.std.specs.List.Sorted.{IsStrictlyIncreasing}
 use Rattle.std.proofs.lemmas.Bool.{cases_eq}
@@ -35,7 +34,7 @@ placed-told : (w : Option Value) (d : ℕ) (places : List Place) → ((v : Value
 unfolding place_at
 placed-told None d [] there told = refl
 placed-told (Some v) d [] there told = absurd (let h = there v refl in let low = h.1 in omega arith)
-placed-told w d (p ∷ places) there told = by (cases_eq p.dart d)
+placed-told w d (p ∷ places) there told = by (cases_eq p.dart d) (λ other. placed-told w d places (later other) (λ q h. told q (suc h.0, (let low = h.1 in omega arith), h.2)))
   where
     later : p.dart ≢ d → (v : Value) → w ≡ Some v → Contains places (record { dart = d; value = v })
     later other v is = go (there v is).0 (there v is).1 (there v is).2
@@ -44,13 +43,13 @@ placed-told w d (p ∷ places) there told = by (cases_eq p.dart d)
         go zero low e = absurd (other (ap (λ (q : Place). q.dart) e))
         go (suc j) low e = (j, omega arith, e)
 
-    by : (p.dart ≡ d) ⊎ (p.dart ≢ d) → placed (p ∷ places) d ≡ w
-    by (inl same) =
+    by : (p.dart ≡ d) ⊎ (p.dart ≢ d) → (p.dart ≢ d → placed places d ≡ w) → placed (p ∷ places) d ≡ w
+    by (inl same) rest =
         let first : placed (p ∷ places) d ≡ Some p.value = grind (arith, nat_tests, same) in
         first ∙ sym (told p (0, omega arith, refl) same)
-    by (inr other) =
-        let rest : placed (p ∷ places) d ≡ placed places d = grind (arith, nat_tests, other) in
-        rest ∙ placed-told w d places (later other) (λ q h. told q (suc h.0, (let low = h.1 in omega arith), h.2))
+    by (inr other) rest =
+        let past : placed (p ∷ places) d ≡ placed places d = grind (arith, nat_tests, other) in
+        past ∙ rest other
 
 module _ (k : Kind) (rows : Rows) (labels : Labeling) (pool : Store) (values : List ListValue) (a : AreListed labels pool (λ i d. (i < 1) × IsNamed k rows i d) values) where
   zero_value : ListValue
@@ -136,8 +135,3 @@ module _ (k : Kind) (rows : Rows) (v w : ℕ → Option Value) (same : (d : ℕ)
   pub refused-alike : (refused : Refused) → IfLine refused (LacksOffText k rows v) → IfLine refused (LacksOffText k rows w)
   refused-alike (Line refusal) why = reason-alike (meaning refusal) why
   refused-alike NoMemory why = tt
-
--- want of memory is no reason
-pub refused-memory : {Y : Type 0} (result : Result Y Refused) (Why : Refusal → Type 0) → IsErrAnd result (λ refused. refused ≡ NoMemory) → IfErr result (λ refused. IfLine refused Why)
-refused-memory (Ok x) Why is = absurd is
-refused-memory (Err refused) Why is = subst (λ r. IfLine r Why) (sym is) tt

@@ -1,87 +1,76 @@
-use Rattle.std.proofs.Common.{rules, codes, ◌≡◌, ◌≢◌, ◌≤◌, List, ◌∷◌, [], map, length, ap, arith, lit≤, string_bytes, String, refl, sym, ◌∙◌}
+use Rattle.std.proofs.Common.{◌≡◌, ℕ, List, ◌∷◌, [], map, length, get_or, ap, arith, string_bytes, String, refl}
 use Rattle.std.specs.declared.alloc.Global.{Global}
+use Rattle.std.proofs.lemmas.List.{length-map}
 use Rattle.std.proofs.lemmas.Bool.{true≢false}
-use Rattle.machine_defs.specs.Program.{RunScript}
-use Rattle.map_run.specs.Commands.{kind_of, number, mesh_name}
-use Rattle.map_run.specs.declared.command.MapKind.{MapKind}
-use Rattle.map_run.specs.declared.command.Dimension.{Dimension}
-use Rattle.map_run.specs.declared.command.Dimension.TheVariants.{Two, Three, Four}
-use Rattle.map_run.proofs.Commands.{five, as_told, not_run, not_lettered, not_numbered}
+use Rattle.map_run.specs.Commands.{run_of}
+use Rattle.map_run.proofs.Commands.{five, two, not_counted}
 use Rattle.map_run.proofs.command.read_command.Goals as goal
+use Rattle.map_run.proofs.command.read_command.Goals.{then-words-lt2, else-words-lt2+else-words-lt3, in_default-words-via-then-words-lt5, in_default-words-via-else-words-lt5+else-words-lt6}
 
-bytes : (words : List (String Global)) (a b c d e : String Global) → words ≡ a ∷ b ∷ c ∷ d ∷ e ∷ []
-    → map string_bytes words ≡ string_bytes a ∷ string_bytes b ∷ string_bytes c ∷ string_bytes d ∷ string_bytes e ∷ []
-bytes words a b c d e are = ap (map string_bytes) are
+-- the words, where they are five
+words-5 : (ws : List (String Global)) (a b c d e : String Global) (p q r s t : List ℕ) → length ws ≡ 5 → a ≡ get_or ws 0 a → b ≡ get_or ws 1 b → c ≡ get_or ws 2 c
+    → d ≡ get_or ws 3 d → e ≡ get_or ws 4 e → p ≡ string_bytes a → q ≡ string_bytes b → r ≡ string_bytes c → s ≡ string_bytes d → t ≡ string_bytes e
+    → map string_bytes ws ≡ p ∷ q ∷ r ∷ s ∷ t ∷ []
+words-5 ws a b c d e p q r s t len h i j k l u v w x y = let are = ap (map string_bytes) (five ws a b c d e len h i j k l) in cc
 
-low : (dimension : Dimension) → 2 ≤ number dimension
-low Two = lit≤ tt
-low Three = lit≤ tt
-low Four = lit≤ tt
+-- the words, where they are two
+words-2 : (ws : List (String Global)) (a b : String Global) (p q : List ℕ) → length ws ≡ 2 → a ≡ get_or ws 0 a → b ≡ get_or ws 1 b → p ≡ string_bytes a → q ≡ string_bytes b
+    → map string_bytes ws ≡ p ∷ q ∷ []
+words-2 ws a b p q len h i u v = let are = ap (map string_bytes) (two ws a b len h i) in cc
 
-high : (dimension : Dimension) → number dimension ≤ 4
-high Two = lit≤ tt
-high Three = lit≤ tt
-high Four = lit≤ tt
-
-pub returns-then-ne-clause-none : goal.returns-then-ne-clause-none
-returns-then-ne-clause-none c =
+pub returns-in-len2-clause-none : goal.returns-in-len2-clause-none
+returns-in-len2-clause-none c =
     let ws = c.args.words.now in
-    let len : length ws ≡ 5 = omega arith in
-    let are = bytes ws c.run-item.result c.kind-item.result c.dimension-item.result c.mesh-item.result c.script-item.result
-    (five ws c.run-item.result c.kind-item.result c.dimension-item.result c.mesh-item.result c.script-item.result len c.run-item.is c.kind-item.is c.dimension-item.is c.mesh-item.is c.script-item.is) in
-    let differ : c.as_str.result.now ≢ codes "run" = search rules in
-    (λ _. not_run (map string_bytes ws) (string_bytes c.run-item.result) (string_bytes c.kind-item.result) (string_bytes c.dimension-item.result) (string_bytes c.mesh-item.result) (string_bytes c.script-item.result) are (λ is. differ (c.as_str.ensures.value ∙ is)), λ _. refl)
+    let len : length ws ≡ 2 = omega arith in
+    let are = words-2 ws c.audit-item.result c.listing-item.result c.as_str.result.now c.as_str-in-len2.result.now len c.audit-item.is c.listing-item.is c.as_str.ensures.value c.as_str-in-len2.ensures.value in
+    rw are c.read_audit.ensures.none
 
-pub returns-in_err-kind-clause-none : goal.returns-in_err-kind-clause-none
-returns-in_err-kind-clause-none c =
+pub returns-in-len2-clause-told : goal.returns-in-len2-clause-told
+returns-in-len2-clause-told c =
     let ws = c.args.words.now in
-    let len : length ws ≡ 5 = omega arith in
-    let are = bytes ws c.run-item.result c.kind-item.result c.dimension-item.result c.mesh-item.result c.script-item.result
-    (five ws c.run-item.result c.kind-item.result c.dimension-item.result c.mesh-item.result c.script-item.result len c.run-item.is c.kind-item.is c.dimension-item.is c.mesh-item.is c.script-item.is) in
-    let none = rw c.in_err-kind.was at c.read_kind.ensures in (
-      λ _. not_lettered (map string_bytes ws) (string_bytes c.run-item.result) (string_bytes c.kind-item.result) (string_bytes c.dimension-item.result) (string_bytes c.mesh-item.result) (string_bytes c.script-item.result) are (λ k is. none k (c.as_str-2.ensures.value ∙ is)),
-      λ _. rw c.from_residual.ensures refl,
+    let len : length ws ≡ 2 = omega arith in
+    let are = words-2 ws c.audit-item.result c.listing-item.result c.as_str.result.now c.as_str-in-len2.result.now len c.audit-item.is c.listing-item.is c.as_str.ensures.value c.as_str-in-len2.ensures.value in
+    rw are c.read_audit.ensures.told
+
+pub returns-in_default-words-clause-none : goal.returns-in_default-words-clause-none
+returns-in_default-words-clause-none c =
+    let ws = c.args.words.now in
+    let long = length-map ws (λ (word : String Global). string_bytes word) in (
+      λ _. not_counted (map string_bytes ws)
+          (λ e. elim c.in_default-words.branch [
+            | in_default-words-via-then-words-lt5 w ↦ grind (arith, e, long)
+            | in_default-words-via-else-words-lt5+else-words-lt6 w ↦ grind (arith, e, long)
+          ])
+          (λ e. elim c.if-words-lt2.branch [
+            | then-words-lt2 w ↦ grind (arith, e, long)
+            | else-words-lt2+else-words-lt3 w ↦ grind (arith, e, long)
+          ]),
+      λ _. refl,
     )
 
-pub returns-in_err-dimension-clause-none : goal.returns-in_err-dimension-clause-none
-returns-in_err-dimension-clause-none c =
+pub returns-in_err-command-clause-none : goal.returns-in_err-command-clause-none
+returns-in_err-command-clause-none c =
     let ws = c.args.words.now in
     let len : length ws ≡ 5 = omega arith in
-    let are = bytes ws c.run-item.result c.kind-item.result c.dimension-item.result c.mesh-item.result c.script-item.result
-    (five ws c.run-item.result c.kind-item.result c.dimension-item.result c.mesh-item.result c.script-item.result len c.run-item.is c.kind-item.is c.dimension-item.is c.mesh-item.is c.script-item.is) in
-    let none = rw c.in_err-dimension.was at c.read_dimension.ensures in (
-      λ _. not_numbered (map string_bytes ws) (string_bytes c.run-item.result) (string_bytes c.kind-item.result) (string_bytes c.dimension-item.result) (string_bytes c.mesh-item.result) (string_bytes c.script-item.result) are (λ n least most is. none n least most (c.as_str-3.ensures.value ∙ is)),
-      λ _. rw c.from_residual-in_err-dimension.ensures refl,
-    )
+    let are = words-5 ws c.run-item.result c.kind-item.result c.dimension-item.result c.mesh-item.result c.script-item.result
+    c.as_str-2.result.now c.as_str-3.result.now c.as_str-4.result.now c.as_str-5.result.now c.as_str-6.result.now len c.run-item.is c.kind-item.is c.dimension-item.is c.mesh-item.is c.script-item.is
+    c.as_str-2.ensures.value c.as_str-3.ensures.value c.as_str-4.ensures.value c.as_str-5.ensures.value c.as_str-6.ensures.value in
+    rw are (λ _. c.in_err-command.ensures.none.0 refl, λ _. rw c.from_residual.ensures refl)
 
 pub returns-clause-none : goal.returns-clause-none
 returns-clause-none c =
     let ws = c.args.words.now in
     let len : length ws ≡ 5 = omega arith in
-    let are = bytes ws c.run-item.result c.kind-item.result c.dimension-item.result c.mesh-item.result c.script-item.result
-    (five ws c.run-item.result c.kind-item.result c.dimension-item.result c.mesh-item.result c.script-item.result len c.run-item.is c.kind-item.is c.dimension-item.is c.mesh-item.is c.script-item.is) in
-    let k : MapKind = c.in_ok-kind.kind in
-    let lettered = rw c.in_ok-kind.was at c.read_kind.ensures in
-    let n : Dimension = c.in_ok-dimension.dimension in
-    let is = rw c.in_ok-dimension.was at c.read_dimension.ensures in
-    let named = c.read_mesh.ensures in
-    let run : c.as_str.result.now ≡ codes "run" = search rules in
-    let told = as_told (map string_bytes ws) (string_bytes c.run-item.result) (string_bytes c.kind-item.result) (string_bytes c.dimension-item.result) (string_bytes c.mesh-item.result) (string_bytes c.script-item.result) (kind_of k) (number n) (mesh_name c.read_mesh.result) are
-    (sym c.as_str.ensures.value ∙ run) (sym c.as_str-2.ensures.value ∙ lettered) (named.0 ∙ c.as_str-4.ensures.value, named.1) (sym c.as_str-3.ensures.value ∙ is) (low n) (high n) in
-    (λ e. absurd (true≢false e), λ nothing. absurd (nothing (RunScript (kind_of k) (number n) (mesh_name c.read_mesh.result) (string_bytes c.script-item.result)) told))
+    let are = words-5 ws c.run-item.result c.kind-item.result c.dimension-item.result c.mesh-item.result c.script-item.result
+    c.as_str-2.result.now c.as_str-3.result.now c.as_str-4.result.now c.as_str-5.result.now c.as_str-6.result.now len c.run-item.is c.kind-item.is c.dimension-item.is c.mesh-item.is c.script-item.is
+    c.as_str-2.ensures.value c.as_str-3.ensures.value c.as_str-4.ensures.value c.as_str-5.ensures.value c.as_str-6.ensures.value in
+    (λ e. absurd (true≢false e), λ nothing. absurd (nothing (run_of c.in_ok-command.command) (rw are c.in_ok-command.ensures.told)))
 
 pub returns-clause-told : goal.returns-clause-told
 returns-clause-told c =
     let ws = c.args.words.now in
     let len : length ws ≡ 5 = omega arith in
-    let are = bytes ws c.run-item.result c.kind-item.result c.dimension-item.result c.mesh-item.result c.script-item.result
-    (five ws c.run-item.result c.kind-item.result c.dimension-item.result c.mesh-item.result c.script-item.result len c.run-item.is c.kind-item.is c.dimension-item.is c.mesh-item.is c.script-item.is) in
-    let k : MapKind = c.in_ok-kind.kind in
-    let lettered = rw c.in_ok-kind.was at c.read_kind.ensures in
-    let n : Dimension = c.in_ok-dimension.dimension in
-    let is = rw c.in_ok-dimension.was at c.read_dimension.ensures in
-    let named = c.read_mesh.ensures in
-    let run : c.as_str.result.now ≡ codes "run" = search rules in
-    let told = as_told (map string_bytes ws) (string_bytes c.run-item.result) (string_bytes c.kind-item.result) (string_bytes c.dimension-item.result) (string_bytes c.mesh-item.result) (string_bytes c.script-item.result) (kind_of k) (number n) (mesh_name c.read_mesh.result) are
-    (sym c.as_str.ensures.value ∙ run) (sym c.as_str-2.ensures.value ∙ lettered) (named.0 ∙ c.as_str-4.ensures.value, named.1) (sym c.as_str-3.ensures.value ∙ is) (low n) (high n) in
-    rw c.as_str-5.ensures.value told
+    let are = words-5 ws c.run-item.result c.kind-item.result c.dimension-item.result c.mesh-item.result c.script-item.result
+    c.as_str-2.result.now c.as_str-3.result.now c.as_str-4.result.now c.as_str-5.result.now c.as_str-6.result.now len c.run-item.is c.kind-item.is c.dimension-item.is c.mesh-item.is c.script-item.is
+    c.as_str-2.ensures.value c.as_str-3.ensures.value c.as_str-4.ensures.value c.as_str-5.ensures.value c.as_str-6.ensures.value in
+    rw are c.in_ok-command.ensures.told

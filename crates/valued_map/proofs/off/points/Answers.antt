@@ -1,12 +1,9 @@
-use Rattle.std.proofs.Common.{◌≡◌, ℕ, ◌∙◌, List, map, subst, sym, ap, lit<, arith}
+use Rattle.std.proofs.Common.{◌≡◌, ◌∙◌, List, map, subst, sym, ap}
 use Rattle.std.specs.List.Sorted.{IsStrictlyIncreasing}
 use Rattle.std.proofs.lemmas.Result.{IfOk-weaker}
-use Rattle.map_defs.specs.Rows.{Rows}
 use Rattle.map_defs.specs.Values.{Place}
 use Rattle.machine_defs.specs.Listing.{ListValue}
-use Rattle.label_laws.specs.Lists.{IsNamed}
 use Rattle.label_laws.specs.Stored.{stored_value}
-use Rattle.label_laws.proofs.ListedValues.{listed-none}
 use Rattle.off_text.specs.MapViews.{placed}
 use Rattle.valued_map.proofs.MeshPoints.{place_of, points-rise, points-placed}
 use Rattle.valued_map.proofs.off.points.Goals as goal

@@ -1,9 +1,9 @@
-use Rattle.std.proofs.Common.{◌≡◌, ℕ, ◌<◌, refl, List, take, arith, Result, Ok, Err, MatchResult}
+use Rattle.std.proofs.Common.{ℕ, refl, List, take, arith, Result, Ok, Err, MatchResult}
 use Rattle.std.specs.Prelude.{IsOk}
 use Rattle.std.specs.Str.{IsUtf8}
 use Rattle.std.proofs.lemmas.Bool.{and_parts}
 use Rattle.std.proofs.lemmas.Bool.Decides.{nat_tests}
-use Rattle.machine_defs.specs.Script.{is_name, is_name_byte}
+use Rattle.machine_defs.specs.Script.{is_name_byte}
 use Rattle.text_words.proofs.AsciiText.{IsUtf8-all}
 use Rattle.list_text.proofs.name.MarkName.as_str.Goals as goal
 

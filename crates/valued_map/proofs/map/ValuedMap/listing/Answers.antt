@@ -1,4 +1,4 @@
-use Rattle.std.proofs.Common.{ℕ, List, ◌≡◌, ap, sym}
+use Rattle.std.proofs.Common.{ℕ, ap, sym}
 use Rattle.map_defs.specs.Kind.{Kind}
 use Rattle.map_defs.specs.Rows.{Rows, made}
 use Rattle.machine_defs.specs.Listing.{Listing, live_rows_from, rules_from}

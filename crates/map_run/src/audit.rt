@@ -1,0 +1,120 @@
+//! The audit of a listing: it is read and written again, with the counts of its map.
+ghost use Rattle.std.specs.Prelude.{◌≡◌, ◌≢◌, ◌≤◌, ℕ, List, Some, Result, length, IfOk, IsErrOf};
+ghost use Rattle.machine_defs.specs.Outside.{Files, Rose};
+ghost use Rattle.machine_defs.specs.Program.{TellsCommand, Audit};
+ghost use Rattle.machine_defs.specs.Text.{replies_text};
+ghost use Rattle.map_defs.specs.Values.{Meaning};
+ghost use Rattle.map_io.specs.Cause.{HasCause};
+ghost use Rattle.text_lines.specs.Writing.{WritesText};
+ghost use Rattle.map_run.specs.Ending.{EndsCall};
+ghost use Rattle.map_run.specs.Audits.{line_of, shows, IsCounted, status_of, EndsAudit};
+
+use crate::last::{write_last, write_unfetched};
+use list_text::{
+    LISTING_MAX, ListFault, ListWhat, Listing, listing_counts, put_listing, read_listing,
+};
+use map_io::{PutFault, Shelf, Sink};
+use script_text::Reply;
+use std::alloc::{AllocError, Global};
+use text_lines::{append_spaced, put_line};
+
+/// Fetches a listing and writes it again with the counts of its map; or writes the line that says why it was not fetched, or
+/// what its first fault is. Answers the status.
+pub fn audit<F: Shelf, S: Sink>(alloc: Global, name: &str, shelf: &mut F, out: &mut S) -> u8
+    requires asked { F.may_ask shelf.old name.now }
+    ensures outcome { (hook : Meaning) (words : List (List ℕ)) (files : Files) → TellsCommand words (Audit name.now)
+        → F.holds shelf.old ≡ Some files →
+        EndsCall hook (S.written out.old) (S.written out.new) words files
+        (Rose (F.faults shelf.old) (F.faults shelf.new)) (Rose (S.faults out.old) (S.faults out.new)) result }
+    ensures command { result ≢ 2 }
+    ensures range { result ≤ 7 }
+    ensures unread { result ≡ 5 → Rose (F.faults shelf.old) (F.faults shelf.new) }
+    ensures unwritten { result ≡ 6 → Rose (S.faults out.old) (S.faults out.new) }
+    ensures later { S.faults out.old ≤ S.faults out.new }
+{
+    match shelf.fetch(alloc, name, LISTING_MAX) {
+        Ok(bytes) => audit_bytes(alloc, &bytes, out),
+        Err(fault) => write_unfetched(out, fault),
+    }
+}
+
+/// The audit of the bytes of a listing.
+fn audit_bytes<S: Sink>(alloc: Global, bytes: &[u8], out: &mut S) -> u8
+    requires { length bytes.now ≤ LISTING_MAX }
+    ensures ends { EndsAudit bytes.now (Rose (S.faults out.old) (S.faults out.new)) (S.written out.old) (S.written out.new) result }
+    ensures unwritten { result ≡ 6 → Rose (S.faults out.old) (S.faults out.new) }
+    ensures later { S.faults out.old ≤ S.faults out.new }
+    ensures command { result ≢ 2 }
+    ensures unread { result ≢ 5 }
+    ensures range { result ≤ 7 }
+{
+    match read_counted(alloc, bytes) {
+        Ok((listing, counts)) => put_status(put_audit(alloc, &listing, counts, out)),
+        Err(fault) => refuse_listing(alloc, out, fault),
+    }
+}
+
+/// The listing that a text tells, and the counts of its map.
+fn read_counted(alloc: Global, bytes: &[u8]) -> Result<(Listing, Vec<u64>), ListFault>
+    requires { length bytes.now ≤ LISTING_MAX }
+    ensures { IsCounted bytes.now result }
+{
+    let listing = read_listing(alloc, bytes)?;
+    let counts = listing_counts(alloc, &listing)?;
+    Ok((listing, counts))
+}
+
+/// Writes a listing, and then the counts of its map.
+fn put_audit<S: Sink>(
+    alloc: Global,
+    listing: &Listing,
+    counts: Vec<u64>,
+    out: &mut S,
+) -> Result<(), PutFault>
+    ensures written { WritesText (S.written out.old) (S.written out.new) result (replies_text (shows listing.now counts.items)) }
+    ensures cause { HasCause (S.faults out.old) (S.faults out.new) (IsErrOf result PutFault.Failed) }
+{
+    put_listing(alloc, out, listing)?;
+    put_line(alloc, out, &Reply::Count(counts))
+}
+
+/// The status of an audit whose text was written, or cut short.
+fn put_status(put: Result<(), PutFault>) -> u8
+    ensures { result ≡ status_of put }
+{
+    match put {
+        Ok(()) => 0,
+        Err(PutFault::Failed) => 6,
+        Err(PutFault::NoMemory) => 7,
+    }
+}
+
+/// Writes the line that says what the first fault of a listing is, and answers the status.
+fn refuse_listing<S: Sink>(alloc: Global, out: &mut S, fault: ListFault) -> u8
+    ensures ends { (bytes : List ℕ) → IsCounted bytes (Result.Err fault) →
+        EndsAudit bytes (Rose (S.faults out.old) (S.faults out.new)) (S.written out.old) (S.written out.new) result }
+    ensures unwritten { result ≡ 6 → Rose (S.faults out.old) (S.faults out.new) }
+    ensures later { S.faults out.old ≤ S.faults out.new }
+    ensures range { (3 ≤ result) × (result ≤ 7) }
+    ensures unread { result ≢ 5 }
+{
+    match fault_text(alloc, fault) {
+        Ok(line) => write_last(out, line.as_slice(), 3),
+        Err(_) => 7,
+    }
+}
+
+/// The line of a fault, with its line feed. Want of memory has none.
+fn fault_text(alloc: Global, fault: ListFault) -> Result<Vec<u8>, AllocError>
+    ensures { IfOk result (λ line. line_of fault ≡ Some line.items) }
+{
+    let ListFault::Bad { line, what } = fault else {
+        return Err(AllocError);
+    };
+    let mut text = Vec::from_slice(alloc, b"listing line")?;
+    append_spaced(&mut text, line)?;
+    text.push(b' ')?;
+    text.extend_from_slice(what.name().as_bytes())?;
+    text.push(b'\n')?;
+    Ok(text)
+}
