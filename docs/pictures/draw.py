@@ -241,6 +241,7 @@ ROWS = [
         ("rows", ["cell_walk", "link_rows", "dart_arena", "map_kind"]),
     ]),
     ("laws", [
+        ("texts", ["off_laws", "listing_laws"]),
         ("the machine", ["answer_laws", "trail_laws", "label_laws", "machine_laws", "loading_laws", "journal_laws"]),
         ("maps, meshes", ["back_laws", "center_laws", "dual_laws", "remove_laws", "insert_laws"]),
         ("and values", ["value_laws", "reading_laws", "mesh_laws", "edit_laws", "link_laws"]),
