@@ -1,5 +1,6 @@
 -- Each check fails or passes, so a line has an answer where its effect has one.
 use Rattle.std.proofs.Common.{◌⊎◌, List, [], ◌∷◌, refl, inl, inr}
+use Rattle.map_defs.specs.Values.{Hook}
 use Rattle.machine_defs.specs.State.{State}
 use Rattle.machine_defs.specs.Script as says
 use Rattle.machine_defs.specs.Script.{Line}
@@ -24,34 +25,34 @@ if-decided P = either_way P
 unless-decided : (P : Type 0) → NotNot ((P → ⊥) ⊎ P)
 unless-decided P never = either_way P (λ c. elim c [ inl p ↦ never (inr p) | inr n ↦ never (inl n) ])
 
-pub decided : (s : State) (line : Line) → AreDecided (checks s line)
-decided s (says.Polygon sides) = (if-decided _, (if-decided _, tt))
-decided s says.Dart = (if-decided _, tt)
-decided s (says.Del d) = (unless-decided _, (unless-decided _, tt))
-decided s (says.Sew i d e) = (if-decided _, (unless-decided _, (unless-decided _, (unless-decided _, (unless-decided _, tt)))))
-decided s (says.Unsew i d) = (if-decided _, (unless-decided _, (if-decided _, tt)))
-decided s (says.Vertex d) = (unless-decided _, (if-decided _, tt))
-decided s (says.Edge d e) = (unless-decided _, (unless-decided _, (unless-decided _, (if-decided _, (unless-decided _, (if-decided _, tt))))))
-decided s (says.Face path) = (if-decided _, (unless-decided _, (unless-decided _, (unless-decided _, (unless-decided _, (if-decided _, tt))))))
-decided s (says.Remove i d) = (if-decided _, (unless-decided _, (unless-decided _, tt)))
-decided s (says.Contract i d) = (if-decided _, (unless-decided _, (unless-decided _, tt)))
-decided s says.Dual = (unless-decided _, tt)
-decided s (says.Rule i merge split) = (if-decided _, (unless-decided _, tt))
-decided s (says.Set i d value) = (if-decided _, (unless-decided _, (if-decided _, tt)))
-decided s (says.Clear i d) = (if-decided _, (unless-decided _, (if-decided _, tt)))
-decided s (says.Mark name) = (if-decided _, tt)
-decided s (says.Undo name) = (unless-decided _, tt)
-decided s (says.Log name) = (unless-decided _, tt)
-decided s (says.Value i d) = (if-decided _, (unless-decided _, tt))
-decided s (says.Cell i d) = (if-decided _, (unless-decided _, tt))
-decided s (says.Same i d e) = (if-decided _, (unless-decided _, (unless-decided _, tt)))
-decided s (says.Free i d) = (if-decided _, (unless-decided _, tt))
-decided s (says.Removable i d) = (if-decided _, (unless-decided _, tt))
-decided s (says.Contractible i d) = (if-decided _, (unless-decided _, tt))
-decided s (says.Sewable i d e) = (if-decided _, (unless-decided _, (unless-decided _, tt)))
-decided s says.Count = tt
-decided s says.Show = tt
-decided s says.Off = (if-decided _, (if-decided _, (if-decided _, tt)))
+pub decided : (hook : Hook) (s : State) (line : Line) → AreDecided (checks hook s line)
+decided hook s (says.Polygon sides) = (if-decided _, (if-decided _, tt))
+decided hook s says.Dart = (if-decided _, tt)
+decided hook s (says.Del d) = (unless-decided _, (unless-decided _, tt))
+decided hook s (says.Sew i d e) = (if-decided _, (unless-decided _, (unless-decided _, (unless-decided _, (unless-decided _, tt)))))
+decided hook s (says.Unsew i d) = (if-decided _, (unless-decided _, (if-decided _, tt)))
+decided hook s (says.Vertex d) = (unless-decided _, (if-decided _, tt))
+decided hook s (says.Edge d e) = (unless-decided _, (unless-decided _, (unless-decided _, (if-decided _, (unless-decided _, (if-decided _, tt))))))
+decided hook s (says.Face path) = (if-decided _, (unless-decided _, (unless-decided _, (unless-decided _, (unless-decided _, (if-decided _, tt))))))
+decided hook s (says.Remove i d) = (if-decided _, (unless-decided _, (unless-decided _, tt)))
+decided hook s (says.Contract i d) = (if-decided _, (unless-decided _, (unless-decided _, tt)))
+decided hook s says.Dual = (unless-decided _, tt)
+decided hook s (says.Rule i merge split) = (if-decided _, (unless-decided _, tt))
+decided hook s (says.Set i d value) = (if-decided _, (unless-decided _, (if-decided _, tt)))
+decided hook s (says.Clear i d) = (if-decided _, (unless-decided _, (if-decided _, tt)))
+decided hook s (says.Mark name) = (if-decided _, tt)
+decided hook s (says.Undo name) = (unless-decided _, tt)
+decided hook s (says.Log name) = (unless-decided _, tt)
+decided hook s (says.Value i d) = (if-decided _, (unless-decided _, tt))
+decided hook s (says.Cell i d) = (if-decided _, (unless-decided _, tt))
+decided hook s (says.Same i d e) = (if-decided _, (unless-decided _, (unless-decided _, tt)))
+decided hook s (says.Free i d) = (if-decided _, (unless-decided _, tt))
+decided hook s (says.Removable i d) = (if-decided _, (unless-decided _, tt))
+decided hook s (says.Contractible i d) = (if-decided _, (unless-decided _, tt))
+decided hook s (says.Sewable i d e) = (if-decided _, (unless-decided _, (unless-decided _, tt)))
+decided hook s says.Count = tt
+decided hook s says.Show = tt
+decided hook s says.Off = (if-decided _, (if-decided _, (if-decided _, tt)))
 
 pub judged_found : (s : State) (effect : Reply → State → Type 0) (list : List Check) → AreDecided list → (AllPass list → NotNot (Has effect)) → NotNot (Has (Judged s list effect))
 judged_found s effect [] d found never = found tt never

@@ -6,7 +6,7 @@ use Rattle.map_defs.specs.Links.{Links}
 use Rattle.map_defs.specs.Rows.{made, IsLive}
 use Rattle.map_defs.specs.Polygon.{per_side}
 use Rattle.map_defs.specs.Cells.{InCell}
-use Rattle.map_defs.specs.Values.{Meaning, Value, Rule}
+use Rattle.map_defs.specs.Values.{Hook, Value, Rule}
 use Rattle.map_defs.specs.RuleNames.{named_merge, named_split}
 use Rattle.map_defs.specs.Sewing.{IsSewable}
 use Rattle.map_defs.specs.Removal.{IsRemovable}
@@ -45,7 +45,7 @@ some-is (Some x) h = (x, refl)
 gives : (answer : Reply) (next : State) → NotNot (Has (Gives answer next))
 gives answer next never = never (answer, next, (refl, refl))
 
-module _ (hook : Meaning) (s : State) (kept : IsLawfulState s) where
+module _ (hook : Hook) (s : State) (kept : IsLawfulState s) where
   abbrev c : Content
   c = s.present
 
@@ -83,7 +83,7 @@ module _ (hook : Meaning) (s : State) (kept : IsLawfulState s) where
     logged never = differences_found (since s mark) since-follows since-begun (λ steps.
         never (Logged steps.0, s, (k, mark, is, (steps.0, steps.1, refl, refl))))
 
-  pub effect_found : (line : Line) → AnswerNeeds line s → AllPass (checks s line) → NotNot (Has (Effect hook s line))
+  pub effect_found : (line : Line) → AnswerNeeds line s → AllPass (checks hook s line) → NotNot (Has (Effect hook s line))
   effect_found (says.Polygon sides) needs p = gives (Done (made c.rows + 1) (per_side c.kind * sides)) (steps_to s (with_polygon c sides))
   effect_found says.Dart needs p = gives (Done (made c.rows + 1) 1) (steps_to s (with_dart c))
   effect_found (says.Del d) needs p = gives (Done 0 0) (steps_to s (without_dart c d))
@@ -97,8 +97,8 @@ module _ (hook : Meaning) (s : State) (kept : IsLawfulState s) where
   effect_found (says.Contract i d) needs p = changes _ _ (contracted_found c kept.present d (dart d p.1.0) hook i (not-above p.0) p.1.1.0)
   effect_found says.Dual needs p = λ never. let dual = dual_found c kept.present in never (Done 0 0, steps_to s dual.0, (dual.0, dual.1, refl, refl))
   effect_found (says.Rule i merge split) needs p = λ never.
-      let m = some-is (named_merge merge) p.1.0.0 in
-      let q = some-is (named_split split) p.1.0.1 in
+      let m = some-is (named_merge hook.names merge) p.1.0.0 in
+      let q = some-is (named_split hook.names split) p.1.0.1 in
       let rule : Rule = record { merge = m.0; split = q.0 } in
       never (Done 0 0, steps_to s (with_rule c i rule), (m.0, q.0, m.1, q.1, (refl, refl)))
   effect_found (says.Set i d value) needs p = values i d (Some value) (not-above p.0) p.1.0

@@ -8,7 +8,7 @@ use Rattle.map_defs.specs.Cells.{InCell}
 use Rattle.map_defs.specs.Births.{IsNumbered}
 use Rattle.map_defs.specs.Insertion.{NoPairs, AlphaEdgeDarts, AlphaEdgePairs, BetaEdgeLeads, FaceDarts, FacePairs, IsClosedPath, IsFacePaired, IsFace}
 use Rattle.map_defs.specs.Inserting.{VertexDarts, IsVertex, InCorner, EdgeDarts, AreEdgePaired, IsEdge}
-use Rattle.map_defs.specs.Values.{Meaning}
+use Rattle.map_defs.specs.Values.{Hook}
 use Rattle.machine_defs.specs.State.{Content}
 use Rattle.machine_defs.specs.Kept.{IsLawfulContent}
 use Rattle.machine_defs.specs.Relinking.{NoDart, IsGrown}
@@ -58,7 +58,7 @@ module _ (c : Content) (kept : IsLawfulContent c) where
   abbrev w : Laws c.kind L
   w = laws-of c kept
 
-  module _ (hook : Meaning) where
+  module _ (hook : Hook) where
     abbrev HasContent : (ℕ → Type 0) → ((ℕ → ℕ) → Links → Type 0) → Type 0
     HasContent K Becomes = NotNot ((births : ℕ) × (next : Content) × IsGrown hook c K Becomes births next)
 

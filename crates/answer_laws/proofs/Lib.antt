@@ -22,4 +22,5 @@ pub mod GrownFound
 pub mod EffectFound
 pub mod RunFound
 pub mod AuditFound
+pub mod SoakFound
 pub mod ProgramFound

@@ -2,7 +2,7 @@
 use Rattle.std.proofs.Common.{◌≡◌, ◌≢◌, ◌⊎◌, ℕ, ◌+◌, ◌<◌, ◌≤◌, length, refl, sym, ap, ◌∙◌, subst, inl, inr, arith}
 use Rattle.std.proofs.lemmas.Bool.{cases_lt}
 use Rattle.map_defs.specs.Links.{Links, IsTurned, HasDimension}
-use Rattle.map_defs.specs.Values.{Meaning}
+use Rattle.map_defs.specs.Values.{Hook}
 use Rattle.machine_defs.specs.State.{Content}
 use Rattle.machine_defs.specs.Kept.{IsLawfulContent}
 use Rattle.machine_defs.specs.Relinking.{IsRelinked}
@@ -118,5 +118,5 @@ module _ (c : Content) (kept : IsLawfulContent c) (births : ℕ) (Ended : ℕ �
         )
 
   -- a content with links that are told
-  pub content_found : (hook : Meaning) (Becomes : Links → Type 0) (N : Links) → AreLinksAfter N → Becomes N → NotNot ((next : Content) × IsRelinked hook c births Ended Becomes next)
+  pub content_found : (hook : Hook) (Becomes : Links → Type 0) (N : Links) → AreLinksAfter N → Becomes N → NotNot ((next : Content) × IsRelinked hook c births Ended Becomes next)
   content_found hook Becomes N are becomes = relinked_found hook c kept births Ended Becomes N becomes are.high are.free

@@ -6,7 +6,7 @@ use Rattle.std.proofs.lemmas.List.Elements.{Contains-get_or}
 use Rattle.map_defs.specs.Links.{Links}
 use Rattle.map_defs.specs.Rows.{made, IsLive, links_of}
 use Rattle.map_defs.specs.Births.{IsNumbered, IsFresh}
-use Rattle.map_defs.specs.Values.{Meaning}
+use Rattle.map_defs.specs.Values.{Hook}
 use Rattle.machine_defs.specs.State.{Content}
 use Rattle.machine_defs.specs.Kept.{IsLawfulContent}
 use Rattle.machine_defs.specs.Relinking.{NoDart, IsGrown}
@@ -78,7 +78,7 @@ module _ (c : Content) (kept : IsLawfulContent c) (K : ℕ → Type 0) (live : (
         (inr (numbered_above K keys (made c.rows) star m z h, numbered_upto K keys (made c.rows) star m z h), λ none. none)
 
   -- Where the links of an insertion are found, its content is.
-  pub grown_found : (hook : Meaning) (Becomes : (ℕ → ℕ) → Links → Type 0)
+  pub grown_found : (hook : Hook) (Becomes : (ℕ → ℕ) → Links → Type 0)
       → ((keys : List ℕ) (star : ℕ → ℕ) → IsNumbered K keys (made c.rows) star → NotNot ((N : Links) × Becomes star N × AreLinksAfter c kept (length keys) NoDart N))
       → NotNot ((births : ℕ) × (next : Content) × IsGrown hook c K Becomes births next)
   grown_found hook Becomes links never = numbered_found (λ found. links found.0 found.1 found.2 (λ made_links.

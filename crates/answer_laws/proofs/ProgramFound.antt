@@ -3,7 +3,7 @@ use Rattle.std.proofs.Common.{◌≡◌, ℕ, ◌≤◌, List, length, Option, S
 use Rattle.std.specs.Prelude.{option_map}
 use Rattle.std.proofs.lemmas.Bool.{cases_lt}
 use Rattle.map_defs.specs.Kind.{Kind}
-use Rattle.map_defs.specs.Values.{Meaning}
+use Rattle.map_defs.specs.Values.{Hook}
 use Rattle.map_defs.specs.Off.{Mesh, TextFault, mesh_of}
 use Rattle.map_defs.specs.MeshMap.{MapFault, mesh_fault}
 use Rattle.machine_defs.specs.State.{State, empty_state}
@@ -12,7 +12,7 @@ use Rattle.machine_defs.specs.Script.{lines_of}
 use Rattle.machine_defs.specs.Text.{replies_text, any_refused}
 use Rattle.machine_defs.specs.Loading.{IsLoaded, first_state, refusal_line, text_fault_line, map_fault_line}
 use Rattle.machine_defs.specs.Outside.{Files, held}
-use Rattle.machine_defs.specs.Program.{Command, RunScript, Audit, IsOffered, TellsCommand, FileAnswer, ScriptAnswer, MeshAnswer, CommandAnswer, untold, told, Starts, usage, cannot_read, too_long, file_limit, run_status}
+use Rattle.machine_defs.specs.Program.{Command, RunScript, Audit, Soak, IsOffered, TellsCommand, FileAnswer, ScriptAnswer, MeshAnswer, CommandAnswer, untold, told, Starts, usage, cannot_read, too_long, file_limit, run_status}
 use Rattle.loading_laws.proofs.MeshContent.{has-map}
 use Rattle.machine_laws.specs.Tracing.{AreTraced}
 use Rattle.machine_laws.proofs.Begun.{empty-kept}
@@ -21,13 +21,14 @@ use Rattle.answer_laws.specs.Answering.{NotNot, HasAnswer, HasWhole}
 use Rattle.answer_laws.proofs.Choosing.{either_way}
 use Rattle.machine_defs.specs.Auditing.{AuditAnswer}
 use Rattle.answer_laws.proofs.AuditFound.{audit_found}
+use Rattle.answer_laws.proofs.SoakFound.{soak_found}
 use Rattle.answer_laws.proofs.RunFound.{run_found}
 
 -- there is such a text with its status
 abbrev HasText : (List ℕ → ℕ → Type 0) → Type 0
 HasText answer = (text : List ℕ) × (status : ℕ) × answer text status
 
-script_found : (hook : Meaning) (start : State) (script : List ℕ) → IsLawfulState start → AreTraced start → NotNot (HasText (ScriptAnswer hook start script))
+script_found : (hook : Hook) (start : State) (script : List ℕ) → IsLawfulState start → AreTraced start → NotNot (HasText (ScriptAnswer hook start script))
 script_found hook start script kept traced never = run_found hook start (lines_of script) kept traced (λ run.
     never (replies_text run.0, run_status (any_refused run.0), (run.0, run.1, run.2, refl, refl)))
 
@@ -39,7 +40,7 @@ file_found (Some bytes) read found = λ never. elim (cases_lt file_limit (length
   | inr short ↦ found bytes (λ answer. never (answer.0, answer.1, inr (short, answer.2)))
 ]
 
-module _ (hook : Meaning) (k : Kind) (n : ℕ) (flat : 2 ≤ n) (text script : List ℕ) where
+module _ (hook : Hook) (k : Kind) (n : ℕ) (flat : 2 ≤ n) (text script : List ℕ) where
   sound_found : (mesh : Mesh) → mesh_of text ≡ Ok mesh → (fault : Option MapFault) → mesh_fault k mesh ≡ fault → NotNot (HasText (MeshAnswer hook k n text script))
   sound_found mesh read (Some fault) e = λ never. never (map_fault_line fault, 3, inl (ap (refusal_line k) read ∙ ap (option_map map_fault_line) e, refl))
   sound_found mesh read None e = λ never.
@@ -52,20 +53,21 @@ module _ (hook : Meaning) (k : Kind) (n : ℕ) (flat : 2 ≤ n) (text script : L
   read_found (Err fault) e = λ never. never (text_fault_line fault, 3, inl (ap (refusal_line k) e, refl))
   read_found (Ok mesh) e = sound_found mesh e (mesh_fault k mesh) refl
 
-command_found : (hook : Meaning) (files : Files) (c : Command) → IsOffered c → NotNot (HasText (CommandAnswer hook files c))
+command_found : (hook : Hook) (files : Files) (c : Command) → IsOffered c → NotNot (HasText (CommandAnswer hook files c))
 command_found hook files (RunScript k n None script) offered =
     file_found (held files script) (ScriptAnswer hook (empty_state k n)) (λ bytes. script_found hook (empty_state k n) bytes (empty-kept k n offered.0) tt)
 command_found hook files (RunScript k n (Some name) script) offered =
     file_found (held files name) (λ mesh. FileAnswer (held files script) (MeshAnswer hook k n mesh))
     (λ mesh. file_found (held files script) (MeshAnswer hook k n mesh) (λ bytes. read_found hook k n offered.0 mesh bytes (mesh_of mesh) refl))
 command_found hook files (Audit listing) offered = file_found (held files listing) AuditAnswer audit_found
+command_found hook files (Soak kind seed count) offered = soak_found hook kind seed count
 
-pub answer_found : (hook : Meaning) (words : List (List ℕ)) (files : Files) → NotNot (HasAnswer hook words files)
+pub answer_found : (hook : Hook) (words : List (List ℕ)) (files : Files) → NotNot (HasAnswer hook words files)
 answer_found hook words files never = either_way ((c : Command) × TellsCommand words c) (λ known. elim known [
   | inl c ↦ command_found hook files c.0 c.1.0 (λ answer. never (answer.0, answer.1, told c.0 c.1 answer.2))
   | inr none ↦ never (usage, 2, untold (λ c tells. none (c, tells)) refl refl)
 ])
 
-pub whole_found : (hook : Meaning) (words : List (List ℕ)) (files : Files) (front : List ℕ) → Starts hook words files front → NotNot (HasWhole hook words files front)
+pub whole_found : (hook : Hook) (words : List (List ℕ)) (files : Files) (front : List ℕ) → Starts hook words files front → NotNot (HasWhole hook words files front)
 whole_found hook words files front starts never = answer_found hook words files (λ answer.
     never (answer.0, answer.1, answer.2, front-one hook words files front answer.0 answer.1 starts answer.2))

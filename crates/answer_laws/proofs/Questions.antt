@@ -15,7 +15,7 @@ use Rattle.map_defs.specs.Counts.{HasCount, AreCountsAmong, AreCounts}
 use Rattle.map_defs.specs.Values.{Value}
 use Rattle.map_defs.specs.Carry.{known}
 use Rattle.machine_defs.specs.State.{Content, State, value_at, HasPlaces}
-use Rattle.machine_defs.specs.Listing.{ListValue, ListsValues, IsBefore}
+use Rattle.machine_defs.specs.Listing.{ListValue, ListsValues, ListsValuesIn, IsBefore}
 use Rattle.machine_defs.specs.Text.{Truth}
 use Rattle.machine_defs.specs.Machine.{TellsWhether}
 use Rattle.link_laws.proofs.RowFacts.{rows_lead_to_live}
@@ -24,7 +24,7 @@ use Rattle.value_laws.proofs.Touching.{cell_live}
 use Rattle.journal_laws.proofs.ContentFacts.{value-above}
 use Rattle.answer_laws.specs.Answering.{NotNot}
 use Rattle.answer_laws.proofs.Choosing.{either_way, choose}
-use Rattle.answer_laws.proofs.Listed.{tabled, ascending}
+use Rattle.answer_laws.proofs.Listed.{tabled, keyed, ascending}
 use Rattle.answer_laws.proofs.Checked.{Has}
 
 pub tells_found : (s : State) (P : Type 0) → NotNot (Has (TellsWhether s P))
@@ -145,6 +145,25 @@ module _ (c : Content) (places : HasPlaces c) where
           members = λ v. (
             λ h. let a = (found.1.members v).0 h in told v a.0 a.2.0 a.2.2.0 a.2.2.1,
             λ h. (found.1.members v).1 (v.dim, dimension v.dim v.dart v.value h.0, (v.dart, dart v.dim v.dart v.value h.0, ((is-some _ v.value h.0, h.1), same v h.0))),
+          );
+          ordered = found.1.ordered;
+        },
+      ))
+
+  told-in : (v : ListValue) (i d : ℕ) → Names i d → v ≡ key i d → (v.dim ≡ i) × (value_at c i v.dart ≡ Some v.value) × NamesCell c.kind (links_of c.rows) i v.dart
+  unfolding key
+  told-in v i d names e = rw e (refl, some-known (value_at c i d) names.0, names.1)
+
+  -- the valued cells of one dimension
+  pub dimension_listed : (i : ℕ) → NotNot ((values : List ListValue) × ListsValuesIn c i values)
+  dimension_listed i never =
+      keyed IsBefore (Names i) (key i) (length c.rows) (along i) (λ found.
+      never (
+        found.0,
+        record {
+          members = λ v. (
+            λ h. let a = (found.1.members v).0 h in told-in v i a.0 a.2.0 a.2.1,
+            λ h. (found.1.members v).1 (v.dart, dart i v.dart v.value h.1, ((is-some _ v.value h.1, h.2), subst (λ (j : ℕ). v ≡ key j v.dart) h.0 (same v (rw h.0 h.1)))),
           );
           ordered = found.1.ordered;
         },

@@ -4,7 +4,7 @@ use Rattle.std.proofs.lemmas.Bool.{cases_lt}
 use Rattle.map_defs.specs.Links.{Links, HasDimension}
 use Rattle.map_defs.specs.Rows.{Rows, made, IsLive, links_of}
 use Rattle.map_defs.specs.Cells.{InCell}
-use Rattle.map_defs.specs.Values.{Value, Rule, Meaning, meaning_of}
+use Rattle.map_defs.specs.Values.{Value, Rule, Hook, meaning_of}
 use Rattle.map_defs.specs.Carry.{IsCarried, IsValuedWith, known}
 use Rattle.machine_defs.specs.State.{Content, value_at, rule_at, HasPlaces}
 use Rattle.machine_defs.specs.Kept.{IsLawfulContent}
@@ -21,17 +21,17 @@ abbrev pub LivesAfter : Content → ℕ → (ℕ → Type 0) → ℕ → Type 0
 LivesAfter c births Ended d = (IsLive c.rows d ⊎ ((made c.rows < d) × (d ≤ made c.rows + births))) × (Ended d → ⊥)
 
 -- a value that is carried to a dart of these rows
-CarriedTo : Meaning → Content → Rows → ℕ → ℕ → Option Rule → Option Value → Type 0
+CarriedTo : Hook → Content → Rows → ℕ → ℕ → Option Rule → Option Value → Type 0
 CarriedTo hook c rows i d None v = v ≡ None
 CarriedTo hook c rows i d (Some rule) v =
     IsCarried (meaning_of hook rule) (λ x. known (value_at c i x)) (λ x. IsLive c.rows x × IsLive rows x)
     (IsValuedWith c.kind i (links_of c.rows) (value_at c i)) (InCell c.kind (links_of rows) i) d v
 
 -- a dart that does not live has no value
-HasValue : Meaning → Content → Rows → ℕ → ℕ → Option Value → Type 0
+HasValue : Hook → Content → Rows → ℕ → ℕ → Option Value → Type 0
 HasValue hook c rows i d v = (IsLive rows d → CarriedTo hook c rows i d (rule_at c i) v) × ((IsLive rows d → ⊥) → v ≡ None)
 
-module _ (hook : Meaning) (c : Content) (rows : Rows) where
+module _ (hook : Hook) (c : Content) (rows : Rows) where
   carried_to : (i d : ℕ) (rule : Option Rule) → NotNot ((v : Option Value) × CarriedTo hook c rows i d rule v)
   unfolding CarriedTo
   carried_to i d None = λ never. never (None, refl)
@@ -54,7 +54,7 @@ module _ (hook : Meaning) (c : Content) (rows : Rows) where
       (λ i l. choose (HasValue hook c rows i) None (length rows) (λ d m. has_value i d))
       (λ found. never (found.0, λ i d l m. found.1 i (omega arith) d m))
 
-module _ (hook : Meaning) (c : Content) (kept : IsLawfulContent c) (births : ℕ) (Ended : ℕ → Type 0) (Becomes : Links → Type 0) (N : Links)
+module _ (hook : Hook) (c : Content) (kept : IsLawfulContent c) (births : ℕ) (Ended : ℕ → Type 0) (Becomes : Links → Type 0) (N : Links)
     (becomes : Becomes N) (high : HasDimension c.dim N) (free : (i d : ℕ) → (LivesAfter c births Ended d → ⊥) → N i d ≡ 0) where
   bound : (d : ℕ) → LivesAfter c births Ended d → d < length c.rows + births
   bound d (inl live, stays) = let l = live-within c.rows d live in omega arith

@@ -6,7 +6,7 @@ use Rattle.map_defs.specs.Laws.{Laws}
 use Rattle.map_defs.specs.Rows.{made, links_of}
 use Rattle.map_defs.specs.Cells.{InCell, here}
 use Rattle.map_defs.specs.Walks.{Walk}
-use Rattle.map_defs.specs.Values.{Meaning}
+use Rattle.map_defs.specs.Values.{Hook}
 use Rattle.map_defs.specs.Removal.{RunsTo, IsRemovable, IsRemoved, across_removed}
 use Rattle.map_defs.specs.Contraction.{IsContractible, IsContracted, across_contracted}
 use Rattle.machine_defs.specs.State.{Content}
@@ -66,10 +66,10 @@ module _ (c : Content) (kept : IsLawfulContent c) (d : ℕ) (dart : d ≢ 0) whe
       high-bridged c kept w (InCell beta L (suc (suc i)) d) (in-dart beta (suc (suc i))) (suc (suc i)) (omega arith) within (across_contracted beta L (suc (suc i)))
       (contraction-walks beta (suc (suc i)) w can) (closed i)
 
-  pub removed_found : (hook : Meaning) (i : ℕ) → i ≤ c.dim → IsRemovable c.kind L i d → NotNot ((next : Content) × IsRelinked hook c 0 (InCell c.kind L i d) (IsRemoved c.kind i d L) next)
+  pub removed_found : (hook : Hook) (i : ℕ) → i ≤ c.dim → IsRemovable c.kind L i d → NotNot ((next : Content) × IsRelinked hook c 0 (InCell c.kind L i d) (IsRemoved c.kind i d L) next)
   removed_found hook i within can never = removed-links c.kind (laws-of c kept) i within can (λ found.
       content_found c kept 0 (InCell c.kind L i d) hook (IsRemoved c.kind i d L) found.0 found.2 found.1 never)
 
-  pub contracted_found : (hook : Meaning) (i : ℕ) → i ≤ c.dim → IsContractible c.kind L i d → NotNot ((next : Content) × IsRelinked hook c 0 (InCell c.kind L i d) (IsContracted c.kind i d L) next)
+  pub contracted_found : (hook : Hook) (i : ℕ) → i ≤ c.dim → IsContractible c.kind L i d → NotNot ((next : Content) × IsRelinked hook c 0 (InCell c.kind L i d) (IsContracted c.kind i d L) next)
   contracted_found hook i within can never = contracted-links c.kind (laws-of c kept) i within can (λ found.
       content_found c kept 0 (InCell c.kind L i d) hook (IsContracted c.kind i d L) found.0 found.2 found.1 never)

@@ -4,7 +4,7 @@ use Rattle.map_defs.specs.Kind.{inverse}
 use Rattle.map_defs.specs.Rows.{IsLive, links_of}
 use Rattle.map_defs.specs.Pairs.{seed, turned, across}
 use Rattle.map_defs.specs.Sewing.{SewnPairs, IsSewn, IsFreed, IsUnsewn}
-use Rattle.map_defs.specs.Values.{Meaning}
+use Rattle.map_defs.specs.Values.{Hook}
 use Rattle.machine_defs.specs.State.{Content}
 use Rattle.machine_defs.specs.Kept.{IsLawfulContent}
 use Rattle.machine_defs.specs.Relinking.{IsRelinked, NoDart}
@@ -55,7 +55,7 @@ module _ (c : Content) (kept : IsLawfulContent c) where
       outside = λ t x dead. (λ z p. absurd (dead (stays x (pair-darts x z t p).0)), λ none. sym (dead-free t x (λ h. dead (stays x h))));
     }
 
-    pub sewn_found : (hook : Meaning) → NotNot ((next : Content) × IsRelinked hook c 0 NoDart (IsSewn c.kind i d e (links_of c.rows)) next)
+    pub sewn_found : (hook : Hook) → NotNot ((next : Content) × IsRelinked hook c 0 NoDart (IsSewn c.kind i d e (links_of c.rows)) next)
     unfolding Sewn
     sewn_found hook never = links_found c kept 0 NoDart Sewn sewn-tells (λ found.
         content_found c kept 0 NoDart hook (IsSewn c.kind i d e (links_of c.rows)) found.0 found.2
@@ -76,7 +76,7 @@ module _ (c : Content) (kept : IsLawfulContent c) where
       outside = λ t x dead. (λ f. refl, λ none. sym (dead-free t x (λ h. dead (stays x h))));
     }
 
-    pub unsewn_found : (hook : Meaning) → NotNot ((next : Content) × IsRelinked hook c 0 NoDart (IsUnsewn c.kind i d (links_of c.rows)) next)
+    pub unsewn_found : (hook : Hook) → NotNot ((next : Content) × IsRelinked hook c 0 NoDart (IsUnsewn c.kind i d (links_of c.rows)) next)
     unfolding Unsewn
     unsewn_found hook never = links_found c kept 0 NoDart Unsewn unsewn-tells (λ found.
         content_found c kept 0 NoDart hook (IsUnsewn c.kind i d (links_of c.rows)) found.0 found.2

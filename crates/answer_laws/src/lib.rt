@@ -9,7 +9,7 @@
 #![tactic(auto)]
 
 ghost use Rattle.std.specs.Prelude.{ℕ, List};
-ghost use Rattle.map_defs.specs.Values.{Meaning};
+ghost use Rattle.map_defs.specs.Values.{Hook};
 ghost use Rattle.machine_defs.specs.State.{State};
 ghost use Rattle.machine_defs.specs.Kept.{IsLawfulState};
 ghost use Rattle.machine_defs.specs.Script.{Line};
@@ -25,14 +25,14 @@ ghost use Rattle.answer_laws.specs.Answering.{NotNot, AnswerNeeds, HasStep, HasR
 /// For a reader of the machine's tables: they leave no line without a reply. Where a change of links is told there are rows
 /// with these links and values for all their cells, and no law of the machine holds only because a step is wanting.
 pub fn each_line_has_an_answer()
-    ensures { (hook : Meaning) (s : State) (line : Line) → IsLawfulState s → AnswerNeeds line s → NotNot (HasStep hook s line) }
+    ensures { (hook : Hook) (s : State) (line : Line) → IsLawfulState s → AnswerNeeds line s → NotNot (HasStep hook s line) }
 {}
 
 /// Each script has a run from each such state. The lines may be any, also such as are outside the grammar.
 ///
 /// For whoever speaks of the replies to a script: there are some.
 pub fn each_script_has_a_run()
-    ensures { (hook : Meaning) (s : State) (lines : List (List ℕ)) → IsLawfulState s → AreTraced s → NotNot (HasRun hook s lines) }
+    ensures { (hook : Hook) (s : State) (lines : List (List ℕ)) → IsLawfulState s → AreTraced s → NotNot (HasRun hook s lines) }
 {}
 
 /// The program has a text and a status for all words and files. Nothing is asked of them: words that tell no command, files
@@ -40,7 +40,7 @@ pub fn each_script_has_a_run()
 ///
 /// For whoever speaks of the program's text: there is one.
 pub fn each_program_has_an_answer()
-    ensures { (hook : Meaning) (words : List (List ℕ)) (files : Files) → NotNot (HasAnswer hook words files) }
+    ensures { (hook : Hook) (words : List (List ℕ)) (files : Files) → NotNot (HasAnswer hook words files) }
 {}
 
 /// A text with which the program's text starts, as `Starts` says it, goes on to a whole text: the program has a text and a
@@ -49,6 +49,6 @@ pub fn each_program_has_an_answer()
 /// For whoever reads an output that ends early, but for the line that a file cannot be read: `one_front` of `machine_laws`
 /// takes the text as given, and here there is one.
 pub fn what_was_written_goes_on()
-    ensures { (hook : Meaning) (words : List (List ℕ)) (files : Files) (front : List ℕ) → Starts hook words files front
+    ensures { (hook : Hook) (words : List (List ℕ)) (files : Files) (front : List ℕ) → Starts hook words files front
         → NotNot (HasWhole hook words files front) }
 {}

@@ -1,1 +1,4 @@
 pub mod Tables
+pub mod Padding
+pub mod Stored
+pub mod HookFacts

@@ -1,13 +1,18 @@
-//! How values merge and split: the table of rules, and the rule that a caller hands in beside it.
+//! How values merge and split: the tables of rules, and the rules that a caller hands in beside them.
 #![tactic(auto)]
 
-mod first_copy;
+mod hooked;
+mod name;
+mod named;
 mod numbers;
 mod rule;
 mod table;
 #[cfg(test)]
 mod tests;
 
-pub use first_copy::FirstCopy;
+pub use hooked::{HookName, Hooked, OrCopy};
+pub use name::RuleName;
+pub use named::{is_free_name, merge_beside, merge_listed, split_beside, split_listed};
+pub use numbers::dealt;
 pub use rule::{Hook, Rule, RuleWith};
 pub use table::{Merge, Split, TableRule, merge_named, split_named};

@@ -81,8 +81,9 @@ fn middle(x: i64, y: i64) -> i64
     (i128::from(x) + i128::from(y)).div_euclid(2) as i64
 }
 
-/// What piece `piece` of `pieces` gets where a number is dealt out.
-fn dealt(number: i64, pieces: u32, piece: u32) -> i64
+/// What piece `piece` of `pieces` gets where a number is dealt out: each gets the quotient, and the first ones, as many as
+/// the rest says, one more.
+pub fn dealt(number: i64, pieces: u32, piece: u32) -> i64
     requires { piece < pieces }
     ensures { result ≡ dealt pieces piece number }
 {

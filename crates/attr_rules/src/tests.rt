@@ -1,6 +1,9 @@
 ghost use Rattle.std.specs.Prelude.{◌<◌};
 
-use crate::{FirstCopy, Merge, Rule, RuleWith, Split, TableRule, merge_named, split_named};
+use crate::{
+    Hooked, Merge, OrCopy, Rule, RuleName, RuleWith, Split, TableRule, is_free_name, merge_listed,
+    merge_named, split_listed, split_named,
+};
 use map_kind::Value;
 use std::test::Fail;
 
@@ -13,7 +16,16 @@ fn merged(merge: Merge, x: Value, y: Value) -> Value {
         merge,
         split: Split::Copied,
     };
-    let hook = FirstCopy;
+    let hook = Hooked::<OrCopy, _, _>::new(
+        |x: Value, y: Value| {
+            Value {
+                a: x.a | y.a,
+                b: x.b | y.b,
+                c: x.c | y.c,
+            }
+        },
+        |value: Value, _pieces: u32, _piece: u32| Some(value),
+    );
     RuleWith { rule, hook: &hook }.merged(x, y)
 }
 
@@ -24,7 +36,16 @@ fn share(split: Split, v: Value, pieces: u32, piece: u32) -> Option<Value>
         merge: Merge::First,
         split,
     };
-    let hook = FirstCopy;
+    let hook = Hooked::<OrCopy, _, _>::new(
+        |x: Value, y: Value| {
+            Value {
+                a: x.a | y.a,
+                b: x.b | y.b,
+                c: x.c | y.c,
+            }
+        },
+        |value: Value, _pieces: u32, _piece: u32| Some(value),
+    );
     RuleWith { rule, hook: &hook }.share(v, pieces, piece)
 }
 
@@ -53,18 +74,57 @@ fn shares_among_pieces(rt: HostRuntime) -> Result<(), Fail> {
     assert_eq!(&rt; share(Split::Keep, v, 3, 0), Some(v));
     assert_eq!(&rt; share(Split::Keep, v, 3, 2), None);
     assert_eq!(&rt; share(Split::Copied, v, 3, 2), Some(v));
-    assert_eq!(&rt; FirstCopy.merged(v, value(0, 0, 0)), v);
-    assert_eq!(&rt; FirstCopy.share(v, 2, 1), Some(v));
     Ok(())
 }
 
 #[test]
 fn knows_the_names_of_the_table(rt: HostRuntime) -> Result<(), Fail> {
     assert_eq!(&rt; merge_named("median"), None);
-    assert_eq!(&rt; merge_named("host"), None);
+    assert_eq!(&rt; merge_named("host"), Some(Merge::Host));
     assert_eq!(&rt; merge_named("mid"), Some(Merge::Mid));
     assert_eq!(&rt; split_named("copied"), None);
     assert_eq!(&rt; split_named("copy"), Some(Split::Copied));
     assert_eq!(&rt; (Merge::Mid.name(), Split::Copied.name()), ("mid", "copy"));
+    Ok(())
+}
+
+#[test]
+fn asks_the_closures_that_are_stored(rt: HostRuntime) -> Result<(), Fail> {
+    let (x, y) = (value(5, -8, 1), value(6, 3, 1));
+    assert_eq!(&rt; merged(Merge::Host, x, y), value(7, -5, 1));
+    assert_eq!(&rt; share(Split::Host, x, 3, 2), Some(x));
+    Ok(())
+}
+
+#[test]
+fn names_rules(rt: HostRuntime) -> Result<(), Fail> {
+    let name = RuleName::new("x_or2").unwrap();
+    assert_eq!(&rt; name.as_str(), "x_or2");
+    assert_eq!(&rt; RuleName::new(""), None);
+    assert_eq!(&rt; RuleName::new("Xor"), None);
+    let longest = "a_name_of_32_bytes_with_digits_9";
+    assert_eq!(&rt; RuleName::new(longest).unwrap().as_str(), longest);
+    assert_eq!(&rt; RuleName::new("a_name_of_33_bytes_with_digits_99"), None);
+    assert_eq!(&rt; merge_listed("x_or2"), Some(Merge::Named(name)));
+    assert_eq!(&rt; split_listed("x_or2"), Some(Split::Named(name)));
+    assert_eq!(&rt; merge_listed("copy").unwrap().name(), "copy");
+    assert_eq!(&rt; split_listed("host"), Some(Split::Host));
+    assert_eq!(&rt;
+        (
+            is_free_name("x_or2"),
+            is_free_name("keep"),
+            is_free_name("x-or")
+        ),
+        (true, false, false)
+    );
+    Ok(())
+}
+
+#[test]
+fn a_name_that_no_hook_knows_is_first_and_copy(rt: HostRuntime) -> Result<(), Fail> {
+    let name = RuleName::new("xor").unwrap();
+    let (x, y) = (value(5, -8, 1), value(6, 3, 1));
+    assert_eq!(&rt; merged(Merge::Named(name), x, y), x);
+    assert_eq!(&rt; share(Split::Named(name), x, 2, 1), Some(x));
     Ok(())
 }

@@ -5,7 +5,7 @@
 ghost use Rattle.std.specs.Prelude.{◌≡◌, ◌↔◌, IsNone, IfSome, OnOk};
 ghost use Rattle.map_defs.specs.Rows.{links_of};
 
-use attr_rules::FirstCopy;
+use attr_rules::OrCopy;
 use map_core::{Done, Map};
 use map_kind::{Beta, Dart, Refusal, Refused, Value};
 use std::alloc::{AllocError, Global};
@@ -27,11 +27,11 @@ enum Fault {
 
 /// A combinatorial map of dimension 2, also known as half-edges. A dart is a side of a face and begins at a vertex. Link 1
 /// leads to the next side of the face, link 0 to the one before, and link 2 to the same edge as a side of the face behind.
-type Surface = Map<'static, Beta, FirstCopy, 2>;
+type Surface = Map<'static, Beta, OrCopy, 2>;
 
 fn main(rt: HostRuntime) -> Result<(), Fault> {
     let alloc = rt.alloc();
-    let mut surface = Surface::new(alloc, &FirstCopy);
+    let mut surface = Surface::new(alloc, &OrCopy);
     glue_squares(alloc, &mut surface)?;
     set_areas(alloc, &mut surface)?;
     print_surface(&rt, alloc, &surface)?;

@@ -1,35 +1,39 @@
 -- The rules of a difference put forward and taken back.
-use Rattle.std.proofs.Common.{◌≡◌, ◌≢◌, ℕ, zero, suc, ◌<◌, ◌⊎◌, List, [], ◌∷◌, length, get_or, set, Option, Some, None, refl, sym, ap, ◌∙◌, inl, inr, ⊎_elim, arith, AllPairs}
+use Rattle.std.proofs.Common.{◌≡◌, ◌≢◌, ℕ, zero, suc, ◌<◌, ◌⊎◌, Bool, true, false, List, [], ◌∷◌, length, get_or, set, Option, Some, None, refl, sym, ap, ◌∙◌, inl, inr, ⊎_elim, arith, AllPairs}
 use Rattle.std.specs.Prelude.{All}
-use Rattle.std.proofs.lemmas.Bool.{cases_lt}
+use Rattle.std.specs.Str.{bytes_eq}
+use Rattle.std.proofs.lemmas.Bool.{cases_lt, false≢true}
+use Rattle.std.proofs.lemmas.Slice.Eq.{bytes_eq-Decides}
 use Rattle.std.proofs.lemmas.List.{ext_get_or, get_or-set_same, get_or-set_other, get_or_past, set-set, set-get_or, length-set}
 use Rattle.std.proofs.lemmas.List.Elements.{All-contains, Contains-get_or}
-use Rattle.map_defs.specs.Values.{Merge, First, Last, Sum, Min, Max, Mid, Split, Copied, Keep, Share, Host, Rule}
+use Rattle.map_defs.specs.Values.{Merge, First, Last, Sum, Min, Max, Mid, Split, Copied, Keep, Share, Host, Named, Rule}
 use Rattle.machine_defs.specs.State.{Content, rule_at}
 use Rattle.machine_defs.specs.Difference.{Difference, RuleChange, IsDifference, ruled, unruled}
-use Rattle.link_laws.proofs.Basics.{same_or_not}
 use Rattle.journal_laws.specs.Following.{Follows}
 
--- merges and splits have numbers, which tell them
-abbrev merge_number : Merge → ℕ
-merge_number First = 0
-merge_number Last = 1
-merge_number Sum = 2
-merge_number Min = 3
-merge_number Max = 4
-merge_number Mid = 5
-merge_number Host = 6
+-- merges and splits have words, which tell them: the number of a row, or 7 and a name
+abbrev merge_word : Merge → List ℕ
+merge_word First = 0 ∷ []
+merge_word Last = 1 ∷ []
+merge_word Sum = 2 ∷ []
+merge_word Min = 3 ∷ []
+merge_word Max = 4 ∷ []
+merge_word Mid = 5 ∷ []
+merge_word Host = 6 ∷ []
+merge_word (Named name) = 7 ∷ name
 
-abbrev merge_of : ℕ → Merge
-merge_of zero = First
-merge_of (suc zero) = Last
-merge_of (suc (suc zero)) = Sum
-merge_of (suc (suc (suc zero))) = Min
-merge_of (suc (suc (suc (suc zero)))) = Max
-merge_of (suc (suc (suc (suc (suc zero))))) = Mid
-merge_of (suc (suc (suc (suc (suc (suc n)))))) = Host
+abbrev merge_of : List ℕ → Merge
+merge_of [] = First
+merge_of (zero ∷ name) = First
+merge_of (suc zero ∷ name) = Last
+merge_of (suc (suc zero) ∷ name) = Sum
+merge_of (suc (suc (suc zero)) ∷ name) = Min
+merge_of (suc (suc (suc (suc zero))) ∷ name) = Max
+merge_of (suc (suc (suc (suc (suc zero)))) ∷ name) = Mid
+merge_of (suc (suc (suc (suc (suc (suc zero))))) ∷ name) = Host
+merge_of (suc (suc (suc (suc (suc (suc (suc n)))))) ∷ name) = Named name
 
-merge-told : (m : Merge) → merge_of (merge_number m) ≡ m
+merge-told : (m : Merge) → merge_of (merge_word m) ≡ m
 merge-told First = refl
 merge-told Last = refl
 merge-told Sum = refl
@@ -37,32 +41,44 @@ merge-told Min = refl
 merge-told Max = refl
 merge-told Mid = refl
 merge-told Host = refl
+merge-told (Named name) = refl
 
-abbrev split_number : Split → ℕ
-split_number Copied = 0
-split_number Keep = 1
-split_number Share = 2
-split_number Host = 3
+abbrev split_word : Split → List ℕ
+split_word Copied = 0 ∷ []
+split_word Keep = 1 ∷ []
+split_word Share = 2 ∷ []
+split_word Host = 3 ∷ []
+split_word (Named name) = 4 ∷ name
 
-abbrev split_of : ℕ → Split
-split_of zero = Copied
-split_of (suc zero) = Keep
-split_of (suc (suc zero)) = Share
-split_of (suc (suc (suc n))) = Host
+abbrev split_of : List ℕ → Split
+split_of [] = Copied
+split_of (zero ∷ name) = Copied
+split_of (suc zero ∷ name) = Keep
+split_of (suc (suc zero) ∷ name) = Share
+split_of (suc (suc (suc zero)) ∷ name) = Host
+split_of (suc (suc (suc (suc n))) ∷ name) = Named name
 
-split-told : (m : Split) → split_of (split_number m) ≡ m
+split-told : (m : Split) → split_of (split_word m) ≡ m
 split-told Copied = refl
 split-told Keep = refl
 split-told Share = refl
 split-told Host = refl
+split-told (Named name) = refl
+
+same-word : (v w : List ℕ) → (v ≡ w) ⊎ (v ≢ w)
+same-word v w = at (bytes_eq v w) refl
+  where
+    at : (b : Bool) → bytes_eq v w ≡ b → (v ≡ w) ⊎ (v ≢ w)
+    at true is = inl ((bytes_eq-Decides v w).0 is)
+    at false is = inr (λ e. false≢true (sym is ∙ (bytes_eq-Decides v w).1 e))
 
 same-merge : (m n : Merge) → (m ≡ n) ⊎ (m ≢ n)
-same-merge m n = ⊎_elim (λ e. inl (sym (merge-told m) ∙ ap merge_of e ∙ merge-told n)) (λ d. inr (λ e. d (ap merge_number e)))
-    (same_or_not (merge_number m) (merge_number n))
+same-merge m n = ⊎_elim (λ e. inl (sym (merge-told m) ∙ ap merge_of e ∙ merge-told n)) (λ d. inr (λ e. d (ap merge_word e)))
+    (same-word (merge_word m) (merge_word n))
 
 same-split : (m n : Split) → (m ≡ n) ⊎ (m ≢ n)
-same-split m n = ⊎_elim (λ e. inl (sym (split-told m) ∙ ap split_of e ∙ split-told n)) (λ d. inr (λ e. d (ap split_number e)))
-    (same_or_not (split_number m) (split_number n))
+same-split m n = ⊎_elim (λ e. inl (sym (split-told m) ∙ ap split_of e ∙ split-told n)) (λ d. inr (λ e. d (ap split_word e)))
+    (same-word (split_word m) (split_word n))
 
 rule_from : Merge → Split → Rule
 rule_from m p = record { merge = m; split = p }

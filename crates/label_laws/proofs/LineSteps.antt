@@ -5,7 +5,7 @@ use Rattle.std.proofs.lemmas.List.{get_or_append_left, get_or-set_same, get_or-s
 use Rattle.map_defs.specs.Kind.{Kind}
 use Rattle.map_defs.specs.Laws.{Laws}
 use Rattle.map_defs.specs.Rows.{Rows, IsLive, links_of, made, IsSound, row_at, entry_of}
-use Rattle.map_defs.specs.Values.{Value, Rule, Meaning, KeepsWhole}
+use Rattle.map_defs.specs.Values.{Value, Rule, Hook, AreWhole}
 use Rattle.machine_defs.specs.State.{Content, value_at, with_born, without_dart}
 use Rattle.machine_defs.specs.Machine.{with_rule}
 use Rattle.machine_defs.specs.Relinking.{AreCarriedBy}
@@ -266,7 +266,7 @@ module _ (k : Kind) (n : ℕ) (old new : Rows) (l m : Labeling) (p q : Store) (r
   pub relinked-outside : (i d : ℕ) → (((i < n + 1) × Ended d) ⊎ IsGroupedBelow (length groups) groups i d → ⊥) → stored_value q m i d ≡ stored_value p l i d
   relinked-outside = stored_value-outside k n old new s.laws laws l p s.stored Ended ends lives-on rules s.bare (λ i some. ruled-low n i rules s.ruled some) touched live groups t spares r.0 r.1 r.2 m q r.3
 
-  module _ (hook : Meaning) (whole : KeepsWhole hook) (small : AreSmall rules p) (carried : (g : ℕ) → g < length groups → HasCarriedValue k (links_of new) (IsLive new) (id_of l) p hook rules (group_at groups g)) where
+  module _ (hook : Hook) (whole : AreWhole hook) (small : AreSmall rules p) (carried : (g : ℕ) → g < length groups → HasCarriedValue k (links_of new) (IsLive new) (id_of l) p hook rules (group_at groups g)) where
     values-carried : (i : ℕ) (o : Option Rule) → rule_at rules i ≡ o → AreCarriedBy hook (content_of k n old l p rules) (content_of k n new m q rules) i o
     values-carried i None e = λ d. value-shown k n new m q rules relinked-stored i d ∙ ap (labelled_value q) (relinked-stored.bare i d e)
     values-carried i (Some rule) e =

@@ -6,7 +6,7 @@ use Rattle.map_defs.specs.Kind.{Kind}
 use Rattle.map_defs.specs.Laws.{Laws}
 use Rattle.map_defs.specs.Rows.{Rows, IsLive, links_of, made, made_max, IsSound}
 use Rattle.map_defs.specs.Edits.{Edit, Fits, IsLed, after_edit}
-use Rattle.map_defs.specs.Values.{Rule, Meaning, KeepsWhole}
+use Rattle.map_defs.specs.Values.{Rule, Hook, AreWhole}
 use Rattle.machine_defs.specs.State.{Content, with_born, without_dart}
 use Rattle.link_laws.proofs.RowFacts.{rows_lead_to_live}
 use Rattle.edit_laws.proofs.EditSound.{length-after, after-sound}
@@ -120,7 +120,7 @@ module _ (k : Kind) (n : ℕ) (rows : Rows) (e : Edit) (l : Labeling) (p : Store
           relink-outside =
               relinked-outside k n rows New m m' q q' rules grown-stored laws (Contains e.deaths) gone-for-good live-or-ended touched.0 touched.1 groups touched.2 touched.3 r labels-long begun-new sound-new
 
-          pub relink-carried : (hook : Meaning) → KeepsWhole hook → AreSmall rules q → ((g : ℕ) → g < length groups → HasCarriedValue k (links_of New) (IsLive New) (id_of m) q hook rules (group_at groups g))
+          pub relink-carried : (hook : Hook) → AreWhole hook → AreSmall rules q → ((g : ℕ) → g < length groups → HasCarriedValue k (links_of New) (IsLive New) (id_of m) q hook rules (group_at groups g))
               → IsCarriedOn hook (content_of k n rows l p rules) New (content_of k n New m' q' rules)
           relink-carried hook whole small carried =
               subst (λ (c : Content). IsCarriedOn hook c New (content_of k n New m' q' rules)) (content-alike k n rows l m p q rules ids slots)

@@ -8,7 +8,7 @@ use Rattle.map_defs.specs.Rows.{Rows, IsLive, links_of}
 use Rattle.map_defs.specs.Cells.{InCell}
 use Rattle.map_defs.specs.Walks.{IsTold}
 use Rattle.map_defs.specs.Touched.{IsOldCell, IsAlike}
-use Rattle.map_defs.specs.Values.{Value, Rule, Meaning, KeepsWhole, IsRepresentable, meaning_of}
+use Rattle.map_defs.specs.Values.{Value, Rule, Hook, AreWhole, IsRepresentable, meaning_of}
 use Rattle.map_defs.specs.Carry.{IsCarried, IsValuedWith, AreEqualOnCells, AreCarried, known}
 use Rattle.link_laws.proofs.Basics.{same_or_not}
 use Rattle.link_laws.proofs.CellFacts.{cell_back}
@@ -184,7 +184,7 @@ module _ (k : Kind) (n : ℕ) (old new : Rows) (w : Laws k (links_of old)) (wn :
           left-none (inr h) = h.1 ∙ bare i d none
 
       -- and each new cell has the value that the rule carries to it
-      module _ (hook : Meaning) (whole : KeepsWhole hook) (small : AreSmall rules p)
+      module _ (hook : Hook) (whole : AreWhole hook) (small : AreSmall rules p)
           (carried : (g : ℕ) → g < length groups → HasCarriedValue k (links_of new) (IsLive new) (id_of l) p hook rules (group_at groups g)) where
         abbrev Goal : ℕ → Rule → ℕ → Option Value → Type 0
         Goal i rule d r = IsCarried (meaning_of hook rule) (λ x. known (stored_value p l i x)) (λ x. IsLive old x × IsLive new x)

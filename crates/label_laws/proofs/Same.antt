@@ -5,7 +5,7 @@ use Rattle.std.proofs.lemmas.List.FromFn.{length-map-range_with_len, get_or-map-
 use Rattle.map_defs.specs.Kind.{Kind}
 use Rattle.map_defs.specs.Links.{Links}
 use Rattle.map_defs.specs.Rows.{Rows}
-use Rattle.map_defs.specs.Values.{Value, Rule, Meaning, meaning_of}
+use Rattle.map_defs.specs.Values.{Value, Rule, Hook, Meaning, meaning_of}
 use Rattle.map_defs.specs.Carry.{IsCarried, AreCarried, IsValuedWith, known}
 use Rattle.map_defs.specs.Touched.{IsAlike}
 use Rattle.map_defs.specs.Cells.{InCell}
@@ -31,7 +31,7 @@ stored-alike k L Live l m p q ids same s = record {
   apart = λ i d j x c e f. s.apart i d j x c (sym (ids i d) ∙ e) (sym (ids j x) ∙ f);
 }
 
-pub carried-pool : (k : Kind) (L : Links) (Live : ℕ → Type 0) (l : Labeling) (p q : Store) (hook : Meaning) (rules : List (Option Rule)) (g : Group) → q.slots ≡ p.slots
+pub carried-pool : (k : Kind) (L : Links) (Live : ℕ → Type 0) (l : Labeling) (p q : Store) (hook : Hook) (rules : List (Option Rule)) (g : Group) → q.slots ≡ p.slots
     → HasCarriedValue k L Live (id_of l) p hook rules g → HasCarriedValue k L Live (id_of l) q hook rules g
 carried-pool k L Live l p q hook rules g e h rule d is here =
     renamed Live (IsAlike (id_of l g.dim)) (IsAlike (id_of l g.dim)) (InCell k L g.dim) (λ x y _ _. ((λ a. a), λ a. a)) (meaning_of hook rule)

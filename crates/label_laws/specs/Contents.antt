@@ -3,7 +3,7 @@ use Rattle.std.specs.Prelude.{ℕ, ◌≡◌, ◌+◌, ◌≤◌, List, [], ◌�
 use Rattle.std.specs.List.{range_with_len}
 use Rattle.map_defs.specs.Kind.{Kind}
 use Rattle.map_defs.specs.Rows.{Rows}
-use Rattle.map_defs.specs.Values.{Value, Rule, Meaning}
+use Rattle.map_defs.specs.Values.{Value, Rule, Hook}
 use Rattle.machine_defs.specs.State.{Content, HasPlaces, rule_at}
 use Rattle.machine_defs.specs.Relinking.{AreCarriedBy}
 use Rattle.store_defs.specs.Stores.{Store}
@@ -23,7 +23,7 @@ abbrev pub content_of : Kind → ℕ → Rows → Labeling → Store → List (O
 content_of k n rows labels pool rules = record { kind = k; dim = n; rows = rows; values = table n (length rows) (stored_value pool labels); rules = all_rules n rules }
 
 -- the content with these rows, and with the values that the rules carry to its cells
-pub record IsCarriedOn (hook : Meaning) (c : Content) (rows : Rows) (next : Content) : Type 0 where
+pub record IsCarriedOn (hook : Hook) (c : Content) (rows : Rows) (next : Content) : Type 0 where
   pub kind : next.kind ≡ c.kind
   pub dim : next.dim ≡ c.dim
   pub rows_are : next.rows ≡ rows

@@ -9,14 +9,14 @@ use Rattle.std.proofs.lemmas.List.Sums.{split_at_first, passes_at_first}
 use Rattle.std.proofs.lemmas.List.Splits.{join_with_byte-slice_split}
 use Rattle.map_defs.specs.Kind.{Kind, alpha, beta, letter}
 use Rattle.map_defs.specs.Rows.{made_max}
-use Rattle.map_defs.specs.RuleNames.{merge_name, split_name, named_merge, named_split}
+use Rattle.map_defs.specs.RuleNames.{merge_name, split_name, listed_merge, listed_split}
 use Rattle.map_defs.specs.Values.{Value, Merge, Split}
 use Rattle.machine_defs.specs.Script.{◌>>=◌, numeral, integer, name, value}
 use Rattle.machine_defs.specs.Listing.{ListRow, ListRule, ListValue}
 use Rattle.machine_defs.specs.ListingLines.{Header, is_colon, words_between, numeral_within, kind_named, header_of, entries, entries_behind, row_of, rule_of, value_of}
 use Rattle.machine_defs.specs.Text.{spaced, spaced_signed, header_line, row_text, rule_text, value_text}
 use Rattle.list_text.proofs.RowsRead.{some, some_is, went_on_some, row_with}
-use Rattle.list_text.proofs.SpelledWords.{numeral-is, integer-is, name-is, merge-is, split-is, two-is, same-bytes, behind_spaces, join-first}
+use Rattle.list_text.proofs.SpelledWords.{numeral-is, integer-is, name-is, listed-merge-is, listed-split-is, two-is, same-bytes, behind_spaces, join-first}
 
 within-is : (low high : ℕ) (word : List ℕ) (n : ℕ) → numeral_within low high word ≡ Some n → word ≡ decimal n
 within-is low high word n h =
@@ -140,21 +140,21 @@ rule-spelled : (i merge split : List ℕ) (n : ℕ) (m : Merge) (s : Split) → 
 rule-spelled i merge split n m s a b c =
     rw (a, b, c) (ap (λ (xs : List ℕ). codes "rule " ++ (xs ++ 10 ∷ [])) (sym (append_assoc (decimal n) (32 ∷ merge_name m) (32 ∷ split_name s))))
 
+abbrev rule_with : ℕ → List ℕ → List ℕ → ListRule
+rule_with n m s = record { dim = n; rule = record { merge = listed_merge m; split = listed_split s } }
+
 rule-words : (words : List (List ℕ)) (r : ListRule) → rule_of words ≡ Some r → codes "rule " ++ joined words ++ 10 ∷ [] ≡ rule_text r
 rule-words [] r h = absurd cc
 rule-words (a ∷ []) r h = absurd cc
 rule-words (a ∷ b ∷ []) r h = absurd cc
 rule-words (a ∷ b ∷ c ∷ d ∷ others) r h = absurd cc
 rule-words (i ∷ merge ∷ split ∷ []) r h =
-    let n = went_on_some (numeral i) (λ n. (name merge >>= named_merge) >>= λ m. (name split >>= named_split) >>= λ s. some (record { dim = n; rule = record { merge = m; split = s } })) r h in
-    let m = went_on_some (name merge >>= named_merge) (λ m. (name split >>= named_split) >>= λ s. some (record { dim = n.0; rule = record { merge = m; split = s } })) r n.2 in
-    let s = went_on_some (name split >>= named_split) (λ s. some (record { dim = n.0; rule = record { merge = m.0; split = s } })) r m.2 in
-    let mm = went_on_some (name merge) named_merge m.0 m.1 in
-    let ss = went_on_some (name split) named_split s.0 s.1 in
-    let is = sym (some_is (record { dim = n.0; rule = record { merge = m.0; split = s.0 } }) r s.2) in
-    let merge_at : merge ≡ merge_name m.0 = name-is merge mm.0 mm.1 ∙ merge-is mm.0 m.0 mm.2 in
-    let split_at : split ≡ split_name s.0 = name-is split ss.0 ss.1 ∙ split-is ss.0 s.0 ss.2 in
-    rule-spelled i merge split n.0 m.0 s.0 (numeral-is i n.0 n.1) merge_at split_at ∙ ap rule_text (sym is)
+    let n = went_on_some (numeral i) (λ n. name merge >>= λ m. name split >>= λ s. some (rule_with n m s)) r h in
+    let m = went_on_some (name merge) (λ m. name split >>= λ s. some (rule_with n.0 m s)) r n.2 in
+    let s = went_on_some (name split) (λ s. some (rule_with n.0 m.0 s)) r m.2 in
+    let is = sym (some_is (rule_with n.0 m.0 s.0) r s.2) in
+    rule-spelled i merge split n.0 (listed_merge m.0) (listed_split s.0) (numeral-is i n.0 n.1) (name-is merge m.0 m.1 ∙ listed-merge-is m.0)
+    (name-is split s.0 s.1 ∙ listed-split-is s.0) ∙ ap rule_text (sym is)
 
 pub rule-line : (text : List ℕ) (r : ListRule) → rule_of (words_between text) ≡ Some r → codes "rule " ++ text ++ 10 ∷ [] ≡ rule_text r
 rule-line text r h = ap (λ (xs : List ℕ). codes "rule " ++ xs ++ 10 ∷ []) (sym (join_with_byte-slice_split 32 text)) ∙ rule-words (words_between text) r h

@@ -1,5 +1,5 @@
 -- The words of a line, from what they tell.
-use Rattle.std.proofs.Common.{◌≡◌, ℕ, zero, suc, ◌+◌, ◌-◌, ◌*◌, ◌^◌, ◌≤◌, ◌==◌, ◌&&◌, not, nat_le, nat_lt, Bool, true, false, cond, codes, ℤ, pos, neg_ℤ, List, [], ◌∷◌, ◌++◌, length, fold, take, drop, Option, Some, None, refl, sym, ap, ◌∙◌, subst, arith, append-nil}
+use Rattle.std.proofs.Common.{◌≡◌, ℕ, zero, suc, ◌+◌, ◌-◌, ◌*◌, ◌^◌, ◌≤◌, ◌==◌, ◌&&◌, not, nat_le, nat_lt, Bool, true, false, cond, codes, ℤ, pos, neg_ℤ, List, [], ◌∷◌, ◌++◌, length, fold, take, drop, unwrap_or, Option, Some, None, refl, sym, ap, ◌∙◌, subst, arith, append-nil}
 use Rattle.std.specs.Fmt.{decimal, signed_decimal}
 use Rattle.std.specs.List.{list_all, flat_map, starts_with, join_with_byte}
 use Rattle.std.specs.Char.{is_ascii_digit}
@@ -12,8 +12,8 @@ use Rattle.std.proofs.lemmas.Int.Digits.{digits_value-lt}
 use Rattle.std.proofs.lemmas.Fmt.{decimal-digits_value}
 use Rattle.std.proofs.lemmas.Str.Parse.{FoldsDigits, IsNumeralModel, numerals_by_fold, tells_all_ascii_digits}
 use Rattle.map_defs.specs.TextWords.{value_of}
-use Rattle.map_defs.specs.RuleNames.{merge_name, split_name, named_merge, named_split}
-use Rattle.map_defs.specs.Values.{Merge, First, Last, Sum, Min, Max, Mid, Split, Copied, Keep, Share}
+use Rattle.map_defs.specs.RuleNames.{merge_name, split_name, table_merge, table_split, listed_merge, listed_split}
+use Rattle.map_defs.specs.Values.{Merge, First, Last, Sum, Min, Max, Mid, Split, Copied, Keep, Share, Host, Named}
 use Rattle.machine_defs.specs.Script as script
 use Rattle.machine_defs.specs.Script.{is_numeral, numeral, positive, negative, integer, is_name, name}
 use Rattle.list_text.proofs.RowsRead.{some, some_is, went_on_some}
@@ -110,26 +110,44 @@ ends P false x m here h = absurd cc
 pub same-bytes : (xs ys : List ℕ) → bytes_eq xs ys ≡ true → xs ≡ ys
 same-bytes xs ys = (bytes_eq-Decides xs ys).0
 
-pub merge-is : (word : List ℕ) (m : Merge) → named_merge word ≡ Some m → word ≡ merge_name m
+merge-is : (word : List ℕ) (m : Merge) → table_merge word ≡ Some m → word ≡ merge_name m
 merge-is word m h =
     chain P (bytes_eq word (codes "first")) First m _ (same-bytes word (codes "first"))
     (chain P (bytes_eq word (codes "last")) Last m _ (same-bytes word (codes "last"))
     (chain P (bytes_eq word (codes "sum")) Sum m _ (same-bytes word (codes "sum"))
     (chain P (bytes_eq word (codes "min")) Min m _ (same-bytes word (codes "min"))
     (chain P (bytes_eq word (codes "max")) Max m _ (same-bytes word (codes "max"))
-    (ends P (bytes_eq word (codes "mid")) Mid m (same-bytes word (codes "mid"))))))) h
+    (chain P (bytes_eq word (codes "mid")) Mid m _ (same-bytes word (codes "mid"))
+    (ends P (bytes_eq word (codes "host")) Host m (same-bytes word (codes "host")))))))) h
   where
     P : Merge → Type 0
     P m = word ≡ merge_name m
 
-pub split-is : (word : List ℕ) (s : Split) → named_split word ≡ Some s → word ≡ split_name s
+-- the merge that a word of a listing names is written so
+pub listed-merge-is : (word : List ℕ) → word ≡ merge_name (listed_merge word)
+listed-merge-is word = at (table_merge word) refl
+  where
+    at : (o : Option Merge) → table_merge word ≡ o → word ≡ merge_name (unwrap_or o (Named word))
+    at None is = refl
+    at (Some m) is = merge-is word m is
+
+split-is : (word : List ℕ) (s : Split) → table_split word ≡ Some s → word ≡ split_name s
 split-is word s h =
     chain P (bytes_eq word (codes "copy")) Copied s _ (same-bytes word (codes "copy"))
     (chain P (bytes_eq word (codes "keep")) Keep s _ (same-bytes word (codes "keep"))
-    (ends P (bytes_eq word (codes "share")) Share s (same-bytes word (codes "share")))) h
+    (chain P (bytes_eq word (codes "share")) Share s _ (same-bytes word (codes "share"))
+    (ends P (bytes_eq word (codes "host")) Host s (same-bytes word (codes "host"))))) h
   where
     P : Split → Type 0
     P s = word ≡ split_name s
+
+-- and the split
+pub listed-split-is : (word : List ℕ) → word ≡ split_name (listed_split word)
+listed-split-is word = at (table_split word) refl
+  where
+    at : (o : Option Split) → table_split word ≡ o → word ≡ split_name (unwrap_or o (Named word))
+    at None is = refl
+    at (Some s) is = split-is word s is
 
 -- words behind a space each
 abbrev pub behind_spaces : List (List ℕ) → List ℕ

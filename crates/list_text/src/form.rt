@@ -9,7 +9,7 @@ ghost use Rattle.list_text.specs.Views.{words_left, header_view, items_of, first
 use crate::ListRow;
 use crate::cut::cut;
 use crate::words::Words;
-use attr_rules::{TableRule, merge_named, split_named};
+use attr_rules::{TableRule, merge_listed, split_listed};
 use map_kind::{Dart, Value};
 use std::alloc::{AllocError, Global};
 use std::marker::Model;
@@ -208,7 +208,8 @@ fn take_entry(made: u32, words: Words) -> Option<(u32, Words)>
     Some((entry, others))
 }
 
-/// What the words behind `rule` tell: a dimension, and the names of a merge and a split.
+/// What the words behind `rule` tell: a dimension, and the names of a merge and a split. A name that is not in its table is
+/// that of a named rule.
 pub(crate) fn rule_of(words: Words) -> Option<ToldRule>
     ensures { result ≡ rule_of (words_left words.entry) }
 {
@@ -219,8 +220,8 @@ pub(crate) fn rule_of(words: Words) -> Option<ToldRule>
         return None;
     }
     let dim = read_numeral(dim)?;
-    let merge = merge_named(read_name(merge)?)?;
-    let split = split_named(read_name(split)?)?;
+    let merge = merge_listed(read_name(merge)?)?;
+    let split = split_listed(read_name(split)?)?;
     Some(ToldRule {
         dim,
         rule: TableRule { merge, split },

@@ -19,7 +19,7 @@ impl Model for ListRow {
     ghost view = { λ r. record { dart = r.dart; links = r.links.items } };
 }
 
-/// The rule of a dimension: how values of cells of this dimension merge and split.
+/// The rule of a dimension: how values of cells of this dimension merge and split. It may be one that no hook knows.
 #[derive(Clone, Copy, Debug, PartialEq, Eq)]
 pub struct ListRule {
     pub dim: u32,
@@ -53,8 +53,9 @@ impl Model for ListValue {
     ghost inverse = { λ v. record { dim = v.dim; place = record { dart = v.dart; value = v.value } } };
 }
 
-/// What a listing tells of a map: its darts, links, rules and values, and the names of its marks. A listing is data to be written, and need not be that of a
-/// map: any numbers may stand in it, in any order. Only its letter is always that of a kind.
+/// What a listing tells of a map: its darts, links, rules and values, and the names of its marks. `read_listing` reads a
+/// listing from a text, and `put_listing` writes any listing, be it that of a map or not: any numbers may stand in it, in
+/// any order. Only its letter is always that of a kind.
 #[derive(Debug, Drop)]
 pub struct Listing {
     /// The letter of the map's kind: `g` for a generalized, `c` for a combinatorial map.

@@ -4,6 +4,8 @@ use Rattle.std.specs.Prelude.{ℕ, ◌≡◌, ◌≢◌, ◌≤◌, ◌+◌, Lis
 use Rattle.std.specs.List.{AllPairs}
 use Rattle.map_defs.specs.Laws.{IsLawful}
 use Rattle.map_defs.specs.Rows.{IsLive, links_of, IsSound}
+use Rattle.map_defs.specs.Values.{Rule, Hook}
+use Rattle.map_defs.specs.RuleNames.{KnowsRule}
 use Rattle.map_defs.specs.Carry.{AreEqualOnCells}
 use Rattle.machine_defs.specs.State.{Content, Mark, State, value_at, rule_at, HasPlaces}
 
@@ -45,3 +47,14 @@ pub record IsLawfulState (s : State) : Type 0 where
   pub marks : All (λ m. IsLawfulContent m.content) s.marks
   pub marked : AreMarksKept s.marks s.past s.present
   pub undone : All (λ u. IsLawfulContent u.present × All IsLawfulContent u.past × All (λ m. IsLawfulContent m.content) u.marks × AreMarksKept u.marks u.past u.present) s.undone
+
+-- each rule of the content is of the tables, or one that the hook knows
+abbrev pub AreRulesKnown : Hook → Content → Type 0
+AreRulesKnown hook c = (i : ℕ) (rule : Rule) → rule_at c i ≡ Some rule → KnowsRule hook rule
+
+-- of the present content, of the past, of marks and of what was undone, beside a hook
+pub record KnowsRules (hook : Hook) (s : State) : Type 0 where
+  pub present : AreRulesKnown hook s.present
+  pub past : All (AreRulesKnown hook) s.past
+  pub marks : All (λ m. AreRulesKnown hook m.content) s.marks
+  pub undone : All (λ u. AreRulesKnown hook u.present × All (AreRulesKnown hook) u.past × All (λ m. AreRulesKnown hook m.content) u.marks) s.undone

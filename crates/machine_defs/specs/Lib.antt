@@ -18,4 +18,5 @@ pub mod Machine
 pub mod Outside
 pub mod Dualling
 pub mod Auditing
+pub mod Soaking
 pub mod Program

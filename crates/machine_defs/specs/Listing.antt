@@ -58,6 +58,11 @@ pub record ListsValues (c : Content) (values : List ListValue) : Type 0 where
   pub members : (v : ListValue) → Contains values v ↔ ((value_at c v.dim v.dart ≡ Some v.value) × NamesCell c.kind (links_of c.rows) v.dim v.dart)
   pub ordered : (j k : ℕ) (d : ListValue) → j < k → k < length values → IsBefore (slice_index_or values j d) (slice_index_or values k d)
 
+-- the valued cells of dimension i alone
+pub record ListsValuesIn (c : Content) (i : ℕ) (values : List ListValue) : Type 0 where
+  pub members : (v : ListValue) → Contains values v ↔ ((v.dim ≡ i) × (value_at c i v.dart ≡ Some v.value) × NamesCell c.kind (links_of c.rows) i v.dart)
+  pub ordered : (j k : ℕ) (d : ListValue) → j < k → k < length values → IsBefore (slice_index_or values j d) (slice_index_or values k d)
+
 -- the listing of a content whose valued cells are these, and of marks with these names
 abbrev pub listing_with : Content → List ListValue → List (List ℕ) → Listing
 listing_with c values names = record {

@@ -8,7 +8,7 @@ use Rattle.map_defs.specs.Rows.{entry_of}
 use Rattle.map_defs.specs.Cells.{NamesCell}
 use Rattle.map_defs.specs.Values.{First, Copied}
 use Rattle.machine_defs.specs.Listing.{ListRow, ListRule, ListValue, Listing}
-use Rattle.machine_defs.specs.ListingForm.{ListingFault, ListingWhat, Form, Order, Laws, Values, Told, told}
+use Rattle.machine_defs.specs.ListingForm.{ListingFault, Laws, Values, Told, told}
 
 -- the row of a dart, if it has one
 abbrev pub row_in : List ListRow → ℕ → Option (List ℕ)

@@ -5,7 +5,7 @@ use Rattle.std.specs.List.{slice_split, before_first, after_first}
 use Rattle.std.specs.Str.{bytes_eq}
 use Rattle.map_defs.specs.Kind.{Kind, alpha, beta}
 use Rattle.map_defs.specs.Rows.{made_max}
-use Rattle.map_defs.specs.RuleNames.{named_merge, named_split}
+use Rattle.map_defs.specs.RuleNames.{listed_merge, listed_split}
 use Rattle.machine_defs.specs.Listing.{ListRow, ListRule, ListValue}
 use Rattle.machine_defs.specs.Script.{◌>>=◌, numeral, name, value}
 
@@ -73,13 +73,13 @@ row_of n made line = do
   links ← entries_behind made (n + 1) (words_between (after_first is_colon line))
   Some (record { dart = dart; links = links })
 
--- behind `rule`: a dimension, and the names of a merge and a split of the tables
+-- behind `rule`: a dimension, and the names of a merge and a split; one that is not in its table is that of a named rule
 abbrev pub rule_of : List (List ℕ) → Option ListRule
 rule_of (i ∷ merge ∷ split ∷ []) = do
   dim ← numeral i
-  m ← name merge >>= named_merge
-  s ← name split >>= named_split
-  Some (record { dim = dim; rule = record { merge = m; split = s } })
+  m ← name merge
+  s ← name split
+  Some (record { dim = dim; rule = record { merge = listed_merge m; split = listed_split s } })
 rule_of _ = None
 
 -- behind `val`: a dimension, a dart, and the three integers of a value

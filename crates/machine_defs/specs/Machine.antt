@@ -12,7 +12,7 @@ use Rattle.map_defs.specs.Sewing.{SewnPairs, IsSewable, IsSewn, IsUnsewn}
 use Rattle.map_defs.specs.Edits.{free_row}
 use Rattle.map_defs.specs.Polygon.{per_side, polygon_rows}
 use Rattle.map_defs.specs.Values as values
-use Rattle.map_defs.specs.Values.{Meaning}
+use Rattle.map_defs.specs.Values.{Hook}
 use Rattle.map_defs.specs.RuleNames.{named_merge, named_split}
 use Rattle.machine_defs.specs.State.{State, Content, Mark as SetMark, value_at, rule_at, with_born, without_dart, steps_to}
 use Rattle.machine_defs.specs.Relinking.{IsRelinked, NoDart, IsTooMany, IsGrown}
@@ -65,9 +65,9 @@ links_in c = links_of c.rows
 abbrev pub rule_check : Content → ℕ → Check
 rule_check c i = refuse_if (rule_at c i ≡ None) why.NoRule
 
--- the two names are in the tables of rules
-abbrev pub AreNames : List ℕ → List ℕ → Type 0
-AreNames merge split = IsSome (named_merge merge) × IsSome (named_split split)
+-- each of the two names is in its table, or the hook knows it
+abbrev pub AreNames : Hook → List ℕ → List ℕ → Type 0
+AreNames hook merge split = IsSome (named_merge hook.names merge) × IsSome (named_split hook.names split)
 
 -- all links of the dart are free
 abbrev pub IsAlone : Content → ℕ → Type 0
@@ -89,50 +89,50 @@ path_check c path = refuse_unless (All (IsLive c.rows) path) why.NoDart
 abbrev pub room_check : Content → (ℕ → Type 0) → Check
 room_check c K = refuse_if (IsTooMany c K) why.Full
 
--- The table of refusals: what each line is checked for, in ascending number.
-abbrev pub checks_on : Content → Line → List Check
-checks_on c (Polygon sides) = refuse_if ((sides < 3) ⊎ (65536 < sides)) why.BadCount ∷ full_if c (per_side c.kind * sides) ∷ []
-checks_on c Dart = full_if c 1 ∷ []
-checks_on c (Del d) = live_check c d ∷ refuse_unless (IsAlone c d) why.Linked ∷ []
-checks_on c (Sew i d e) = link_check c i ∷ live_check c d ∷ live_check c e ∷ refuse_unless (AreFree c i d e) why.NotFree ∷ refuse_unless (ArePaired c i d e) why.Unsewable ∷ []
-checks_on c (Unsew i d) = link_check c i ∷ live_check c d ∷ refuse_if (links_in c i d ≡ 0) why.AlreadyFree ∷ []
-checks_on c (Vertex d) = live_check c d ∷ room_check c (VertexDarts c.kind (links_in c) d) ∷ []
-checks_on c (Edge d e) =
+-- The table of refusals: what each line is checked for beside a hook, in ascending number.
+abbrev pub checks_on : Hook → Content → Line → List Check
+checks_on hook c (Polygon sides) = refuse_if ((sides < 3) ⊎ (65536 < sides)) why.BadCount ∷ full_if c (per_side c.kind * sides) ∷ []
+checks_on hook c Dart = full_if c 1 ∷ []
+checks_on hook c (Del d) = live_check c d ∷ refuse_unless (IsAlone c d) why.Linked ∷ []
+checks_on hook c (Sew i d e) = link_check c i ∷ live_check c d ∷ live_check c e ∷ refuse_unless (AreFree c i d e) why.NotFree ∷ refuse_unless (ArePaired c i d e) why.Unsewable ∷ []
+checks_on hook c (Unsew i d) = link_check c i ∷ live_check c d ∷ refuse_if (links_in c i d ≡ 0) why.AlreadyFree ∷ []
+checks_on hook c (Vertex d) = live_check c d ∷ room_check c (VertexDarts c.kind (links_in c) d) ∷ []
+checks_on hook c (Edge d e) =
     live_check c d ∷ live_check c e ∷ refuse_unless (AreOnOneSide (links_in c) d e) why.OtherCell
     ∷ refuse_if (InCorner c.kind (links_in c) d e) why.SameCorner ∷ refuse_unless (AreEdgePaired c.kind (links_in c) d e) why.Unpaired
     ∷ room_check c (EdgeDarts c.kind (links_in c) d e) ∷ []
-checks_on c (Face path) =
+checks_on hook c (Face path) =
     refuse_if (c.dim < 3) why.BadDim ∷ path_check c path ∷ refuse_unless (IsOnOneVolume (links_in c) path) why.OtherCell
     ∷ refuse_unless (IsClosedPath c.kind (links_in c) path) why.NotClosed ∷ refuse_unless (IsFacePaired c.kind (links_in c) path) why.Unpaired
     ∷ room_check c (FaceDarts c.kind (links_in c) path) ∷ []
-checks_on c (Remove i d) =
+checks_on hook c (Remove i d) =
     dimension_check c i ∷ live_check c d ∷ refuse_unless (IsRemovable c.kind (links_in c) i d) why.NotRemovable ∷ []
-checks_on c (Contract i d) =
+checks_on hook c (Contract i d) =
     dimension_check c i ∷ live_check c d ∷ refuse_unless (IsContractible c.kind (links_in c) i d) why.NotContractible ∷ []
-checks_on c Dual = refuse_unless (IsDualable c.kind c.dim (links_in c) (IsLive c.rows)) why.Boundary ∷ []
-checks_on c (Rule i merge split) = dimension_check c i ∷ refuse_unless (AreNames merge split) why.NoRule ∷ []
-checks_on c (Set i d value) = dimension_check c i ∷ live_check c d ∷ rule_check c i ∷ []
-checks_on c (Clear i d) = dimension_check c i ∷ live_check c d ∷ rule_check c i ∷ []
-checks_on c (Value i d) = dimension_check c i ∷ live_check c d ∷ []
-checks_on c (Cell i d) = dimension_check c i ∷ live_check c d ∷ []
-checks_on c (Same i d e) = dimension_check c i ∷ live_check c d ∷ live_check c e ∷ []
-checks_on c (Free i d) = dimension_check c i ∷ live_check c d ∷ []
-checks_on c (Removable i d) = dimension_check c i ∷ live_check c d ∷ []
-checks_on c (Contractible i d) = dimension_check c i ∷ live_check c d ∷ []
-checks_on c (Sewable i d e) = link_check c i ∷ live_check c d ∷ live_check c e ∷ []
-checks_on c Off =
+checks_on hook c Dual = refuse_unless (IsDualable c.kind c.dim (links_in c) (IsLive c.rows)) why.Boundary ∷ []
+checks_on hook c (Rule i merge split) = dimension_check c i ∷ refuse_unless (AreNames hook merge split) why.NoRule ∷ []
+checks_on hook c (Set i d value) = dimension_check c i ∷ live_check c d ∷ rule_check c i ∷ []
+checks_on hook c (Clear i d) = dimension_check c i ∷ live_check c d ∷ rule_check c i ∷ []
+checks_on hook c (Value i d) = dimension_check c i ∷ live_check c d ∷ []
+checks_on hook c (Cell i d) = dimension_check c i ∷ live_check c d ∷ []
+checks_on hook c (Same i d e) = dimension_check c i ∷ live_check c d ∷ live_check c e ∷ []
+checks_on hook c (Free i d) = dimension_check c i ∷ live_check c d ∷ []
+checks_on hook c (Removable i d) = dimension_check c i ∷ live_check c d ∷ []
+checks_on hook c (Contractible i d) = dimension_check c i ∷ live_check c d ∷ []
+checks_on hook c (Sewable i d e) = link_check c i ∷ live_check c d ∷ live_check c e ∷ []
+checks_on hook c Off =
     refuse_if (HasOpenFace c.kind c.rows) why.NotClosed ∷ refuse_if (LacksPoint c.kind c.rows (value_at c 0)) why.NoPoint
     ∷ refuse_if (HasThinFace c.kind c.rows) why.ThinFace ∷ []
-checks_on c Count = []
-checks_on c Show = []
-checks_on c line = []
+checks_on hook c Count = []
+checks_on hook c Show = []
+checks_on hook c line = []
 
 -- the table for all lines: those about marks look at the marks, the others at the present content
-abbrev pub checks : State → Line → List Check
-checks s (Mark name) = refuse_if (HasMark s.marks name) why.MarkTaken ∷ []
-checks s (Undo name) = refuse_unless (HasMark s.marks name) why.NoMark ∷ []
-checks s (Log name) = refuse_unless (HasMark s.marks name) why.NoMark ∷ []
-checks s line = checks_on s.present line
+abbrev pub checks : Hook → State → Line → List Check
+checks hook s (Mark name) = refuse_if (HasMark s.marks name) why.MarkTaken ∷ []
+checks hook s (Undo name) = refuse_unless (HasMark s.marks name) why.NoMark ∷ []
+checks hook s (Log name) = refuse_unless (HasMark s.marks name) why.NoMark ∷ []
+checks hook s line = checks_on hook s.present line
 
 -- the polygon's darts come after all that were made
 abbrev pub with_polygon : Content → ℕ → Content
@@ -151,16 +151,16 @@ abbrev pub TellsWhether : State → Type 0 → Reply → State → Type 0
 TellsWhether s P reply new = (answer : Bool) × (IsTrue answer ↔ P) × (reply ≡ Truth answer) × (new ≡ s)
 
 -- A change of links by which no dart is born and none ends.
-abbrev pub Relinks : Meaning → State → (Links → Type 0) → Reply → State → Type 0
+abbrev pub Relinks : Hook → State → (Links → Type 0) → Reply → State → Type 0
 Relinks hook s Becomes reply new = (next : Content) × IsRelinked hook s.present 0 NoDart Becomes next × (reply ≡ Done 0 0) × (new ≡ steps_to s next)
 
 -- A change of links by which each dart of K gets a new dart.
-abbrev pub InsertsDarts : Meaning → State → (ℕ → Type 0) → ((ℕ → ℕ) → Links → Type 0) → Reply → State → Type 0
+abbrev pub InsertsDarts : Hook → State → (ℕ → Type 0) → ((ℕ → ℕ) → Links → Type 0) → Reply → State → Type 0
 InsertsDarts hook s K Becomes reply new = (births : ℕ) × (next : Content) × IsGrown hook s.present K Becomes births next
     × (reply ≡ Done (made s.present.rows + 1) births) × (new ≡ steps_to s next)
 
 -- A change of links by which the darts of the i-cell of d end.
-abbrev pub EndsDarts : Meaning → State → ℕ → ℕ → (Links → Type 0) → Reply → State → Type 0
+abbrev pub EndsDarts : Hook → State → ℕ → ℕ → (Links → Type 0) → Reply → State → Type 0
 EndsDarts hook s i d Becomes reply new = (next : Content)
     × IsRelinked hook s.present 0 (InCell s.present.kind (links_in s.present) i d) Becomes next
     × (reply ≡ Done 0 0) × (new ≡ steps_to s next)
@@ -174,7 +174,7 @@ abbrev pub with_rule : Content → ℕ → values.Rule → Content
 with_rule c i rule = record c { rules = slice_set c.rules i (Some rule) }
 
 -- what a line that passes its checks answers and leaves
-abbrev pub Effect : Meaning → State → Line → Reply → State → Type 0
+abbrev pub Effect : Hook → State → Line → Reply → State → Type 0
 Effect hook s (Polygon sides) =
     Gives (Done (made s.present.rows + 1) (per_side s.present.kind * sides)) (steps_to s (with_polygon s.present sides))
 Effect hook s Dart = Gives (Done (made s.present.rows + 1) 1) (steps_to s (with_dart s.present))
@@ -191,7 +191,7 @@ Effect hook s (Remove i d) = EndsDarts hook s i d (IsRemoved s.present.kind i d 
 Effect hook s (Contract i d) = EndsDarts hook s i d (IsContracted s.present.kind i d (links_in s.present))
 Effect hook s Dual = λ reply new. (next : Content) × IsDualOf s.present next × (reply ≡ Done 0 0) × (new ≡ steps_to s next)
 Effect hook s (Rule i merge split) = λ reply new. (m : values.Merge) × (p : values.Split)
-    × (named_merge merge ≡ Some m) × (named_split split ≡ Some p)
+    × (named_merge hook.names merge ≡ Some m) × (named_split hook.names split ≡ Some p)
     × Gives (Done 0 0) (steps_to s (with_rule s.present i (record { merge = m; split = p }))) reply new
 Effect hook s (Set i d value) = Values s i d (Some value)
 Effect hook s (Clear i d) = Values s i d None
@@ -227,12 +227,12 @@ FailsFor [] r = ⊥
 FailsFor (check ∷ more) r = ((check.refusal ≡ r) × check.fails) ⊎ FailsFor more r
 
 -- one step of the machine, beside the hook that is handed in
-abbrev pub Step : Meaning → State → Line → Reply → State → Type 0
-Step hook s line reply new = Judged s (checks s line) (Effect hook s line) reply new
+abbrev pub Step : Hook → State → Line → Reply → State → Type 0
+Step hook s line reply new = Judged s (checks hook s line) (Effect hook s line) reply new
 
 -- What one line of a script does: without a word it has no reply, outside the grammar it is refused as Syntax, and else
 -- the machine takes a step.
-pub data Obeys (hook : Meaning) (s : State) (words : List (List ℕ)) (replies : List Reply) (new : State) : Type 0 where
+pub data Obeys (hook : Hook) (s : State) (words : List (List ℕ)) (replies : List Reply) (new : State) : Type 0 where
   blank : words ≡ [] → replies ≡ [] → new ≡ s → Obeys hook s words replies new
   unread : (first : List ℕ) (more : List (List ℕ)) → words ≡ first ∷ more → line_of words ≡ None
       → replies ≡ Refused why.Syntax ∷ [] → new ≡ s → Obeys hook s words replies new
@@ -240,7 +240,7 @@ pub data Obeys (hook : Meaning) (s : State) (words : List (List ℕ)) (replies :
       → Obeys hook s words replies new
 
 -- the machine obeys the lines one after another
-abbrev pub Run : Meaning → State → List (List ℕ) → List Reply → State → Type 0
+abbrev pub Run : Hook → State → List (List ℕ) → List Reply → State → Type 0
 Run hook s [] replies new = (replies ≡ []) × (new ≡ s)
 Run hook s (line ∷ lines) replies new = (here : List Reply) × (more : List Reply) × (mid : State)
     × Obeys hook s (words_of line) here mid × Run hook mid lines more new × (replies ≡ here ++ more)

@@ -4,7 +4,7 @@ use Rattle.map_defs.specs.Links.{Links}
 use Rattle.map_defs.specs.Rows.{made, made_max, IsLive, links_of, AreWide}
 use Rattle.map_defs.specs.Counts.{HasCount}
 use Rattle.map_defs.specs.Births.{IsNumbered}
-use Rattle.map_defs.specs.Values.{Rule, Meaning, meaning_of}
+use Rattle.map_defs.specs.Values.{Rule, Hook, meaning_of}
 use Rattle.map_defs.specs.Carry.{AreCarried}
 use Rattle.machine_defs.specs.State.{Content, value_at, rule_at, HasPlaces}
 
@@ -14,14 +14,14 @@ NoDart d = ⊥
 
 -- The values of dimension i after a change of links: its rule carries them from the old cells to the new ones; without a
 -- rule there are none.
-abbrev pub AreCarriedBy : Meaning → Content → Content → ℕ → Option Rule → Type 0
+abbrev pub AreCarriedBy : Hook → Content → Content → ℕ → Option Rule → Type 0
 AreCarriedBy hook c next i None = (d : ℕ) → value_at next i d ≡ None
 AreCarriedBy hook c next i (Some rule) =
     AreCarried c.kind i (meaning_of hook rule) (links_of c.rows) (IsLive c.rows) (value_at c i) (links_of next.rows) (IsLive next.rows) (value_at next i)
 
 -- The content after a change of links: so many darts are born, numbered on from those that were made, the darts of Ended
 -- end, the links are as Becomes tells, and the values are carried.
-pub record IsRelinked (hook : Meaning) (c : Content) (births : ℕ) (Ended : ℕ → Type 0) (Becomes : Links → Type 0) (next : Content) : Type 0 where
+pub record IsRelinked (hook : Hook) (c : Content) (births : ℕ) (Ended : ℕ → Type 0) (Becomes : Links → Type 0) (next : Content) : Type 0 where
   pub kind : next.kind ≡ c.kind
   pub dim : next.dim ≡ c.dim
   pub long : length next.rows ≡ length c.rows + births
@@ -38,7 +38,7 @@ IsTooMany c K = (births : ℕ) × HasCount K births × (made_max < made c.rows +
 
 -- The content after an insertion: each dart of K gets a new dart, numbered on from those that were made in the order of the
 -- darts of K; the links are as Becomes tells of the new darts, and the values are carried.
-pub record IsGrown (hook : Meaning) (c : Content) (K : ℕ → Type 0) (Becomes : (ℕ → ℕ) → Links → Type 0) (births : ℕ) (next : Content) : Type 0 where
+pub record IsGrown (hook : Hook) (c : Content) (K : ℕ → Type 0) (Becomes : (ℕ → ℕ) → Links → Type 0) (births : ℕ) (next : Content) : Type 0 where
   pub keys : List ℕ
   pub star : ℕ → ℕ
   pub numbered : IsNumbered K keys (made c.rows) star

@@ -1,9 +1,10 @@
 -- The script: its lines, their words, and the grammar of a line. Source: this project's.
-use Rattle.std.specs.Prelude.{ℕ, ℤ, pos, neg_ℤ, ◌^◌, ◌==◌, nat_lt, nat_le, ◌||◌, ◌&&◌, not, Bool, false, List, [], ◌∷◌, length, Option, Some, None, option_map, option_and_then, codes, if◌then◌else◌}
+use Rattle.std.specs.Prelude.{ℕ, ℤ, pos, neg_ℤ, ◌^◌, ◌==◌, nat_lt, nat_le, ◌&&◌, not, Bool, false, List, [], ◌∷◌, length, Option, Some, None, option_map, option_and_then, codes, if◌then◌else◌}
 use Rattle.std.specs.List.{list_all, slice_split}
-use Rattle.std.specs.Char.{is_ascii_digit, is_ascii_lowercase}
+use Rattle.std.specs.Char.{is_ascii_digit}
 use Rattle.std.specs.Str.{bytes_eq}
 use Rattle.map_defs.specs.TextWords.{is_text, value_of}
+pub use Rattle.map_defs.specs.Names.{is_name_byte, is_name}
 use Rattle.map_defs.specs.Values as values
 
 -- what goes on from a value, if there is one
@@ -45,14 +46,6 @@ abbrev pub integer : List ℕ → Option ℤ
 integer [] = None
 integer (first ∷ others) =
     if first == 45 then numeral others >>= negative else numeral (first ∷ others) >>= positive
-
--- a small letter, a digit or an underscore
-abbrev pub is_name_byte : ℕ → Bool
-is_name_byte b = is_ascii_lowercase b || is_ascii_digit b || (b == 95)
-
--- a name has 1 to 32 of them
-abbrev pub is_name : List ℕ → Bool
-is_name word = nat_le 1 (length word) && nat_le (length word) 32 && list_all is_name_byte word
 
 abbrev pub name : List ℕ → Option (List ℕ)
 name word = if is_name word then Some word else None

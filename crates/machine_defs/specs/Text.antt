@@ -100,3 +100,8 @@ replies_text replies = flat_map reply_text replies
 -- whether some line was refused
 abbrev pub any_refused : List Reply → Bool
 any_refused replies = list_any is_refused replies
+
+-- 1 if some line was refused, else 0
+abbrev pub run_status : Bool → ℕ
+run_status true = 1
+run_status false = 0

@@ -6,7 +6,7 @@ use Rattle.map_defs.specs.Laws.{Laws}
 use Rattle.map_defs.specs.Rows.{IsLive, links_of}
 use Rattle.map_defs.specs.Cells.{InCell, NamesCell}
 use Rattle.map_defs.specs.Touched.{IsOldCell}
-use Rattle.map_defs.specs.Values.{Value, Meaning, Sum, Share, KeepsWhole, IsRepresentable}
+use Rattle.map_defs.specs.Values.{Value, Hook, Meaning, Sum, Share, KeepsWhole, IsRepresentable}
 use Rattle.map_defs.specs.Carry.{IsCarried, AreCarried, IsValuedWith, known}
 use Rattle.map_defs.specs.Totals.{sum_share}
 use Rattle.machine_defs.specs.State.{Content, with_born, value_at}
@@ -24,8 +24,12 @@ use Rattle.machine_laws.proofs.ValueLists.{one-listing}
 use Rattle.machine_laws.proofs.Born as born_rows
 
 -- what is dealt out to one piece is the value, whatever the hook does
-pub share-whole : (hook : Meaning) → KeepsWhole (sum_share hook)
-share-whole hook = keeps_whole (record { merged = λ x y. x; share = λ v k p. Some v }) (record { merge = Sum; split = Share }) (λ v held. refl)
+pub share-whole : (hook : Hook) → KeepsWhole (sum_share hook)
+share-whole hook = keeps_whole (record { host = plain; names = []; named = λ name. plain }) (record { merge = Sum; split = Share })
+    (record { host = λ v held. refl; named = λ name known v held. refl })
+  where
+    plain : Meaning
+    plain = record { merged = λ x y. x; share = λ v k p. Some v }
 
 module _ (c : Content) (kept : IsLawfulContent c) (born : List (List ℕ)) (after : IsLawfulContent (with_born c born)) where
   abbrev next : Content

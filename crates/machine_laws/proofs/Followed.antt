@@ -4,7 +4,7 @@ use Rattle.std.proofs.lemmas.Bool.{cases_lt}
 use Rattle.std.proofs.lemmas.List.{get_or_append_left, get_or-append_right, get_or-map, length-append, length-map}
 use Rattle.map_defs.specs.Links.{Links}
 use Rattle.map_defs.specs.Rows.{Rows, made, IsLive}
-use Rattle.map_defs.specs.Values.{Meaning}
+use Rattle.map_defs.specs.Values.{Hook}
 use Rattle.machine_defs.specs.State.{Content, with_born}
 use Rattle.machine_defs.specs.Relinking.{IsRelinked}
 use Rattle.machine_defs.specs.Kept.{IsLawfulContent}
@@ -34,7 +34,7 @@ module _ (a b : Content) (kept : IsLawfulContent a) (next : IsLawfulContent b) (
   stays-follows long lived = grown-follows 0 (omega (arith, long)) (λ d live. inl (lived d live)) (λ d low high. absurd (omega arith))
 
 -- after a change of links, where no new dart ends
-pub relinked-follows : (hook : Meaning) (c next : Content) (births : ℕ) (Ended : ℕ → Type 0) (Becomes : Links → Type 0)
+pub relinked-follows : (hook : Hook) (c next : Content) (births : ℕ) (Ended : ℕ → Type 0) (Becomes : Links → Type 0)
     → IsLawfulContent c → IsLawfulContent next → ((d : ℕ) → made c.rows < d → d ≤ made c.rows + births → Ended d → ⊥)
     → IsRelinked hook c births Ended Becomes next → Follows c next
 relinked-follows hook c next births Ended Becomes kept kept' stay r =

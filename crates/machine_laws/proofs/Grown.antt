@@ -9,7 +9,7 @@ use Rattle.map_defs.specs.Births.{IsNumbered}
 use Rattle.map_defs.specs.Insertion.{NoPairs, AlphaEdgeDarts, AlphaEdgePairs, BetaEdgeLeads, FaceDarts, FacePairs, IsClosedPath, IsFacePaired, IsFace}
 use Rattle.map_defs.specs.Inserting.{VertexDarts, IsVertex, InCorner, EdgeDarts, AreEdgePaired, IsEdge}
 use Rattle.machine_defs.specs.Relinking.{IsGrown, NoDart, IsRelinked}
-use Rattle.map_defs.specs.Values.{Meaning}
+use Rattle.map_defs.specs.Values.{Hook}
 use Rattle.machine_defs.specs.State.{Content}
 use Rattle.insert_laws.proofs.AlphaInsert.{alpha_vertex_can, alpha_edge_can}
 use Rattle.insert_laws.proofs.Paths.{has_next}
@@ -38,7 +38,7 @@ module _ (K : ℕ → Type 0) (last : ℕ) where
       at.3 ∙ sym (ap other (sym at.2) ∙ number.numbers at.0 at.1)
 
 -- what was born, and what there is then
-module _ (hook : Meaning) (c : Content) (K : ℕ → Type 0) (Becomes : (ℕ → ℕ) → Links → Type 0) (births births' : ℕ) (a b : Content)
+module _ (hook : Hook) (c : Content) (K : ℕ → Type 0) (Becomes : (ℕ → ℕ) → Links → Type 0) (births births' : ℕ) (a b : Content)
     (p : IsGrown hook c K Becomes births a) (q : IsGrown hook c K Becomes births' b) where
   pub births-one : births ≡ births'
   births-one = p.counted ∙ ap (λ (keys : List ℕ). length keys) (numbered-keys K (made c.rows) p.keys q.keys p.star q.star p.numbered q.numbered) ∙ sym q.counted

@@ -11,7 +11,7 @@ use Rattle.map_defs.specs.Births.{IsNumbered, IsFresh}
 use Rattle.map_defs.specs.Insertion.{NoPairs, IsLinkedBy, AlphaEdgeDarts, AlphaEdgePairs, BetaEdgeLeads, FaceDarts}
 use Rattle.map_defs.specs.Inserting.{VertexDarts, IsVertex, InCorner, EdgeDarts, AreEdgePaired, IsEdge}
 use Rattle.machine_defs.specs.Relinking.{IsTooMany, IsGrown, NoDart}
-use Rattle.map_defs.specs.Values.{Meaning}
+use Rattle.map_defs.specs.Values.{Hook}
 use Rattle.machine_defs.specs.State.{Content}
 use Rattle.machine_defs.specs.Kept.{IsLawfulContent}
 use Rattle.link_laws.proofs.RowFacts.{rows_made, rows_lead_to_live, linked_live}
@@ -53,7 +53,7 @@ edge-live alpha rows w d e x live live' (inr o) = orbit-live alpha rows w _ e x 
 edge-live beta rows w d e x live live' (y, p) = linked_live rows 0 x p.0
 
 -- an insertion that keeps the laws
-module _ (hook : Meaning) (c : Content) (kept : IsLawfulContent c) (K : ℕ → Type 0) (live : (x : ℕ) → K x → IsLive c.rows x) where
+module _ (hook : Hook) (c : Content) (kept : IsLawfulContent c) (K : ℕ → Type 0) (live : (x : ℕ) → K x → IsLive c.rows x) where
   grown-fresh : (keys : List ℕ) (star : ℕ → ℕ) → IsNumbered K keys (made c.rows) star → IsFresh (links_of c.rows) K star
   grown-fresh keys star m = numbered_fresh K keys (made c.rows) star m (links_of c.rows)
       (λ x h. let within = live-within c.rows x (live x h) in omega arith) (rows_made c.rows)

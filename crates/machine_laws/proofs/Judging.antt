@@ -1,6 +1,7 @@
 -- Lists of checks: the first that fails has the least number.
 use Rattle.std.proofs.Common.{◌≡◌, ℕ, ◌≤◌, List, [], ◌∷◌, sym, ap, ◌∙◌, subst, inl, inr, arith, lit≤}
 use Rattle.map_defs.specs.Refusal.{Refusal, number}
+use Rattle.map_defs.specs.Values.{Hook}
 use Rattle.machine_defs.specs.State.{State}
 use Rattle.machine_defs.specs.Script as says
 use Rattle.machine_defs.specs.Script.{Line}
@@ -29,11 +30,11 @@ if-apart P free h = free h
 unless-apart : (P : Type 0) → P → (P → ⊥) → ⊥
 unless-apart P h free = free h
 
-pub ordered : (s : State) (line : Line) → AreOrdered (checks s line)
-ordered s (says.Polygon sides) = (if-apart _, (lit≤ tt, tt), (if-apart _, tt, tt))
-ordered s says.Dart = (if-apart _, tt, tt)
-ordered s (says.Del d) = (unless-apart _, (lit≤ tt, tt), (unless-apart _, tt, tt))
-ordered s (says.Sew i d e) = (
+pub ordered : (hook : Hook) (s : State) (line : Line) → AreOrdered (checks hook s line)
+ordered hook s (says.Polygon sides) = (if-apart _, (lit≤ tt, tt), (if-apart _, tt, tt))
+ordered hook s says.Dart = (if-apart _, tt, tt)
+ordered hook s (says.Del d) = (unless-apart _, (lit≤ tt, tt), (unless-apart _, tt, tt))
+ordered hook s (says.Sew i d e) = (
   if-apart _,
   (lit≤ tt, (lit≤ tt, (lit≤ tt, (lit≤ tt, tt)))),
   (
@@ -42,15 +43,15 @@ ordered s (says.Sew i d e) = (
     (unless-apart _, (lit≤ tt, (lit≤ tt, tt)), (unless-apart _, (lit≤ tt, tt), (unless-apart _, tt, tt))),
   ),
 )
-ordered s (says.Unsew i d) = (if-apart _, (lit≤ tt, (lit≤ tt, tt)), (unless-apart _, (lit≤ tt, tt), (if-apart _, tt, tt)))
-ordered s (says.Cell i d) = (if-apart _, (lit≤ tt, tt), (unless-apart _, tt, tt))
-ordered s (says.Same i d e) = (if-apart _, (lit≤ tt, (lit≤ tt, tt)), (unless-apart _, (lit≤ tt, tt), (unless-apart _, tt, tt)))
-ordered s (says.Free i d) = (if-apart _, (lit≤ tt, tt), (unless-apart _, tt, tt))
-ordered s (says.Sewable i d e) = (if-apart _, (lit≤ tt, (lit≤ tt, tt)), (unless-apart _, (lit≤ tt, tt), (unless-apart _, tt, tt)))
-ordered s says.Count = tt
-ordered s says.Show = tt
-ordered s (says.Vertex d) = (unless-apart _, (lit≤ tt, tt), (if-apart _, tt, tt))
-ordered s (says.Edge d e) = (
+ordered hook s (says.Unsew i d) = (if-apart _, (lit≤ tt, (lit≤ tt, tt)), (unless-apart _, (lit≤ tt, tt), (if-apart _, tt, tt)))
+ordered hook s (says.Cell i d) = (if-apart _, (lit≤ tt, tt), (unless-apart _, tt, tt))
+ordered hook s (says.Same i d e) = (if-apart _, (lit≤ tt, (lit≤ tt, tt)), (unless-apart _, (lit≤ tt, tt), (unless-apart _, tt, tt)))
+ordered hook s (says.Free i d) = (if-apart _, (lit≤ tt, tt), (unless-apart _, tt, tt))
+ordered hook s (says.Sewable i d e) = (if-apart _, (lit≤ tt, (lit≤ tt, tt)), (unless-apart _, (lit≤ tt, tt), (unless-apart _, tt, tt)))
+ordered hook s says.Count = tt
+ordered hook s says.Show = tt
+ordered hook s (says.Vertex d) = (unless-apart _, (lit≤ tt, tt), (if-apart _, tt, tt))
+ordered hook s (says.Edge d e) = (
   unless-apart _,
   (lit≤ tt, (lit≤ tt, (lit≤ tt, (lit≤ tt, (lit≤ tt, tt))))),
   (
@@ -63,7 +64,7 @@ ordered s (says.Edge d e) = (
     ),
   ),
 )
-ordered s (says.Face path) = (
+ordered hook s (says.Face path) = (
   if-apart _,
   (lit≤ tt, (lit≤ tt, (lit≤ tt, (lit≤ tt, (lit≤ tt, tt))))),
   (
@@ -76,19 +77,19 @@ ordered s (says.Face path) = (
     ),
   ),
 )
-ordered s (says.Remove i d) = (if-apart _, (lit≤ tt, (lit≤ tt, tt)), (unless-apart _, (lit≤ tt, tt), (unless-apart _, tt, tt)))
-ordered s (says.Contract i d) = (if-apart _, (lit≤ tt, (lit≤ tt, tt)), (unless-apart _, (lit≤ tt, tt), (unless-apart _, tt, tt)))
-ordered s says.Dual = (unless-apart _, tt, tt)
-ordered s (says.Rule i merge split) = (if-apart _, (lit≤ tt, tt), (unless-apart _, tt, tt))
-ordered s (says.Set i d value) = (if-apart _, (lit≤ tt, (lit≤ tt, tt)), (unless-apart _, (lit≤ tt, tt), (if-apart _, tt, tt)))
-ordered s (says.Clear i d) = (if-apart _, (lit≤ tt, (lit≤ tt, tt)), (unless-apart _, (lit≤ tt, tt), (if-apart _, tt, tt)))
-ordered s (says.Mark name) = (if-apart _, tt, tt)
-ordered s (says.Undo name) = (unless-apart _, tt, tt)
-ordered s (says.Log name) = (unless-apart _, tt, tt)
-ordered s (says.Value i d) = (if-apart _, (lit≤ tt, tt), (unless-apart _, tt, tt))
-ordered s (says.Removable i d) = (if-apart _, (lit≤ tt, tt), (unless-apart _, tt, tt))
-ordered s (says.Contractible i d) = (if-apart _, (lit≤ tt, tt), (unless-apart _, tt, tt))
-ordered s says.Off = (if-apart _, (lit≤ tt, (lit≤ tt, tt)), (if-apart _, (lit≤ tt, tt), (if-apart _, tt, tt)))
+ordered hook s (says.Remove i d) = (if-apart _, (lit≤ tt, (lit≤ tt, tt)), (unless-apart _, (lit≤ tt, tt), (unless-apart _, tt, tt)))
+ordered hook s (says.Contract i d) = (if-apart _, (lit≤ tt, (lit≤ tt, tt)), (unless-apart _, (lit≤ tt, tt), (unless-apart _, tt, tt)))
+ordered hook s says.Dual = (unless-apart _, tt, tt)
+ordered hook s (says.Rule i merge split) = (if-apart _, (lit≤ tt, tt), (unless-apart _, tt, tt))
+ordered hook s (says.Set i d value) = (if-apart _, (lit≤ tt, (lit≤ tt, tt)), (unless-apart _, (lit≤ tt, tt), (if-apart _, tt, tt)))
+ordered hook s (says.Clear i d) = (if-apart _, (lit≤ tt, (lit≤ tt, tt)), (unless-apart _, (lit≤ tt, tt), (if-apart _, tt, tt)))
+ordered hook s (says.Mark name) = (if-apart _, tt, tt)
+ordered hook s (says.Undo name) = (unless-apart _, tt, tt)
+ordered hook s (says.Log name) = (unless-apart _, tt, tt)
+ordered hook s (says.Value i d) = (if-apart _, (lit≤ tt, tt), (unless-apart _, tt, tt))
+ordered hook s (says.Removable i d) = (if-apart _, (lit≤ tt, tt), (unless-apart _, tt, tt))
+ordered hook s (says.Contractible i d) = (if-apart _, (lit≤ tt, tt), (unless-apart _, tt, tt))
+ordered hook s says.Off = (if-apart _, (lit≤ tt, (lit≤ tt, tt)), (if-apart _, (lit≤ tt, tt), (if-apart _, tt, tt)))
 
 refused-is : (r q : Refusal) → Refused r ≡ Refused q → r ≡ q
 refused-is r q e = cc

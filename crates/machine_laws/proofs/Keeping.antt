@@ -9,7 +9,7 @@ use Rattle.map_defs.specs.Links.{Links}
 use Rattle.map_defs.specs.Laws.{Laws, IsLawful}
 use Rattle.map_defs.specs.Rows.{Rows, row_at, IsLive, links_of, AreWide, made, made_max, IsSound}
 use Rattle.map_defs.specs.Cells.{InCell}
-use Rattle.map_defs.specs.Values.{Value, Rule, Meaning, meaning_of}
+use Rattle.map_defs.specs.Values.{Value, Rule, Hook, meaning_of}
 use Rattle.map_defs.specs.Carry.{AreEqualOnCells}
 use Rattle.machine_defs.specs.State.{Content, State, Mark, value_at, rule_at, kept_past, steps_to}
 use Rattle.machine_defs.specs.Relinking.{IsRelinked, AreCarriedBy}
@@ -43,7 +43,7 @@ kept-step s next kept is = record {
 }
 
 -- no value is there without a rule
-no-value : (hook : Meaning) (c next : Content) (i d : ℕ) (rule : Option Rule) → rule ≡ None → AreCarriedBy hook c next i rule → value_at next i d ≡ None
+no-value : (hook : Hook) (c next : Content) (i d : ℕ) (rule : Option Rule) → rule ≡ None → AreCarriedBy hook c next i rule → value_at next i d ≡ None
 no-value hook c next i d None is none = none d
 no-value hook c next i d (Some rule) is carried = absurd (cc (is))
 
@@ -73,7 +73,7 @@ sound-of k n rows lawful wide nothing few = record {
 }
 
 -- a change of links that keeps the laws
-module _ (hook : Meaning) (c : Content) (kept : IsLawfulContent c) (births : ℕ) (Ended : ℕ → Type 0) (Becomes : Links → Type 0) (next : Content)
+module _ (hook : Hook) (c : Content) (kept : IsLawfulContent c) (births : ℕ) (Ended : ℕ → Type 0) (Becomes : Links → Type 0) (next : Content)
     (few : made c.rows + births ≤ made_max) (lawful : Laws c.kind (links_of next.rows)) (r : IsRelinked hook c births Ended Becomes next) where
   laws : Laws c.kind (links_of c.rows)
   laws = laws-of c kept

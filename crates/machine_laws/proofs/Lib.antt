@@ -20,6 +20,8 @@ pub mod Outcomes
 pub mod Logs
 pub mod Runs
 pub mod Audits
+pub mod Soaks
 pub mod Programs
 pub mod OneStep
+pub mod KnownRules
 pub mod ListedTotals

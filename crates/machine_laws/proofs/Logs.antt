@@ -1,6 +1,6 @@
 -- Undo leads where the steps of a log, taken back, lead.
 use Rattle.std.proofs.Common.{◌≡◌, ℕ, List, sym, ap, ◌∙◌, subst, inl, inr}
-use Rattle.map_defs.specs.Values.{Meaning}
+use Rattle.map_defs.specs.Values.{Hook}
 use Rattle.machine_defs.specs.State.{State, Mark}
 use Rattle.machine_defs.specs.Kept.{IsLawfulState}
 use Rattle.machine_defs.specs.Difference.{Difference, AreDifferences}
@@ -16,7 +16,7 @@ use Rattle.machine_laws.proofs.Traced.{leads-back}
 logged-one : (steps steps' : List Difference) → Logged steps ≡ Logged steps' → steps ≡ steps'
 logged-one steps steps' e = cc
 
-module _ (hook : Meaning) (s : State) (name : List ℕ) (steps : List Difference) (reply : Reply) (same new : State) (kept : IsLawfulState s) (traced : AreTraced s) where
+module _ (hook : Hook) (s : State) (name : List ℕ) (steps : List Difference) (reply : Reply) (same new : State) (kept : IsLawfulState s) (traced : AreTraced s) where
   pub undone-is : Step hook s (says.Log name) (Logged steps) same → Step hook s (says.Undo name) reply new → all_taken_back steps s.present ≡ new.present
   undone-is (inl refused) undo = absurd (let e = refused.1 in cc)
   undone-is (inr (has, told)) (inl refused) = absurd (refused.0 has)

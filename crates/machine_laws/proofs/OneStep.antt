@@ -14,7 +14,7 @@ use Rattle.machine_defs.specs.Relinking.{IsTooMany, NoDart, IsRelinked}
 use Rattle.map_defs.specs.Sewing.{IsSewn, IsUnsewn}
 use Rattle.map_defs.specs.Refusal.{Refusal}
 use Rattle.map_defs.specs.RuleNames.{named_merge, named_split}
-use Rattle.map_defs.specs.Values.{Meaning, Value}
+use Rattle.map_defs.specs.Values.{Hook, Value}
 use Rattle.machine_defs.specs.State.{State, Content, Mark, rule_at, value_at, with_born, without_dart, steps_to}
 use Rattle.machine_defs.specs.Script as says
 use Rattle.machine_defs.specs.Script.{Line}
@@ -55,7 +55,7 @@ use Rattle.machine_laws.proofs.Outcomes.{Leads, to_same, to_next, to_marked, to_
 use Rattle.machine_laws.proofs.Answers.{truth-one, darts-one, counts-one}
 use Rattle.machine_laws.proofs.OffOne.{off-one}
 
-pub effect-refuses : (hook : Meaning) (s : State) (line : Line) (r : Refusal) (new : State) → Effect hook s line (Refused r) new → ⊥
+pub effect-refuses : (hook : Hook) (s : State) (line : Line) (r : Refusal) (new : State) → Effect hook s line (Refused r) new → ⊥
 effect-refuses hook s (says.Polygon sides) r new e = let f = e.0 in cc
 effect-refuses hook s says.Dart r new e = let f = e.0 in cc
 effect-refuses hook s (says.Del d) r new e = let f = e.0 in cc
@@ -85,7 +85,7 @@ effect-refuses hook s (says.Contractible i d) r new f = let g = f.2 in cc
 effect-refuses hook s says.Off r new f = let g = f.2 in cc
 
 -- A change of links by which no dart is born and those of Ended end: what sewing, unsewing, removal and contraction are.
-abbrev Changes : Meaning → State → (ℕ → Type 0) → (Links → Type 0) → Reply → State → Type 0
+abbrev Changes : Hook → State → (ℕ → Type 0) → (Links → Type 0) → Reply → State → Type 0
 Changes hook s Ended Becomes reply new =
     (next : Content) × IsRelinked hook s.present 0 Ended Becomes next × (reply ≡ Done 0 0) × (new ≡ steps_to s next)
 
@@ -165,7 +165,7 @@ module _ (c : Content) (kept : IsLawfulContent c) where
       kept-ended c kept d live alone
       (subst (λ (r : Rows). IsSound c.kind c.dim (slice_set r d None)) (append-nil c.rows) (after-sound c.kind c.dim c.rows (death_edit d) kept.begun kept.sound fits few))
 
-module _ (hook : Meaning) (s : State) where
+module _ (hook : Hook) (s : State) where
   -- a change of links has one reply, and leads to one state where its links are told
   changes-reply : (Ended : ℕ → Type 0) (Becomes : Links → Type 0) → HasOneReply (Changes hook s Ended Becomes)
   changes-reply Ended Becomes one other new new' e f = e.2 ∙ sym f.2
@@ -191,15 +191,15 @@ module _ (hook : Meaning) (s : State) where
   inserts-one K Becomes tells one other new new' e f =
       (inserts-reply K Becomes one other new new' e f, e.4 ∙ ap (steps_to s) (grown-one hook s.present K Becomes e.0 f.0 e.1 f.1 e.2 f.2 tells) ∙ sym f.4)
 
-  effect-one : (line : Line) → LineNeeds line s → ReplyNeeds line s → AllPass (checks s line) → IsOne s (Effect hook s line)
+  effect-one : (line : Line) → LineNeeds line s → ReplyNeeds line s → AllPass (checks hook s line) → IsOne s (Effect hook s line)
   effect-one (says.Polygon sides) needs told p = gives-one s _ _
   effect-one says.Dart needs told p = gives-one s _ _
   effect-one (says.Del d) needs told p = gives-one s _ _
   effect-one (says.Sew i d e) needs told p = changes-one _ _ (sewn-one s.present.kind i d e (links_in s.present))
   effect-one (says.Unsew i d) needs told p = changes-one _ _ (unsewn-one s.present.kind i d (links_in s.present))
   effect-one (says.Rule i merge split) needs told p = λ one other new new' e f.
-      let merges = some-one (named_merge merge) e.0 f.0 e.2 f.2 in
-      let splits = some-one (named_split split) e.1 f.1 e.3 f.3 in
+      let merges = some-one (named_merge hook.names merge) e.0 f.0 e.2 f.2 in
+      let splits = some-one (named_split hook.names split) e.1 f.1 e.3 f.3 in
       (e.4.0 ∙ sym f.4.0, e.4.1 ∙ rw (merges, splits) refl ∙ sym f.4.1)
   effect-one (says.Set i d value) needs told p = given-one s i d _
   effect-one (says.Clear i d) needs told p = given-one s i d _
@@ -233,7 +233,7 @@ module _ (hook : Meaning) (s : State) where
   effect-one says.Off needs told p = λ one other new new' e f.
       (e.2 ∙ ap Meshed (off-one s.present.kind s.present.rows told (value_at s.present 0) e.0 f.0 e.1 f.1) ∙ sym f.2, e.3 ∙ sym f.3)
 
-  effect-reply : (line : Line) → ReplyNeeds line s → AllPass (checks s line) → HasOneReply (Effect hook s line)
+  effect-reply : (line : Line) → ReplyNeeds line s → AllPass (checks hook s line) → HasOneReply (Effect hook s line)
   effect-reply (says.Edge d e) told p = inserts-reply _ _
   effect-reply (says.Face path) told p = inserts-reply _ _
   effect-reply (says.Remove i d) told p = changes-reply _ _
@@ -241,23 +241,23 @@ module _ (hook : Meaning) (s : State) where
   effect-reply (says.Undo name) told p = λ one other new new' e f. e.3.0 ∙ sym f.3.0
   effect-reply line told p = λ one other new new' e f. (effect-one line tt told p one other new new' e f).0
 
-  effect-state : (line : Line) → LineNeeds line s → AllPass (checks s line) → HasOneState (Effect hook s line)
+  effect-state : (line : Line) → LineNeeds line s → AllPass (checks hook s line) → HasOneState (Effect hook s line)
   effect-state (says.Log name) needs p = λ one other new new' e f. e.3.3 ∙ sym f.3.3
   effect-state says.Off needs p = λ one other new new' e f. e.3 ∙ sym f.3
   effect-state line needs p = λ one other new new' e f. (effect-one line needs tt p one other new new' e f).1
 
   pub step-reply : (line : Line) → ReplyNeeds line s → HasOneReply (Step hook s line)
   step-reply line told one other new new' =
-      judged-both s (Effect hook s line) one other new new' (one ≡ other) (λ r e f here there. e ∙ sym f) (checks s line) (ordered s line)
+      judged-both s (Effect hook s line) one other new new' (one ≡ other) (λ r e f here there. e ∙ sym f) (checks hook s line) (ordered hook s line)
       (λ passes. effect-reply line told passes one other new new')
 
   -- a step leads to one state where the state has what its line needs
   pub step-state : (line : Line) → LineNeeds line s → HasOneState (Step hook s line)
   step-state line needs one other new new' =
-      judged-both s (Effect hook s line) one other new new' (new ≡ new') (λ r e f here there. here ∙ sym there) (checks s line) (ordered s line)
+      judged-both s (Effect hook s line) one other new new' (new ≡ new') (λ r e f here there. here ∙ sym there) (checks hook s line) (ordered hook s line)
       (λ passes. effect-state line needs passes one other new new')
 
-module _ (hook : Meaning) (s : State) (kept : IsLawfulState s) where
+module _ (hook : Hook) (s : State) (kept : IsLawfulState s) where
   few : made s.present.rows + 0 ≤ made_max
   few = let f = kept.present.sound.few in omega arith
 
@@ -314,7 +314,7 @@ module _ (hook : Meaning) (s : State) (kept : IsLawfulState s) where
       stays-leads e.0 new (kept-valued s.present kept.present i d live value ruled e.0 e.1) e.1.kind e.1.dim (ap (λ (r : Rows). length r) rows)
       (λ x h. subst (λ (r : Rows). IsLive r x) rows h) e.3
 
-  effect-leads : (line : Line) → AllPass (checks s line) → (reply : Reply) (new : State) → Effect hook s line reply new → Leads s new
+  effect-leads : (line : Line) → AllPass (checks hook s line) → (reply : Reply) (new : State) → Effect hook s line reply new → Leads s new
   effect-leads (says.Polygon sides) p reply new e = born-leads (polygon_rows s.present.kind s.present.dim (made s.present.rows + 1) sides) new (polygon-kept s.present kept.present sides (not-above p.1.0)) e.1
   effect-leads says.Dart p reply new e = born-leads (free_row s.present.dim ∷ []) new (dart-kept s.present kept.present (not-above p.0)) e.1
   effect-leads (says.Del d) p reply new e = del-leads d new p.0 p.1.0 e.1
@@ -353,7 +353,7 @@ module _ (hook : Meaning) (s : State) (kept : IsLawfulState s) where
 
   step-leads : (line : Line) (reply : Reply) (new : State) → Step hook s line reply new → Leads s new
   step-leads line reply new =
-      judged-kept s (Effect hook s line) (Leads s) reply new (checks s line) (to_same refl) (λ passes. effect-leads line passes reply new)
+      judged-kept s (Effect hook s line) (Leads s) reply new (checks hook s line) (to_same refl) (λ passes. effect-leads line passes reply new)
 
   pub step-kept : (line : Line) (reply : Reply) (new : State) → Step hook s line reply new → IsLawfulState new
   step-kept line reply new step = leads-kept s new kept (step-leads line reply new step)

@@ -3,7 +3,7 @@ use Rattle.std.proofs.Common.{◌≡◌, ◌≢◌, ℕ, ◌≤◌, List, ◌++�
 use Rattle.std.proofs.lemmas.Fmt.{decimal_injective}
 use Rattle.std.proofs.lemmas.Grind.{flat_map-append}
 use Rattle.map_defs.specs.Kind.{Kind, alpha, beta, letter}
-use Rattle.map_defs.specs.Values.{Meaning}
+use Rattle.map_defs.specs.Values.{Hook}
 use Rattle.machine_defs.specs.State.{State, empty_state}
 use Rattle.machine_defs.specs.Kept.{IsLawfulState}
 use Rattle.machine_defs.specs.Script.{lines_of}
@@ -12,9 +12,10 @@ use Rattle.machine_defs.specs.Machine.{Run}
 use Rattle.machine_defs.specs.Outside.{Files, held, IsFront}
 use Rattle.map_defs.specs.Off.{Mesh, mesh_of}
 use Rattle.machine_defs.specs.Loading.{IsLoaded, IsMeshContent, first_state, refusal_line}
-use Rattle.machine_defs.specs.Program.{Command, IsOffered, RunScript, Audit, TellsCommand, no_mesh, mesh_word, FileAnswer, ScriptAnswer, MeshAnswer, CommandAnswer, StartsFrom, ProgramAnswer, untold, told, Begins, Starts, whole, lines, file_limit, run_status}
+use Rattle.machine_defs.specs.Program.{Command, IsOffered, RunScript, Audit, Soak, TellsCommand, no_mesh, mesh_word, FileAnswer, ScriptAnswer, MeshAnswer, CommandAnswer, StartsFrom, ProgramAnswer, untold, told, Begins, Starts, whole, lines, file_limit, run_status}
 use Rattle.machine_defs.specs.Auditing.{AuditAnswer}
 use Rattle.machine_laws.proofs.Audits.{audit-one}
+use Rattle.machine_laws.proofs.Soaks.{soak-one}
 use Rattle.machine_laws.proofs.Runs.{run-one, run-front}
 use Rattle.machine_laws.proofs.Begun.{empty-kept, first-kept}
 use Rattle.loading_laws.proofs.MeshOne.{mesh-content-one}
@@ -46,8 +47,18 @@ told-one words (RunScript k n mesh script) (RunScript k' n' mesh' script') t t' 
 told-one words (RunScript k n mesh script) (Audit listing) t t' = absurd (let same = ap length (sym t.1 ∙ t'.1) in omega arith)
 told-one words (Audit listing) (RunScript k n mesh script) t t' = absurd (let same = ap length (sym t.1 ∙ t'.1) in omega arith)
 told-one words (Audit listing) (Audit listing') t t' = let same = sym t.1 ∙ t'.1 in cc
+told-one words (RunScript k n mesh script) (Soak k' seed count) t t' = absurd (let same = ap length (sym t.1 ∙ t'.1) in omega arith)
+told-one words (Soak k seed count) (RunScript k' n mesh script) t t' = absurd (let same = ap length (sym t.1 ∙ t'.1) in omega arith)
+told-one words (Audit listing) (Soak k seed count) t t' = absurd (let same = ap length (sym t.1 ∙ t'.1) in omega arith)
+told-one words (Soak k seed count) (Audit listing) t t' = absurd (let same = ap length (sym t.1 ∙ t'.1) in omega arith)
+told-one words (Soak k seed count) (Soak k' seed' count') t t' =
+    let same = sym t.1 ∙ t'.1 in
+    let kinds : k ≡ k' = letter-one k k' (cc (same)) in
+    let seeds : seed ≡ seed' = decimal_injective seed seed' (omega (arith, t.0.0)) (omega (arith, t'.0.0)) (cc (same)) in
+    let counts : count ≡ count' = decimal_injective count count' (omega (arith, t.0.2)) (omega (arith, t'.0.2)) (cc (same)) in
+    cc
 
-script-one : (hook : Meaning) (start : State) (script one other : List ℕ) (status status' : ℕ) → IsLawfulState start → ScriptAnswer hook start script one status → ScriptAnswer hook start script other status' → (one ≡ other) × (status ≡ status')
+script-one : (hook : Hook) (start : State) (script one other : List ℕ) (status status' : ℕ) → IsLawfulState start → ScriptAnswer hook start script one status → ScriptAnswer hook start script other status' → (one ≡ other) × (status ≡ status')
 script-one hook start script one other status status' kept a b =
     let same = run-one hook start (lines_of script) a.0 b.0 a.1 b.1 kept a.2 b.2 in
     (a.3 ∙ ap replies_text same.0 ∙ sym b.3, a.4 ∙ ap (λ (replies : List Reply). run_status (any_refused replies)) same.0 ∙ sym b.4)
@@ -75,7 +86,7 @@ loaded-one k n mesh start start' l l' =
 pub loaded-kept : (k : Kind) (n : ℕ) (mesh : List ℕ) (start : State) → 2 ≤ n → IsLoaded k n mesh start → IsLawfulState start
 loaded-kept k n mesh start flat l = subst IsLawfulState (sym l.begun) (first-kept l.content (maps-kept k n l.mesh l.content flat l.sound l.is))
 
-mesh-answer-one : (hook : Meaning) (k : Kind) (n : ℕ) (mesh script one other : List ℕ) (status status' : ℕ) → 2 ≤ n
+mesh-answer-one : (hook : Hook) (k : Kind) (n : ℕ) (mesh script one other : List ℕ) (status status' : ℕ) → 2 ≤ n
     → MeshAnswer hook k n mesh script one status → MeshAnswer hook k n mesh script other status' → (one ≡ other) × (status ≡ status')
 mesh-answer-one hook k n mesh script one other status status' flat (inl a) (inl b) = (let same = sym a.0 ∙ b.0 in cc, a.1 ∙ sym b.1)
 mesh-answer-one hook k n mesh script one other status status' flat (inl a) (inr b) = absurd (let none = not-refused k n mesh b.0 b.1 in let some = a.0 in cc)
@@ -84,7 +95,7 @@ mesh-answer-one hook k n mesh script one other status status' flat (inr a) (inr 
     script-one hook b.0 script one other status status' (loaded-kept k n mesh b.0 flat b.1)
     (subst (λ (s : State). ScriptAnswer hook s script one status) (loaded-one k n mesh a.0 b.0 a.1 b.1) a.2) b.2
 
-command-one : (hook : Meaning) (files : Files) (c : Command) (one other : List ℕ) (status status' : ℕ) → IsOffered c → CommandAnswer hook files c one status → CommandAnswer hook files c other status' → (one ≡ other) × (status ≡ status')
+command-one : (hook : Hook) (files : Files) (c : Command) (one other : List ℕ) (status status' : ℕ) → IsOffered c → CommandAnswer hook files c one status → CommandAnswer hook files c other status' → (one ≡ other) × (status ≡ status')
 command-one hook files (RunScript k n None script) one other status status' offered a b =
     file-one (held files script) (ScriptAnswer hook (empty_state k n)) one other status status'
     (λ bytes x y. script-one hook (empty_state k n) bytes one other status status' (empty-kept k n offered.0) x y) a b
@@ -94,15 +105,16 @@ command-one hook files (RunScript k n (Some name) script) one other status statu
     (λ bytes v w. mesh-answer-one hook k n mesh bytes one other status status' offered.0 v w) x y) a b
 command-one hook files (Audit listing) one other status status' offered a b =
     file-one (held files listing) AuditAnswer one other status status' (λ bytes x y. audit-one bytes one other status status' x y) a b
+command-one hook files (Soak k seed count) one other status status' offered a b = soak-one hook k seed count one other status status' a b
 
-pub answer-one : (hook : Meaning) (words : List (List ℕ)) (files : Files) (one other : List ℕ) (status status' : ℕ) → ProgramAnswer hook words files one status → ProgramAnswer hook words files other status' → (one ≡ other) × (status ≡ status')
+pub answer-one : (hook : Hook) (words : List (List ℕ)) (files : Files) (one other : List ℕ) (status status' : ℕ) → ProgramAnswer hook words files one status → ProgramAnswer hook words files other status' → (one ≡ other) × (status ≡ status')
 answer-one hook words files one other status status' (untold n t s) (untold n' t' s') = (t ∙ sym t', s ∙ sym s')
 answer-one hook words files one other status status' (untold n t s) (told c tells a) = absurd (n c tells)
 answer-one hook words files one other status status' (told c tells a) (untold n t s) = absurd (n c tells)
 answer-one hook words files one other status status' (told c tells a) (told c' tells' a') =
     command-one hook files c' one other status status' tells'.0 (subst (λ (d : Command). CommandAnswer hook files d one status) (told-one words c c' tells tells') a) a'
 
-front-of-all : (hook : Meaning) (start : State) (script front text : List ℕ) (status : ℕ) → IsLawfulState start → Begins hook start (lines_of script) front → ScriptAnswer hook start script text status → IsFront front text
+front-of-all : (hook : Hook) (start : State) (script front text : List ℕ) (status : ℕ) → IsLawfulState start → Begins hook start (lines_of script) front → ScriptAnswer hook start script text status → IsFront front text
 front-of-all hook start script front text status kept b a =
     let more = run-front hook start b.done b.left b.replies a.0 b.new a.1 kept b.run (subst (λ (ls : List (List ℕ)). Run hook start ls a.0 a.1) b.all a.2) in (
       b.begins.0 ++ replies_text more.0,
@@ -116,7 +128,7 @@ file-read (Some held') read bytes text status is short (inl a) = absurd (let sam
 file-read (Some held') read bytes text status is short (inr a) = let same : held' ≡ bytes = cc in subst (λ (bs : List ℕ). read bs text status) same a.1
 
 -- the script of a command was obeyed from the state that it starts from
-command-run : (hook : Meaning) (files : Files) (k : Kind) (n : ℕ) (mesh : Option (List ℕ)) (script : List ℕ) (start : State) (bytes text : List ℕ) (status : ℕ)
+command-run : (hook : Hook) (files : Files) (k : Kind) (n : ℕ) (mesh : Option (List ℕ)) (script : List ℕ) (start : State) (bytes text : List ℕ) (status : ℕ)
     → StartsFrom files k n mesh start → held files script ≡ Some bytes → length bytes ≤ file_limit → CommandAnswer hook files (RunScript k n mesh script) text status → ScriptAnswer hook start bytes text status
 command-run hook files k n None script start bytes text status begun is short a =
     subst (λ (s : State). ScriptAnswer hook s bytes text status) (sym begun) (file-read (held files script) (ScriptAnswer hook (empty_state k n)) bytes text status is short a)
@@ -132,7 +144,7 @@ starts-kept : (files : Files) (k : Kind) (n : ℕ) (mesh : Option (List ℕ)) (s
 starts-kept files k n None start flat begun = subst IsLawfulState (sym begun) (empty-kept k n flat)
 starts-kept files k n (Some name) start flat begun = loaded-kept k n begun.0 start flat begun.2
 
-pub front-one : (hook : Meaning) (words : List (List ℕ)) (files : Files) (front text : List ℕ) (status : ℕ) → Starts hook words files front → ProgramAnswer hook words files text status → IsFront front text
+pub front-one : (hook : Hook) (words : List (List ℕ)) (files : Files) (front text : List ℕ) (status : ℕ) → Starts hook words files front → ProgramAnswer hook words files text status → IsFront front text
 front-one hook words files front text status (whole text' status' a f) b = subst (IsFront front) (answer-one hook words files text' text status' status a b).0 f
 front-one hook words files front text status (lines c tells f) (untold n t s) = absurd (n c tells)
 front-one hook words files front text status (lines (RunScript k n mesh script) tells f) (told c' tells' a) =
@@ -140,3 +152,4 @@ front-one hook words files front text status (lines (RunScript k n mesh script) 
     (command-run hook files k n mesh script f.0 f.1 text status f.2 f.3.0 f.3.1
     (subst (λ (d : Command). CommandAnswer hook files d text status) (told-one words c' (RunScript k n mesh script) tells' tells) a))
 front-one hook words files front text status (lines (Audit listing) tells f) (told c' tells' a) = (text, rw f refl)
+front-one hook words files front text status (lines (Soak k seed count) tells f) (told c' tells' a) = (text, rw f refl)

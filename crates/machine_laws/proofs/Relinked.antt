@@ -6,7 +6,7 @@ use Rattle.map_defs.specs.Rows.{Rows, IsLive, links_of}
 use Rattle.map_defs.specs.Cells.{InCell}
 use Rattle.map_defs.specs.Pairs.{IsJoined}
 use Rattle.map_defs.specs.Sewing.{SewnPairs, IsSewn, IsFreed, IsUnsewn}
-use Rattle.map_defs.specs.Values.{Value, Rule, Meaning, meaning_of}
+use Rattle.map_defs.specs.Values.{Value, Rule, Hook, meaning_of}
 use Rattle.map_defs.specs.Carry.{AreCarried}
 use Rattle.machine_defs.specs.State.{Content, value_at, rule_at}
 use Rattle.machine_defs.specs.Relinking.{IsRelinked, AreCarriedBy}
@@ -37,7 +37,7 @@ unsewn-one k i d L N M b c t x = by_cases (IsFreed k L i d x t) _ _
     (λ f. b.freed x t f ∙ sym (c.freed x t f))
     (λ none. b.kept x t none ∙ sym (c.kept x t none))
 
-module _ (hook : Meaning) (c : Content) where
+module _ (hook : Hook) (c : Content) where
   -- the values that are carried to the same rows are the same
   carried-one : (i : ℕ) (rule : Option Rule) (a b : Content) → a.rows ≡ b.rows
       → AreCarriedBy hook c a i rule → AreCarriedBy hook c b i rule → (d : ℕ) → IsLive a.rows d → value_at a i d ≡ value_at b i d

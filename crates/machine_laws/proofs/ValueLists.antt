@@ -1,7 +1,7 @@
 -- The valued cells of a content are one list.
 use Rattle.std.proofs.Common.{◌≡◌, ℕ, zero, suc, ◌<◌, ◌⊎◌, List, [], ◌∷◌, length, get_or, refl, sym, ap, ◌∙◌, subst, inl, inr, arith, Contains}
 use Rattle.machine_defs.specs.State.{Content}
-use Rattle.machine_defs.specs.Listing.{ListValue, ListsValues, IsBefore}
+use Rattle.machine_defs.specs.Listing.{ListValue, ListsValues, ListsValuesIn, IsBefore}
 
 abbrev Value' : Type 0
 Value' = ListValue
@@ -58,4 +58,8 @@ one-list (v ∷ vs) (w ∷ ws) o p f g =
 
 pub one-listing : (c : Content) (vs ws : List ListValue) → ListsValues c vs → ListsValues c ws → vs ≡ ws
 one-listing c vs ws a b =
+    one-list vs ws (λ j k d. a.ordered j k d) (λ j k d. b.ordered j k d) (λ x h. (b.members x).1 ((a.members x).0 h)) (λ x h. (a.members x).1 ((b.members x).0 h))
+
+pub one-dimension : (c : Content) (i : ℕ) (vs ws : List ListValue) → ListsValuesIn c i vs → ListsValuesIn c i ws → vs ≡ ws
+one-dimension c i vs ws a b =
     one-list vs ws (λ j k d. a.ordered j k d) (λ j k d. b.ordered j k d) (λ x h. (b.members x).1 ((a.members x).0 h)) (λ x h. (a.members x).1 ((b.members x).0 h))

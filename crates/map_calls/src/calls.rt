@@ -7,7 +7,7 @@ ghost use Rattle.map_defs.specs.Edits.{Fits, after_edit};
 ghost use Rattle.machine_defs.specs.State.{empty_state};
 
 use crate::lines::{Line, Name, Wanted, check_lines};
-use attr_rules::FirstCopy;
+use attr_rules::OrCopy;
 use cell_walk::{cell_lists, cells};
 use link_rows::{Edit, Links, polygon_edit};
 use map_core::{Done, Map};
@@ -90,7 +90,7 @@ const TRIANGLE: [(Line, Wanted); 1] = [
 const VALUES: [(Line, Wanted); 9] = [
     (Line::Polygon { sides: 3 }, Wanted::Made { first: 1, count: 6 }),
     (Line::Set { dim: 0, dart: 1, value: FIVE }, Wanted::No(Refusal::NoRule)),
-    (Line::Rule { dim: 0, merge: "last", split: "host" }, Wanted::No(Refusal::NoRule)),
+    (Line::Rule { dim: 0, merge: "last", split: "spam" }, Wanted::No(Refusal::NoRule)),
     (Line::Rule { dim: 3, merge: "last", split: "copy" }, Wanted::No(Refusal::BadDim)),
     (Line::Rule { dim: 0, merge: "last", split: "copy" }, Wanted::Done),
     (Line::Set { dim: 0, dart: 2, value: FIVE }, Wanted::Done),
@@ -151,11 +151,11 @@ fn map_after<const DIM: usize>(
     rt: &impl Abort,
     alloc: Global,
     rows: &[(Line, Wanted)],
-) -> Map<'static, Alpha, FirstCopy, DIM>
+) -> Map<'static, Alpha, OrCopy, DIM>
     requires low { 2 ≤ DIM }
     requires high { DIM ≤ 8 }
 {
-    let mut map = Map::<'_, Alpha, FirstCopy, DIM>::new(alloc, &FirstCopy);
+    let mut map = Map::<'_, Alpha, OrCopy, DIM>::new(alloc, &OrCopy);
     check_lines(rt, alloc, &mut map, rows);
     map
 }
@@ -164,7 +164,7 @@ fn map_after<const DIM: usize>(
 fn check_counts<const DIM: usize>(
     rt: &impl Abort,
     alloc: Global,
-    map: &Map<'_, Alpha, FirstCopy, DIM>,
+    map: &Map<'_, Alpha, OrCopy, DIM>,
     wanted: &[u64],
 ) -> Result<(), Fail> {
     let counts = map.count(alloc)?;
@@ -213,7 +213,7 @@ fn a_polygon_in_dimension_eight(rt: HostRuntime) -> Result<(), Fail> {
 fn check_cell(
     rt: &impl Abort,
     alloc: Global,
-    map: &Map<'_, Alpha, FirstCopy, 2>,
+    map: &Map<'_, Alpha, OrCopy, 2>,
 ) -> Result<(), Refused> {
     assert_eq!(rt; map.cell(alloc, 2, 1)?.len(), 6);
     assert!(rt; map.same(alloc, 0, 2, 3)?);
@@ -225,7 +225,7 @@ fn check_cell(
 fn check_offers(
     rt: &impl Abort,
     alloc: Global,
-    map: &Map<'_, Alpha, FirstCopy, 2>,
+    map: &Map<'_, Alpha, OrCopy, 2>,
 ) -> Result<(), Refused> {
     assert!(rt; map.sewable(alloc, 2, 1, 3)?);
     assert!(rt; map.removable(alloc, 2, 1)?);
@@ -237,7 +237,7 @@ fn check_offers(
 fn check_questions(
     rt: &impl Abort,
     alloc: Global,
-    map: &Map<'_, Alpha, FirstCopy, 2>,
+    map: &Map<'_, Alpha, OrCopy, 2>,
 ) -> Result<(), Fail> {
     check_cell(rt, alloc, map)?;
     check_offers(rt, alloc, map)?;
@@ -254,7 +254,7 @@ fn answers_questions(rt: HostRuntime) -> Result<(), Fail> {
 fn check_listing(
     rt: &impl Abort,
     alloc: Global,
-    map: &Map<'_, Alpha, FirstCopy, 2>,
+    map: &Map<'_, Alpha, OrCopy, 2>,
 ) -> Result<(), Fail> {
     let listing = map.listing(alloc)?;
     assert_eq!(rt; (listing.letter, listing.dim, listing.made), (b'g', 2, 6));
@@ -275,7 +275,7 @@ fn lists_a_triangle(rt: HostRuntime) -> Result<(), Fail> {
 /// Compares the value of each dimension and dart.
 fn check_values(
     rt: &impl Abort,
-    map: &Map<'_, Alpha, FirstCopy, 2>,
+    map: &Map<'_, Alpha, OrCopy, 2>,
     rows: &[(u64, u64, Option<Value>)],
 ) {
     for (dim, dart, value) in rows {
@@ -327,7 +327,7 @@ fn triangle(rt: &impl Abort, alloc: Global) -> Result<(Edit, Links<Alpha, 2>), A
 }
 
 /// Compares what loading answers, and the value of a vertex of the triangle that was loaded.
-fn check_loaded(rt: &impl Abort, map: &Map<'_, Alpha, FirstCopy, 2>, done: Done) {
+fn check_loaded(rt: &impl Abort, map: &Map<'_, Alpha, OrCopy, 2>, done: Done) {
     assert_eq!(rt; done, Done { first: 1, count: 6 });
     assert_eq!(rt; map.value(0, 5), Ok(Some(FIVE)));
 }
@@ -336,7 +336,7 @@ fn check_loaded(rt: &impl Abort, map: &Map<'_, Alpha, FirstCopy, 2>, done: Done)
 fn load_edit(
     rt: &impl Abort,
     alloc: Global,
-    map: &mut Map<'_, Alpha, FirstCopy, 2>,
+    map: &mut Map<'_, Alpha, OrCopy, 2>,
 ) -> Result<(), Fail>
     requires { map.old.state ≡ empty_state alpha 2 }
 {
@@ -352,7 +352,7 @@ fn load_edit(
 fn load_links(
     rt: &impl Abort,
     alloc: Global,
-    map: &mut Map<'_, Alpha, FirstCopy, 2>,
+    map: &mut Map<'_, Alpha, OrCopy, 2>,
 ) -> Result<(), Fail>
     requires { map.old.state ≡ empty_state alpha 2 }
 {
@@ -366,12 +366,12 @@ fn load_links(
 
 #[test]
 fn loads_the_edit_of_a_map(rt: HostRuntime) -> Result<(), Fail> {
-    let mut map = Map::<'_, Alpha, FirstCopy, 2>::new(rt.alloc(), &FirstCopy);
+    let mut map = Map::<'_, Alpha, OrCopy, 2>::new(rt.alloc(), &OrCopy);
     load_edit(&rt, rt.alloc(), &mut map)
 }
 
 #[test]
 fn loads_the_links_of_a_map(rt: HostRuntime) -> Result<(), Fail> {
-    let mut map = Map::<'_, Alpha, FirstCopy, 2>::new(rt.alloc(), &FirstCopy);
+    let mut map = Map::<'_, Alpha, OrCopy, 2>::new(rt.alloc(), &OrCopy);
     load_links(&rt, rt.alloc(), &mut map)
 }

@@ -9,4 +9,6 @@ mod lines;
 #[cfg(test)]
 mod rows;
 #[cfg(test)]
+mod soaks;
+#[cfg(test)]
 mod whole_map;

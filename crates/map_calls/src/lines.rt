@@ -2,7 +2,7 @@
 ghost use Rattle.std.specs.Prelude.{◌≡◌, true};
 ghost use Rattle.machine_defs.specs.Script.{is_name};
 
-use attr_rules::FirstCopy;
+use attr_rules::OrCopy;
 use map_core::{Done, Edits, Map};
 use map_kind::{Refusal, Refused, Value};
 use std::alloc::Global;
@@ -94,7 +94,7 @@ impl Name {
 /// Obeys a line.
 pub fn obey<K: Edits<DIM>, const DIM: usize>(
     alloc: Global,
-    map: &mut Map<'_, K, FirstCopy, DIM>,
+    map: &mut Map<'_, K, OrCopy, DIM>,
     line: &Line,
 ) -> Result<Done, Refused> {
     match *line {
@@ -138,7 +138,7 @@ fn answer(wanted: Wanted) -> Result<Done, Refused> {
 pub fn check_lines<K: Edits<DIM>, const DIM: usize>(
     rt: &impl Abort,
     alloc: Global,
-    map: &mut Map<'_, K, FirstCopy, DIM>,
+    map: &mut Map<'_, K, OrCopy, DIM>,
     rows: &[(Line, Wanted)],
 ) {
     for (index, (line, wanted)) in rows.iter().enumerate() {

@@ -1,7 +1,7 @@
 //! Rows of darts that ended are used again, and darts that come back have rows: a map is driven over that point within
 //! marks, and taken back.
 use crate::lines::{Line, Name, Wanted, check_lines};
-use attr_rules::FirstCopy;
+use attr_rules::OrCopy;
 use map_core::Map;
 use map_kind::{Alpha, Value};
 use std::alloc::{AllocError, Global};
@@ -40,7 +40,7 @@ const AGAIN: [(Line, Wanted); 5] = [
 const BACK: [(Line, Wanted); 1] = [(Line::Undo { name: Name::Small }, Wanted::Done)];
 
 /// All darts, links, rules and values, and the names of the marks, as a text.
-fn whole(alloc: Global, map: &Map<'_, Alpha, FirstCopy, 2>) -> Result<String, AllocError> {
+fn whole(alloc: Global, map: &Map<'_, Alpha, OrCopy, 2>) -> Result<String, AllocError> {
     let listing = map.listing(alloc)?;
     format!(in alloc; "{listing:?}")
 }
@@ -49,7 +49,7 @@ fn whole(alloc: Global, map: &Map<'_, Alpha, FirstCopy, 2>) -> Result<String, Al
 fn check_whole(
     rt: &impl Abort,
     alloc: Global,
-    map: &mut Map<'_, Alpha, FirstCopy, 2>,
+    map: &mut Map<'_, Alpha, OrCopy, 2>,
     rows: &[(Line, Wanted)],
     wanted: &str,
 ) -> Result<(), AllocError> {
@@ -63,7 +63,7 @@ fn check_whole(
 fn check_returns(
     rt: &impl Abort,
     alloc: Global,
-    map: &mut Map<'_, Alpha, FirstCopy, 2>,
+    map: &mut Map<'_, Alpha, OrCopy, 2>,
 ) -> Result<(), Fail> {
     check_lines(rt, alloc, map, &SMALL);
     let small = whole(alloc, map)?;
@@ -78,6 +78,6 @@ fn check_returns(
 
 #[test]
 fn goes_back_over_rows_that_were_used_again(rt: HostRuntime) -> Result<(), Fail> {
-    let mut map = Map::<'_, Alpha, FirstCopy, 2>::new(rt.alloc(), &FirstCopy);
+    let mut map = Map::<'_, Alpha, OrCopy, 2>::new(rt.alloc(), &OrCopy);
     check_returns(&rt, rt.alloc(), &mut map)
 }

@@ -3,7 +3,7 @@
 ghost use Rattle.std.specs.Prelude.{◌≤◌};
 
 use crate::lines::{Line, Name, obey};
-use attr_rules::{FirstCopy, Merge, Rule, RuleWith, Split, TableRule};
+use attr_rules::{OrCopy, Rule, RuleWith, TableRule, merge_named, split_named};
 use map_core::{Edits, Map};
 use map_kind::{Alpha, Beta, Refused, Value};
 use std::alloc::{AllocError, Global};
@@ -116,24 +116,32 @@ fn line_of(choice: u64, dimension: u64, named: Named) -> Line {
     }
 }
 
+/// The names of the rule of this number, if it stands for one.
+fn names_of(number: u64) -> Option<(&'static str, &'static str)> {
+    match number.checked_rem(7).unwrap_or(0) {
+        0 => Some(("sum", "share")),
+        1 => Some(("last", "keep")),
+        2 => Some(("mid", "copy")),
+        3 => Some(("first", "share")),
+        4 => Some(("max", "keep")),
+        5 => Some(("min", "copy")),
+        _ => None,
+    }
+}
+
 /// The rule of this number, if it stands for one.
 fn rule_of(number: u64) -> Option<TableRule> {
-    let (merge, split) = match number.checked_rem(7).unwrap_or(0) {
-        0 => (Merge::Sum, Split::Share),
-        1 => (Merge::Last, Split::Keep),
-        2 => (Merge::Mid, Split::Copied),
-        3 => (Merge::First, Split::Share),
-        4 => (Merge::Max, Split::Keep),
-        5 => (Merge::Min, Split::Copied),
-        _ => return None,
-    };
-    Some(TableRule { merge, split })
+    let (merge, split) = names_of(number)?;
+    Some(TableRule {
+        merge: merge_named(merge)?,
+        split: split_named(split)?,
+    })
 }
 
 /// All that stands of the live darts: dimension by dimension, ascending.
 fn standings<K: Edits<DIM>, const DIM: usize>(
     alloc: Global,
-    map: &Map<'_, K, FirstCopy, DIM>,
+    map: &Map<'_, K, OrCopy, DIM>,
 ) -> Result<Vec<Standing>, Refused> {
     let mut standings = Vec::new(alloc);
     for dim in 0..map.links().dimension() + 1 {
@@ -144,7 +152,7 @@ fn standings<K: Edits<DIM>, const DIM: usize>(
 
 fn add_dimension<K: Edits<DIM>, const DIM: usize>(
     alloc: Global,
-    map: &Map<'_, K, FirstCopy, DIM>,
+    map: &Map<'_, K, OrCopy, DIM>,
     dim: u64,
     standings: &mut Vec<Standing>,
 ) -> Result<(), Refused> {
@@ -156,7 +164,7 @@ fn add_dimension<K: Edits<DIM>, const DIM: usize>(
 
 fn add_standing<K: Edits<DIM>, const DIM: usize>(
     alloc: Global,
-    map: &Map<'_, K, FirstCopy, DIM>,
+    map: &Map<'_, K, OrCopy, DIM>,
     dim: u64,
     dart: u64,
     standings: &mut Vec<Standing>,
@@ -173,9 +181,14 @@ fn add_standing<K: Edits<DIM>, const DIM: usize>(
 
 /// The cell of a dart in a dimension, if the dart lives.
 fn cell_of(standings: &[Standing], dim: u64, dart: u64) -> Option<Cell> {
-    let standing = standings.iter().find(|standing| standing.cell.dim == dim
-        && standing.dart == dart)?;
-    Some(standing.cell)
+    let place = standings.partition_point(|standing| standing.cell.dim < dim
+        || standing.cell.dim == dim && standing.dart < dart);
+    let standing = standings.get(place)?;
+    if standing.cell.dim == dim && standing.dart == dart {
+        Some(standing.cell)
+    } else {
+        None
+    }
 }
 
 /// The value that a line itself sets the cell of a dart to, or leaves there.
@@ -229,7 +242,7 @@ fn add_piece(
 }
 
 /// The part that a piece gets of the value of its old cell.
-fn part(rule: &RuleWith<'_, FirstCopy>, pieces: &[Piece], piece: &Piece) -> Option<Value> {
+fn part(rule: &RuleWith<'_, OrCopy>, pieces: &[Piece], piece: &Piece) -> Option<Value> {
     let mut count: u32 = 0;
     let mut place: u32 = 0;
     for other in pieces {
@@ -248,7 +261,7 @@ fn part(rule: &RuleWith<'_, FirstCopy>, pieces: &[Piece], piece: &Piece) -> Opti
 }
 
 /// The values of the pieces of a new cell, merged from the left.
-fn carried(rule: &RuleWith<'_, FirstCopy>, pieces: &[Piece], cell: Cell) -> Option<Value> {
+fn carried(rule: &RuleWith<'_, OrCopy>, pieces: &[Piece], cell: Cell) -> Option<Value> {
     let mut sofar = None;
     for piece in pieces {
         if piece.new == cell {
@@ -258,11 +271,7 @@ fn carried(rule: &RuleWith<'_, FirstCopy>, pieces: &[Piece], cell: Cell) -> Opti
     sofar
 }
 
-fn merged(
-    rule: &RuleWith<'_, FirstCopy>,
-    sofar: Option<Value>,
-    part: Option<Value>,
-) -> Option<Value> {
+fn merged(rule: &RuleWith<'_, OrCopy>, sofar: Option<Value>, part: Option<Value>) -> Option<Value> {
     match (sofar, part) {
         (Some(x), Some(y)) => Some(rule.merged(x, y)),
         (None, part) => part,
@@ -274,7 +283,7 @@ fn merged(
 /// that of the next.
 fn wanted_value(first_rule: u64, pieces: &[Piece], cell: Cell) -> Option<Value> {
     let rule = rule_of(first_rule.wrapping_add(cell.dim))?;
-    let hook = FirstCopy;
+    let hook = OrCopy;
     carried(&RuleWith { rule, hook: &hook }, pieces, cell)
 }
 
@@ -294,10 +303,10 @@ fn wanted(
 }
 
 /// Obeys a line, compares all values, and answers whether some old cell with a value was joined or parted.
-fn check_line<K: Edits<DIM>, const DIM: usize>(
+pub fn check_line<K: Edits<DIM>, const DIM: usize>(
     rt: &impl Abort,
     alloc: Global,
-    map: &mut Map<'_, K, FirstCopy, DIM>,
+    map: &mut Map<'_, K, OrCopy, DIM>,
     first_rule: u64,
     line: &Line,
 ) -> Result<bool, Refused> {
@@ -329,7 +338,7 @@ fn check_obeyed(
 /// Makes three triangles and a dart alone.
 fn make_darts<K: Edits<DIM>, const DIM: usize>(
     alloc: Global,
-    map: &mut Map<'_, K, FirstCopy, DIM>,
+    map: &mut Map<'_, K, OrCopy, DIM>,
 ) -> Result<(), Refused> {
     for _ in 0..3 {
         obey(alloc, map, &Line::Polygon { sides: 3 })?;
@@ -342,13 +351,12 @@ fn make_darts<K: Edits<DIM>, const DIM: usize>(
 /// A dimension whose number stands for no rule gets nothing.
 fn set_rules<K: Edits<DIM>, const DIM: usize>(
     alloc: Global,
-    map: &mut Map<'_, K, FirstCopy, DIM>,
+    map: &mut Map<'_, K, OrCopy, DIM>,
     first_rule: u64,
     random: &mut Random,
 ) -> Result<(), Refused> {
     for dim in 0..map.links().dimension() as u64 + 1 {
-        if let Some(rule) = rule_of(first_rule.wrapping_add(dim)) {
-            let (merge, split) = (rule.merge.name(), rule.split.name());
+        if let Some((merge, split)) = names_of(first_rule.wrapping_add(dim)) {
             obey(alloc, map, &Line::Rule { dim, merge, split })?;
             set_values(alloc, map, dim, random)?;
         }
@@ -358,7 +366,7 @@ fn set_rules<K: Edits<DIM>, const DIM: usize>(
 
 fn set_values<K: Edits<DIM>, const DIM: usize>(
     alloc: Global,
-    map: &mut Map<'_, K, FirstCopy, DIM>,
+    map: &mut Map<'_, K, OrCopy, DIM>,
     dim: u64,
     random: &mut Random,
 ) -> Result<(), Refused> {
@@ -374,7 +382,7 @@ fn set_values<K: Edits<DIM>, const DIM: usize>(
 fn check_random_lines<K: Edits<DIM>, const DIM: usize>(
     rt: &impl Abort,
     alloc: Global,
-    map: &mut Map<'_, K, FirstCopy, DIM>,
+    map: &mut Map<'_, K, OrCopy, DIM>,
     first_rule: u64,
     random: &mut Random,
 ) -> Result<u32, Refused> {
@@ -392,7 +400,7 @@ fn check_random_lines<K: Edits<DIM>, const DIM: usize>(
 /// Makes darts with values, sets a mark, and answers what stands there.
 fn begin_script<K: Edits<DIM>, const DIM: usize>(
     alloc: Global,
-    map: &mut Map<'_, K, FirstCopy, DIM>,
+    map: &mut Map<'_, K, OrCopy, DIM>,
     first_rule: u64,
     random: &mut Random,
 ) -> Result<Vec<Standing>, Refused> {
@@ -406,7 +414,7 @@ fn begin_script<K: Edits<DIM>, const DIM: usize>(
 fn check_return<K: Edits<DIM>, const DIM: usize>(
     rt: &impl Abort,
     alloc: Global,
-    map: &mut Map<'_, K, FirstCopy, DIM>,
+    map: &mut Map<'_, K, OrCopy, DIM>,
     begin: &[Standing],
 ) -> Result<(), Refused> {
     obey(alloc, map, &Line::Undo { name: Name::Begin })?;
@@ -419,7 +427,7 @@ fn check_return<K: Edits<DIM>, const DIM: usize>(
 fn check_script<K: Edits<DIM>, const DIM: usize>(
     rt: &impl Abort,
     alloc: Global,
-    map: &mut Map<'_, K, FirstCopy, DIM>,
+    map: &mut Map<'_, K, OrCopy, DIM>,
     first_rule: u64,
 ) -> Result<u32, Refused> {
     let mut random = Random { state: first_rule };
@@ -438,7 +446,7 @@ fn check_new_map<K: Edits<DIM>, const DIM: usize>(
     requires low { 2 ≤ DIM }
     requires high { DIM ≤ 8 }
 {
-    let mut map = Map::<'_, K, FirstCopy, DIM>::new(alloc, &FirstCopy);
+    let mut map = Map::<'_, K, OrCopy, DIM>::new(alloc, &OrCopy);
     check_script(rt, alloc, &mut map, first_rule)
 }
 

@@ -2,7 +2,7 @@
 use Rattle.std.proofs.Common.{◌≡◌, ℕ, ◌<◌, List, [], get_or, refl, sym, ap, ◌∙◌, subst, inl, inr, arith}
 use Rattle.std.proofs.lemmas.Bool.{cases_lt}
 use Rattle.std.proofs.lemmas.Option.{same_Some}
-use Rattle.map_defs.specs.Values.{Meaning}
+use Rattle.map_defs.specs.Values.{Hook}
 use Rattle.machine_defs.specs.State.{Content}
 use Rattle.map_defs.specs.Refusal.{NoMark}
 use Rattle.machine_defs.specs.Script.{Undo}
@@ -40,7 +40,7 @@ module _ (t : Trail) (o : IsOrdered t) (name : List ℕ) where
     ]
   ]
 
-module _ (now : Content) (t : Trail) (h : IsTraced now t) (o : IsOrdered t) (hook : Meaning) (name : List ℕ) where
+module _ (now : Content) (t : Trail) (h : IsTraced now t) (o : IsOrdered t) (hook : Hook) (name : List ℕ) where
   -- the steps since a mark lead to the content of now
   pub steps-lead : (k : ℕ) → trails.IsMark t name k → AreStepsTo now (steps_since t k)
   steps-lead k is = record {

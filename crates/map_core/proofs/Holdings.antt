@@ -3,25 +3,27 @@ use Rattle.std.proofs.Common.{◌≡◌, ◌≢◌, ℕ, zero, suc, ◌+◌, ◌
 use Rattle.map_defs.specs.Rows.{made, live_count}
 use Rattle.machine_defs.specs.State.{Content}
 use Rattle.machine_defs.specs.Difference.{Difference, IsDifference, put_forward}
-use Rattle.machine_defs.specs.Kept.{IsLawfulContent}
+use Rattle.map_defs.specs.Values.{Hook}
+use Rattle.machine_defs.specs.Kept.{IsLawfulContent, AreRulesKnown, KnowsRules}
+use Rattle.machine_laws.proofs.KnownRules.{same-known, next-known, marked-known, back-known, state-known}
 use Rattle.journal_laws.specs.Following.{Follows, all_put_forward, all_taken_back}
 use Rattle.journal_laws.proofs.Leading.{leads-on}
 use Rattle.trail_laws.specs.Trails.{Trail, empty_trail, standing_steps, steps_since, place_of, noted, marked, back, IsOrdered}
 use Rattle.trail_laws.specs.Trails as trails
 use Rattle.trail_laws.proofs.TrailFacts.{mark_within}
-use Rattle.trail_laws.specs.Told.{origin, contents_along, contents_of, past_of, IsTraced}
+use Rattle.trail_laws.specs.Told.{told, origin, contents_along, contents_of, past_of, before_steps, IsTraced}
 use Rattle.trail_laws.proofs.Along.{along-push}
 use Rattle.trail_laws.proofs.Reading.{within, along-standing, past-and-now}
-use Rattle.trail_laws.proofs.Noting.{origin-noted}
-use Rattle.trail_laws.proofs.Marking.{origin-marked}
-use Rattle.trail_laws.proofs.Returning.{contents-back}
+use Rattle.trail_laws.proofs.Noting.{origin-noted, told-begun}
+use Rattle.trail_laws.proofs.Marking.{origin-marked, told-marked}
+use Rattle.trail_laws.proofs.Returning.{contents-back, gone-back}
 use Rattle.trail_laws.proofs.Between.{since-long, between-is, between-differ}
 use Rattle.valued_map.specs.Holding.{Holding}
 use Rattle.valued_map.specs.Told.{IsTold, IsStep}
 use Rattle.valued_map.specs.Undoing.{HasRoomFor, no_step}
 use Rattle.map_core.specs.Held.{HasPlacesFor, HasPlacesForAll, IsHeld}
 use Rattle.map_core.specs.Noted.{advanced}
-use Rattle.map_core.proofs.Stepped.{none-stands, traced-advanced}
+use Rattle.map_core.proofs.Stepped.{none-stands, told-advanced, traced-advanced}
 
 -- more places are enough too
 places-more : (p q : ℕ) → p ≤ q → (cs : List Content) → HasPlacesForAll p cs → HasPlacesForAll q cs
@@ -64,29 +66,35 @@ places-alone : (p : ℕ) (ss : List Difference) (c : Content) → ss ≡ [] → 
 places-alone p [] c none = tt
 places-alone p (s ∷ ss) c none = absurd (let long = ap (λ (xs : List Difference). length xs) none in omega arith)
 
-pub held-begun : (map : Holding) (t : Trail) → t ≡ empty_trail → IsTraced map.content t → IsHeld map t
-held-begun map t begun traced = record { traced = traced; room = places-alone map.places t.steps (origin map.content t) (ap (λ (u : Trail). u.steps) begun) }
+pub held-begun : (hook : Hook) (map : Holding) (t : Trail) → t ≡ empty_trail → IsTraced map.content t → AreRulesKnown hook map.content → IsHeld hook map t
+held-begun hook map t begun traced known = record {
+  traced = traced;
+  room = places-alone map.places t.steps (origin map.content t) (ap (λ (u : Trail). u.steps) begun);
+  known = subst (KnowsRules hook) (sym (ap (told map.content) begun ∙ told-begun map.content)) (state-known hook map.content known);
+}
 
 -- where no mark stands
-pub held-unmarked : (map : Holding) (t : Trail) → t.standing ≡ 0 → IsTraced map.content t → IsHeld map t
-held-unmarked map t none traced = record { traced = traced; room = places-alone map.places t.steps (origin map.content t) (traced.unmarked none) }
+pub held-unmarked : (hook : Hook) (map : Holding) (t : Trail) → t.standing ≡ 0 → IsTraced map.content t → KnowsRules hook (told map.content t) → IsHeld hook map t
+held-unmarked hook map t none traced known = record { traced = traced; room = places-alone map.places t.steps (origin map.content t) (traced.unmarked none); known = known }
 
-pub held-marked : (map : Holding) (t u : Trail) (name : List ℕ) → IsHeld map t → IsOrdered t → u ≡ marked t name → IsTraced map.content u → IsHeld map u
-held-marked map t u name h o is traced = record {
+pub held-marked : (hook : Hook) (map : Holding) (t u : Trail) (name : List ℕ) → IsHeld hook map t → IsOrdered t → u ≡ marked t name → IsTraced map.content u → IsHeld hook map u
+held-marked hook map t u name h o is traced = record {
   traced = traced;
   room = subst (λ (v : Trail). HasPlacesForAll map.places (contents_of map.content v)) (sym is) (places-marked map.places map.content t h.traced o h.room name);
+  known = marked-known hook (told map.content t) h.known name (told map.content u) (ap (told map.content) is ∙ told-marked map.content t name h.traced o);
 }
 
 -- where the content stayed
-pub held-same : (old new : Holding) (t u : Trail) → IsHeld old t → old.places ≤ new.places → u ≡ t → new.content ≡ old.content → IsTraced new.content u → IsHeld new u
-held-same old new t u h more same alike traced = record {
+pub held-same : (hook : Hook) (old new : Holding) (t u : Trail) → IsHeld hook old t → old.places ≤ new.places → u ≡ t → new.content ≡ old.content → IsTraced new.content u → IsHeld hook new u
+held-same hook old new t u h more same alike traced = record {
   traced = traced;
   room =
       subst (λ (v : Trail). HasPlacesForAll new.places (contents_of new.content v)) (sym same)
       (subst (λ (c : Content). HasPlacesForAll new.places (contents_of c t)) (sym alike) (places-more old.places new.places more (contents_of old.content t) h.room));
+  known = same-known hook (told old.content t) h.known (told new.content u) (ap (told new.content) same ∙ ap (λ (c : Content). told c t) alike);
 }
 
-module _ (old new : Holding) (t : Trail) (h : IsHeld old t) (o : IsOrdered t) (more : old.places ≤ new.places)
+module _ (hook : Hook) (old new : Holding) (t : Trail) (h : IsHeld hook old t) (o : IsOrdered t) (more : old.places ≤ new.places)
     (room : live_count old.content.rows + (made new.content.rows - made old.content.rows) ≤ new.places) where
   places-noted : (d : Difference) → Follows old.content new.content → IsLawfulContent new.content → IsDifference old.content new.content d
       → t.standing ≢ 0 → HasPlacesForAll new.places (contents_of new.content (noted t d))
@@ -112,16 +120,18 @@ module _ (old new : Holding) (t : Trail) (h : IsHeld old t) (o : IsOrdered t) (m
     places-as true (Some d) on told = places-noted d s.follows s.kept told (λ none. let some = noting.0 on in omega arith)
 
     -- where a step was made, and noted if it was asked for
-    pub held-advanced : (u v : Trail) → u ≡ t → v ≡ advanced u step → IsHeld new v
-    held-advanced u v same noted = record {
+    pub held-advanced : AreRulesKnown hook new.content → (u v : Trail) → u ≡ t → v ≡ advanced u step → IsHeld hook new v
+    held-advanced known u v same noted = record {
       traced = traced-advanced old.content new.content t h.traced o asked noting step s u v same noted;
       room =
           subst (λ (w : Trail). HasPlacesForAll new.places (contents_of new.content w))
           (sym (noted ∙ ap (λ (w : Trail). advanced w step) same)) (places-as asked step refl s.told);
+      known = next-known hook (told old.content t) h.known new.content (told new.content v) known
+          (told-advanced old.content new.content t h.traced o asked noting step s u v same noted);
     }
 
 -- going back
-module _ (map : Holding) (t : Trail) (h : IsHeld map t) (o : IsOrdered t) (name : List ℕ) (k : ℕ) (is : trails.IsMark t name k) where
+module _ (hook : Hook) (map : Holding) (t : Trail) (h : IsHeld hook map t) (o : IsOrdered t) (name : List ℕ) (k : ℕ) (is : trails.IsMark t name k) where
   pub room-since : HasRoomFor map.content (steps_since t k) map.places
   room-since j low =
       let stands = mark_within t name k o is in
@@ -137,7 +147,7 @@ module _ (map : Holding) (t : Trail) (h : IsHeld map t) (o : IsOrdered t) (name 
       omega (arith, both, differ.born)
 
   pub held-back : (new : Holding) (u : Trail) → new.content ≡ all_taken_back (steps_since t k) map.content → new.places ≡ map.places → u ≡ back t k
-      → IsTraced new.content u → IsHeld new u
+      → IsTraced new.content u → IsHeld hook new u
   held-back new u before places gone traced =
       let contents = contents-back map.content t name k h.traced o (mark_within t name k o is) in
       let there : HasPlacesForAll map.places (contents_of (all_taken_back (steps_since t k) map.content) (back t k)) =
@@ -148,4 +158,8 @@ module _ (map : Holding) (t : Trail) (h : IsHeld map t) (o : IsOrdered t) (name 
             subst (λ (v : Trail). HasPlacesForAll new.places (contents_of new.content v)) (sym gone)
             (subst (λ (c : Content). HasPlacesForAll new.places (contents_of c (back t k))) (sym before)
             (subst (λ (p : ℕ). HasPlacesForAll p (contents_of (all_taken_back (steps_since t k) map.content) (back t k))) (sym places) there));
+        known =
+            let (mark, named, copy, told-is, stays) = gone-back map.content t name k h.traced o is in
+            back-known hook (told map.content t) h.known name k mark named (told new.content u)
+            (ap (λ (c : Content). told c u) before ∙ ap (told (before_steps map.content t k)) gone ∙ told-is);
       }

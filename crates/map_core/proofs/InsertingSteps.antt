@@ -9,7 +9,7 @@ use Rattle.map_defs.specs.Rows.{Rows, links_of, IsLive, made, made_max}
 use Rattle.map_defs.specs.Counts.{HasCount}
 use Rattle.map_defs.specs.Edits.{Edit, after_edit}
 use Rattle.machine_defs.specs.State.{State, Content}
-use Rattle.map_defs.specs.Values.{Meaning}
+use Rattle.map_defs.specs.Values.{Hook}
 use Rattle.machine_defs.specs.Relinking.{NoDart, IsTooMany, IsGrown}
 use Rattle.map_defs.specs.Insertion.{AreOnOneSide, FaceDarts, IsOnOneVolume, IsClosedPath, IsFacePaired, IsFace}
 use Rattle.map_defs.specs.Inserting.{VertexDarts, IsVertex, InCorner, AreEdgePaired, EdgeDarts, IsEdge}
@@ -27,7 +27,7 @@ use Rattle.cell_edit.specs.Inserting.{PlansInsertion}
 use Rattle.cell_edit.specs.Planning.{PlansVertex, PlansEdge, PlansFace}
 use Rattle.map_kind.specs.declared.done.Done.{Done}
 
-module _ (k : Kind) (n : ℕ) (rows : Rows) (hook : Meaning) where
+module _ (k : Kind) (n : ℕ) (rows : Rows) (hook : Hook) where
   -- what is inserted, once all other checks have passed; its darts and its links are told for each content
   module _ (s : State) (kind : s.present.kind ≡ k) (dim : s.present.dim ≡ n) (same : rows ≡ s.present.rows) (kept : IsLawfulContent s.present) where
     abbrev Here : Content

@@ -4,7 +4,7 @@ use Rattle.map_kind.specs.declared.refusal.Refusal.{Refusal}
 use Rattle.map_kind.specs.declared.refusal.Refusal.TheVariants as told_as
 use Rattle.map_kind.specs.declared.refusal.Refused.{Refused}
 use Rattle.map_kind.specs.declared.refusal.Refused.TheVariants as why
-use Rattle.map_defs.specs.Values.{Meaning}
+use Rattle.map_defs.specs.Values.{Hook}
 use Rattle.machine_defs.specs.State.{Content, Mark as SetMark}
 use Rattle.machine_defs.specs.Marking.{IsMark, since}
 use Rattle.machine_defs.specs.Difference.{Difference, AreDifferences}
@@ -33,7 +33,7 @@ names-of-told now t (mark ∷ marks) = ap (λ (names : List (List ℕ)). mark.na
 pub told-names : (now : Content) (t : Trail) → names_of (told now t).marks ≡ mark_names t
 told-names now t = names-of-told now t (standing_marks t)
 
-module _ (now : Content) (t : Trail) (h : IsTraced now t) (o : IsOrdered t) (hook : Meaning) (name : List ℕ) where
+module _ (now : Content) (t : Trail) (h : IsTraced now t) (o : IsOrdered t) (hook : Hook) (name : List ℕ) where
   -- a mark that is refused
   pub mark-refused : (r : Refused) → ((refusal : Refusal) → r ≡ why.Line refusal → (refusal ≡ told_as.MarkTaken) × trails.HasMark t name) → Does hook (told now t) (Mark name) (Err r) (told now t)
   mark-refused (why.Line refusal) taken =

@@ -1,6 +1,6 @@
 -- What the machine answers where the OFF text of a map is asked for.
 use Rattle.std.proofs.Common.{Result, Ok, Err, IfOk, IfErr, OnOk, refl, ap, inl, inr}
-use Rattle.map_defs.specs.Values.{Meaning}
+use Rattle.map_defs.specs.Values.{Hook}
 use Rattle.map_defs.specs.Refusal as machine
 use Rattle.map_defs.specs.OffOfMap.{AreOffRows, HasOffText, LacksOffText}
 use Rattle.machine_defs.specs.State.{State, value_at}
@@ -15,12 +15,12 @@ use Rattle.off_text.specs.declared.of_map.OffRows.{OffRows}
 use Rattle.map_core.specs.Calls.{AnswersQuestion}
 
 -- a map without OFF text is refused for the first reason
-lacks-step : (hook : Meaning) (s : State) (why : machine.Refusal) → LacksOffText s.present.kind s.present.rows (value_at s.present 0) why → Step hook s Off (Refused why) s
+lacks-step : (hook : Hook) (s : State) (why : machine.Refusal) → LacksOffText s.present.kind s.present.rows (value_at s.present 0) why → Step hook s Off (Refused why) s
 lacks-step hook s why (inl (is, free)) = inl (free, ap Refused is, refl)
 lacks-step hook s why (inr (inl (is, closed, lacks))) = inr (closed, inl (lacks, ap Refused is, refl))
 lacks-step hook s why (inr (inr (is, closed, pointed, thin))) = inr (closed, inr (pointed, inl (thin, ap Refused is, refl)))
 
-pub off-answered : (hook : Meaning) (s : State) (result : Result OffRows told.Refused)
+pub off-answered : (hook : Hook) (s : State) (result : Result OffRows told.Refused)
     → IfOk result (λ off. AreOffRows s.present.kind s.present.rows (value_at s.present 0) (off_view off))
     → OnOk result (HasOffText s.present.kind s.present.rows (value_at s.present 0))
     → IfErr result (λ refused. IfLine refused (LacksOffText s.present.kind s.present.rows (value_at s.present 0)))

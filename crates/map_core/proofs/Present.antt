@@ -3,7 +3,7 @@ use Rattle.std.proofs.Common.{◌≡◌, ℕ, ◌+◌, ◌<◌, ◌≤◌, ◌�
 use Rattle.map_defs.specs.Kind.{Kind}
 use Rattle.map_defs.specs.Links.{Links}
 use Rattle.map_defs.specs.Rows.{Rows, links_of, made, IsLive, IsSound, AreWide}
-use Rattle.map_defs.specs.Values.{Meaning}
+use Rattle.map_defs.specs.Values.{Hook}
 use Rattle.map_defs.specs.Edits.{Edit, after_edit, Fits}
 use Rattle.machine_defs.specs.State.{Content}
 use Rattle.machine_defs.specs.Kept.{IsLawfulContent}
@@ -28,7 +28,7 @@ seen-begun rows c same kept = let long : length rows ≡ length c.rows = ap (λ 
 
 -- where the values are carried too, it is the content after a change of links
 pub relinked : (k : Kind) (n : ℕ) (rows : Rows) (e : Edit) → IsSound k n rows → 0 < length rows → Fits k n rows e
-    → (Ended : ℕ → Type 0) → ((d : ℕ) → Ended d ↔ Contains e.deaths d) → (hook : Meaning) (c next : Content) → IsCarriedOn hook (seen_as k n rows c) (after_edit n e rows) next
+    → (Ended : ℕ → Type 0) → ((d : ℕ) → Ended d ↔ Contains e.deaths d) → (hook : Hook) (c next : Content) → IsCarriedOn hook (seen_as k n rows c) (after_edit n e rows) next
     → (Becomes : Links → Type 0) → Becomes (links_of (after_edit n e rows)) → IsRelinked hook (seen_as k n rows c) e.births Ended Becomes next
 relinked k n rows e sound begun fits Ended ended hook c next on Becomes becomes = record {
   kind = on.kind;

@@ -8,7 +8,7 @@ use Rattle.map_defs.specs.Rows.{Rows, links_of, IsLive}
 use Rattle.map_defs.specs.Cells.{InCell}
 use Rattle.map_defs.specs.Edits.{Edit, after_edit}
 use Rattle.machine_defs.specs.State.{State, Content, steps_to}
-use Rattle.map_defs.specs.Values.{Meaning}
+use Rattle.map_defs.specs.Values.{Hook}
 use Rattle.machine_defs.specs.Relinking.{IsRelinked}
 use Rattle.map_defs.specs.Removal.{IsRemovable, IsRemoved}
 use Rattle.map_defs.specs.Contraction.{IsContractible, IsContracted}
@@ -23,7 +23,7 @@ use Rattle.cell_edit.specs.Planning.{PlansRemoval, PlansContraction}
 use Rattle.map_core.specs.Calls.{Does}
 use Rattle.map_kind.specs.declared.done.Done.{Done}
 
-module _ (k : Kind) (n : ℕ) (rows : Rows) (hook : Meaning) (s : State) (kind : s.present.kind ≡ k) (dim : s.present.dim ≡ n) (same : rows ≡ s.present.rows) (kept : IsLawfulContent s.present) (i d : ℕ)
+module _ (k : Kind) (n : ℕ) (rows : Rows) (hook : Hook) (s : State) (kind : s.present.kind ≡ k) (dim : s.present.dim ≡ n) (same : rows ≡ s.present.rows) (kept : IsLawfulContent s.present) (i d : ℕ)
     (low : n < i → ⊥) (live : IsLive s.present.rows d) where
   abbrev Here : Content
   Here = seen_as k n rows s.present

@@ -7,7 +7,7 @@ use Rattle.map_defs.specs.Kind.{Kind, beta, inverse, IsDistant}
 use Rattle.map_defs.specs.Rows.{Rows, links_of, IsLive}
 use Rattle.map_defs.specs.Edits.{Edit, Fits, after_edit}
 use Rattle.machine_defs.specs.State.{State, Content, steps_to}
-use Rattle.map_defs.specs.Values.{Meaning}
+use Rattle.map_defs.specs.Values.{Hook}
 use Rattle.map_defs.specs.Pairs.{IsGood}
 use Rattle.map_defs.specs.Links.{Links}
 use Rattle.machine_defs.specs.Relinking.{IsRelinked, NoDart}
@@ -25,7 +25,7 @@ use Rattle.map_core.proofs.Present.{seen_as, seen-is, seen-sound, seen-begun, re
 abbrev IsNoLink : Content → ℕ → Type 0
 IsNoLink c i = (c.dim < i) ⊎ ((c.kind ≡ beta) × (i ≡ 0))
 
-module _ (k : Kind) (n : ℕ) (rows : Rows) (hook : Meaning) (s : State) (kind : s.present.kind ≡ k) (dim : s.present.dim ≡ n) (same : rows ≡ s.present.rows) (kept : IsLawfulContent s.present) (i d : ℕ)
+module _ (k : Kind) (n : ℕ) (rows : Rows) (hook : Hook) (s : State) (kind : s.present.kind ≡ k) (dim : s.present.dim ≡ n) (same : rows ≡ s.present.rows) (kept : IsLawfulContent s.present) (i d : ℕ)
     (link : ((n < i) ⊎ ((k ≡ beta) × (i ≡ 0))) → ⊥) (one : IsLive s.present.rows d) where
   abbrev Here : Content
   Here = seen_as k n rows s.present

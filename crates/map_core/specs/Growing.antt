@@ -7,12 +7,12 @@ use Rattle.map_kind.specs.declared.refusal.Refused.TheVariants as why
 use Rattle.map_kind.specs.declared.done.Done.{Done}
 use Rattle.map_defs.specs.Rows.{Rows, made, made_max, IsLive}
 use Rattle.map_defs.specs.Edits.{Edit, after_edit}
-use Rattle.map_defs.specs.Values.{Meaning}
+use Rattle.map_defs.specs.Values.{Hook}
 use Rattle.machine_defs.specs.State.{State, Content, steps_to}
 use Rattle.label_laws.specs.Contents.{IsCarriedOn}
 
 -- An edit that inserts was made, and the values were carried; or too many darts would have been made, or memory was wanting.
-abbrev pub Grows : Meaning → State → Edit → Result Done Refused → State → Type 0
+abbrev pub Grows : Hook → State → Edit → Result Done Refused → State → Type 0
 Grows hook s edit (Ok done) new =
     (made s.present.rows + edit.births ≤ made_max) × (done.first ≡ made s.present.rows + 1) × (done.count ≡ edit.births)
     × ((next : Content) × IsCarriedOn hook s.present (after_edit s.present.dim edit s.present.rows) next × (new ≡ steps_to s next))

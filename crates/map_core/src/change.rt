@@ -18,7 +18,7 @@ impl<'h, K: Kind, H: Hook, const DIM: usize> Map<'h, K, H, DIM> {
     /// more than 4,194,304 darts would have been made.
     pub fn polygon(&mut self, alloc: Global, sides: u64) -> Result<Done, Refused>
         ensures hook { self.new.hook ≡ self.old.hook }
-        ensures does { Does (H.meaning self.old.hook) self.old.state (Polygon sides) result self.new.state }
+        ensures does { Does (H.hook self.old.hook) self.old.state (Polygon sides) result self.new.state }
     {
         if sides < 3 || sides > u64::from(SIDES_MAX) {
             return Err(Refused::Line(Refusal::BadCount));
@@ -38,7 +38,7 @@ impl<'h, K: Kind, H: Hook, const DIM: usize> Map<'h, K, H, DIM> {
     /// Refused as `Full` exactly where 4,194,304 darts were made.
     pub fn dart(&mut self, alloc: Global) -> Result<Done, Refused>
         ensures hook { self.new.hook ≡ self.old.hook }
-        ensures does { Does (H.meaning self.old.hook) self.old.state MakeDart result self.new.state }
+        ensures does { Does (H.hook self.old.hook) self.old.state MakeDart result self.new.state }
     {
         if !self.has_numbers(1) {
             return Err(Refused::Line(Refusal::Full));
@@ -59,7 +59,7 @@ impl<'h, K: Kind, H: Hook, const DIM: usize> Map<'h, K, H, DIM> {
     /// the dart is not free.
     pub fn del(&mut self, alloc: Global, dart: u64) -> Result<Done, Refused>
         ensures hook { self.new.hook ≡ self.old.hook }
-        ensures does { Does (H.meaning self.old.hook) self.old.state (Del dart) result self.new.state }
+        ensures does { Does (H.hook self.old.hook) self.old.state (Del dart) result self.new.state }
     {
         let dart = self.live_dart(dart)?;
         if !is_alone(self.links(), dart) {

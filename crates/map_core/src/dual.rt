@@ -21,7 +21,7 @@ impl<'h, K: Edits<DIM>, H: Hook, const DIM: usize> Map<'h, K, H, DIM> {
     /// join a dart to itself.
     pub fn dual(&mut self, alloc: Global) -> Result<Done, Refused>
         ensures hook { self.new.hook ≡ self.old.hook }
-        ensures does { Does (H.meaning self.old.hook) self.old.state Dual result self.new.state }
+        ensures does { Does (H.hook self.old.hook) self.old.state Dual result self.new.state }
     {
         if is_noting(&self.journal) {
             return self.noted_dual(alloc);
@@ -33,7 +33,7 @@ impl<'h, K: Edits<DIM>, H: Hook, const DIM: usize> Map<'h, K, H, DIM> {
     /// The same by an edit, whose step can be noted. All memory is taken before anything changes.
     fn noted_dual(&mut self, alloc: Global) -> Result<Done, Refused>
         ensures hook { self.new.hook ≡ self.old.hook }
-        ensures does { Does (H.meaning self.old.hook) self.old.state Dual result self.new.state }
+        ensures does { Does (H.hook self.old.hook) self.old.state Dual result self.new.state }
     {
         let edit = dual_plan(alloc, self.present.links())?;
         let noting = begin(&mut self.journal)?;

@@ -25,7 +25,7 @@ impl<'h, K: Edits<DIM>, H: Hook, const DIM: usize> Map<'h, K, H, DIM> {
     pub fn vertex(&mut self, alloc: Global, dart: u64) -> Result<Done, Refused>
         requires { H.ready self.old.hook }
         ensures hook { self.new.hook ≡ self.old.hook }
-        ensures does { Does (H.meaning self.old.hook) self.old.state (Vertex dart) result self.new.state }
+        ensures does { Does (H.hook self.old.hook) self.old.state (Vertex dart) result self.new.state }
     {
         let dart = self.live_dart(dart)?;
         let edit = K::vertex_plan(alloc, self.links(), dart)?;
@@ -45,7 +45,7 @@ impl<'h, K: Edits<DIM>, H: Hook, const DIM: usize> Map<'h, K, H, DIM> {
     pub fn edge(&mut self, alloc: Global, dart: u64, other: u64) -> Result<Done, Refused>
         requires { H.ready self.old.hook }
         ensures hook { self.new.hook ≡ self.old.hook }
-        ensures does { Does (H.meaning self.old.hook) self.old.state (Edge dart other) result self.new.state }
+        ensures does { Does (H.hook self.old.hook) self.old.state (Edge dart other) result self.new.state }
     {
         let dart = self.live_dart(dart)?;
         let other = self.live_dart(other)?;
@@ -69,7 +69,7 @@ impl<'h, K: Edits<DIM>, H: Hook, const DIM: usize> Map<'h, K, H, DIM> {
         requires some { 1 ≤ length path.now }
         requires few { length path.now ≤ PATH_MAX }
         ensures hook { self.new.hook ≡ self.old.hook }
-        ensures does { Does (H.meaning self.old.hook) self.old.state (Face path.now) result self.new.state }
+        ensures does { Does (H.hook self.old.hook) self.old.state (Face path.now) result self.new.state }
     {
         if self.links().dimension() < 3 {
             return Err(Refused::Line(Refusal::BadDim));
@@ -87,7 +87,7 @@ impl<'h, K: Kind, H: Hook, const DIM: usize> Map<'h, K, H, DIM> {
         requires fits { Fits K.kind DIM self.old.state.present.rows edit.now }
         requires laws { Laws K.kind (links_of (after_edit DIM edit.now self.old.state.present.rows)) }
         ensures hook { self.new.hook ≡ self.old.hook }
-        ensures grows { Grows (H.meaning self.old.hook) self.old.state edit.now result self.new.state }
+        ensures grows { Grows (H.hook self.old.hook) self.old.state edit.now result self.new.state }
     {
         let made = self.links().made();
         if edit.births > MADE_MAX - made {

@@ -41,7 +41,7 @@ impl<'h, K: Kind, H: Hook, const DIM: usize> Map<'h, K, H, DIM> {
         requires laws { Laws K.kind (links_of (after_edit DIM edit.now self.old.state.present.rows)) }
         requires few { made self.old.state.present.rows + edit.now.births ≤ MADE_MAX }
         ensures hook { self.new.hook ≡ self.old.hook }
-        ensures made { OnOk result ((next : Content) × IsCarriedOn (H.meaning self.old.hook) self.old.state.present
+        ensures made { OnOk result ((next : Content) × IsCarriedOn (H.hook self.old.hook) self.old.state.present
             (after_edit DIM edit.now self.old.state.present.rows) next × (self.new.state ≡ steps_to self.old.state next)) }
         ensures err { OnErr result (self.new ≡ self.old) }
     {

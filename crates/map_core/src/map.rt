@@ -16,8 +16,8 @@ use valued_map::ValuedMap;
 
 /// A map of a kind and a dimension from 2 to 8 with values on its cells, seen as the state of the plain map machine
 /// beside the hook that was handed in. Its type keeps the laws of a map: at every moment its links obey them, and the
-/// darts of a cell have one value or none. Of the past it keeps what each step since the first mark changed, and tells
-/// all else from that.
+/// darts of a cell have one value or none; and the hook knows each rule that the map has or may go back to. Of the past it
+/// keeps what each step since the first mark changed, and tells all else from that.
 #[derive(Drop)]
 pub struct Map<'h, K: Kind, H: Hook, const DIM: usize> {
     pub(crate) present: ValuedMap<K, DIM>,
@@ -35,7 +35,7 @@ impl<'h, K: Kind, H: Hook, const DIM: usize> Model for Map<'h, K, H, DIM> {
 
     ghost view = { λ map. record { state = told map.present.content map.journal.trail; hook = map.hook.now } };
 
-    ghost invariant = { λ map. IsHeld map.present map.journal.trail };
+    ghost invariant = { λ map. IsHeld (H.hook map.hook.now) map.present map.journal.trail };
 }
 
 impl<'h, K: Kind, H: Hook, const DIM: usize> Map<'h, K, H, DIM> {

@@ -2,7 +2,7 @@
 ghost use Rattle.std.specs.Prelude.{◌≡◌, ℕ, true, length, IfOk};
 ghost use Rattle.machine_defs.specs.State.{Mark as SetMark};
 ghost use Rattle.machine_defs.specs.Marking.{IsMark};
-ghost use Rattle.machine_defs.specs.Kept.{IsLawfulState};
+ghost use Rattle.machine_defs.specs.Kept.{IsLawfulState, KnowsRules};
 ghost use Rattle.machine_defs.specs.Script.{Mark, Log, is_name};
 ghost use Rattle.machine_defs.specs.Text.{Logged};
 ghost use Rattle.journal_laws.specs.Following.{all_put_forward, all_taken_back};
@@ -20,12 +20,14 @@ impl<'h, K: Kind, H: Hook, const DIM: usize> Map<'h, K, H, DIM> {
     /// content, those of the past and each mark's copy are lawful maps with one value or none on each cell; no two marks
     /// have one name, a later mark has no lesser place, and each mark's copy is the content at its place; and each content
     /// follows the one before it: kind, dimension and places stay, numbers of darts go on, and no dart that ended lives again.
+    /// And the hook knows each rule of all of them.
     ///
     /// For whoever rests on a law that asks for a lawful state, as those of undo, whatever calls led to it.
     pub fn mark_count(&self) -> usize
         ensures count { result ≡ length self.now.state.marks }
         ensures kept { IsLawfulState self.now.state }
         ensures traced { AreTraced self.now.state }
+        ensures rules { KnowsRules (H.hook self.now.hook) self.now.state }
     {
         self.journal.mark_count()
     }
@@ -38,7 +40,7 @@ impl<'h, K: Kind, H: Hook, const DIM: usize> Map<'h, K, H, DIM> {
     pub fn mark(&mut self, name: &str) -> Result<Done, Refused>
         requires { is_name name.now ≡ true }
         ensures hook { self.new.hook ≡ self.old.hook }
-        ensures does { Does (H.meaning self.old.hook) self.old.state (Mark name.now) result self.new.state }
+        ensures does { Does (H.hook self.old.hook) self.old.state (Mark name.now) result self.new.state }
     {
         see_order(&self.journal);
         self.journal.mark(name)?;
@@ -51,7 +53,7 @@ impl<'h, K: Kind, H: Hook, const DIM: usize> Map<'h, K, H, DIM> {
     ///
     /// Refused as `NoMark` exactly where no mark has the name.
     pub fn log(&self, name: &str) -> Result<&[Step], Refusal>
-        ensures answers { AnswersAtOnce (H.meaning self.now.hook) self.now.state (Log name.now) (λ steps. Logged steps.now) result }
+        ensures answers { AnswersAtOnce (H.hook self.now.hook) self.now.state (Log name.now) (λ steps. Logged steps.now) result }
         ensures back { IfOk result (λ steps. (k : ℕ) → (mark : SetMark) → IsMark self.now.state.marks name.now k mark
             → all_taken_back steps.now self.now.state.present ≡ mark.content) }
         ensures forward { IfOk result (λ steps. (k : ℕ) → (mark : SetMark) → IsMark self.now.state.marks name.now k mark

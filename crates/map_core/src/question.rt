@@ -16,7 +16,7 @@ impl<'h, K: Kind, H: Hook, const DIM: usize> Map<'h, K, H, DIM> {
     /// Refused as `BadDim` exactly where the dimension is above the map's, and then as `NoDart` exactly where no live
     /// dart has the number.
     pub fn cell(&self, alloc: Global, dim: u64, dart: u64) -> Result<Vec<Dart>, Refused>
-        ensures { AnswersQuestion (H.meaning self.now.hook) self.now.state (Cell dim dart) (λ darts. Darts darts.items) result }
+        ensures { AnswersQuestion (H.hook self.now.hook) self.now.state (Cell dim dart) (λ darts. Darts darts.items) result }
     {
         let dim = self.dimension(dim)?;
         let dart = self.live_dart(dart)?;
@@ -29,7 +29,7 @@ impl<'h, K: Kind, H: Hook, const DIM: usize> Map<'h, K, H, DIM> {
     /// Refused as `BadDim` exactly where the dimension is above the map's, and then as `NoDart` exactly where no live
     /// dart has one of the numbers.
     pub fn same(&self, alloc: Global, dim: u64, dart: u64, other: u64) -> Result<bool, Refused>
-        ensures { AnswersQuestion (H.meaning self.now.hook) self.now.state (Same dim dart other) Truth result }
+        ensures { AnswersQuestion (H.hook self.now.hook) self.now.state (Same dim dart other) Truth result }
     {
         let dim = self.dimension(dim)?;
         let dart = self.live_dart(dart)?;
@@ -42,7 +42,7 @@ impl<'h, K: Kind, H: Hook, const DIM: usize> Map<'h, K, H, DIM> {
     /// Refused as `BadDim` exactly where the link is above the map's dimension, and then as `NoDart` exactly where no
     /// live dart has the number.
     pub fn free(&self, link: u64, dart: u64) -> Result<bool, Refusal>
-        ensures { AnswersAtOnce (H.meaning self.now.hook) self.now.state (Free link dart) Truth result }
+        ensures { AnswersAtOnce (H.hook self.now.hook) self.now.state (Free link dart) Truth result }
     {
         let link = self.dimension(link)?;
         let dart = self.live_dart(dart)?;
@@ -51,7 +51,7 @@ impl<'h, K: Kind, H: Hook, const DIM: usize> Map<'h, K, H, DIM> {
 
     /// How many live darts, cells of dimensions 0 to `DIM`, and components there are, in this order.
     pub fn count(&self, alloc: Global) -> Result<Vec<u64>, AllocError>
-        ensures { IfOk result (λ counts. Step (H.meaning self.now.hook) self.now.state Count (Counts counts.items) self.now.state) }
+        ensures { IfOk result (λ counts. Step (H.hook self.now.hook) self.now.state Count (Counts counts.items) self.now.state) }
     {
         cell_walk::counts(alloc, self.links())
     }

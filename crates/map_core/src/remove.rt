@@ -25,7 +25,7 @@ impl<'h, K: Edits<DIM>, H: Hook, const DIM: usize> Map<'h, K, H, DIM> {
     pub fn remove(&mut self, alloc: Global, dim: u64, dart: u64) -> Result<Done, Refused>
         requires { H.ready self.old.hook }
         ensures hook { self.new.hook ≡ self.old.hook }
-        ensures does { Does (H.meaning self.old.hook) self.old.state (Remove dim dart) result self.new.state }
+        ensures does { Does (H.hook self.old.hook) self.old.state (Remove dim dart) result self.new.state }
     {
         let dim = self.dimension(dim)?;
         let dart = self.live_dart(dart)?;
@@ -46,7 +46,7 @@ impl<'h, K: Edits<DIM>, H: Hook, const DIM: usize> Map<'h, K, H, DIM> {
     pub fn contract(&mut self, alloc: Global, dim: u64, dart: u64) -> Result<Done, Refused>
         requires { H.ready self.old.hook }
         ensures hook { self.new.hook ≡ self.old.hook }
-        ensures does { Does (H.meaning self.old.hook) self.old.state (Contract dim dart) result self.new.state }
+        ensures does { Does (H.hook self.old.hook) self.old.state (Contract dim dart) result self.new.state }
     {
         let dim = self.dimension(dim)?;
         let dart = self.live_dart(dart)?;
@@ -61,7 +61,7 @@ impl<'h, K: Edits<DIM>, H: Hook, const DIM: usize> Map<'h, K, H, DIM> {
     /// Refused as `BadDim` exactly where the dimension is above the map's, and then as `NoDart` exactly where no live dart
     /// has the number.
     pub fn removable(&self, alloc: Global, dim: u64, dart: u64) -> Result<bool, Refused>
-        ensures { AnswersQuestion (H.meaning self.now.hook) self.now.state (Removable dim dart) Truth result }
+        ensures { AnswersQuestion (H.hook self.now.hook) self.now.state (Removable dim dart) Truth result }
     {
         let dim = self.dimension(dim)?;
         let dart = self.live_dart(dart)?;
@@ -75,7 +75,7 @@ impl<'h, K: Edits<DIM>, H: Hook, const DIM: usize> Map<'h, K, H, DIM> {
     /// Refused as `BadDim` exactly where the dimension is above the map's, and then as `NoDart` exactly where no live dart
     /// has the number.
     pub fn contractible(&self, alloc: Global, dim: u64, dart: u64) -> Result<bool, Refused>
-        ensures { AnswersQuestion (H.meaning self.now.hook) self.now.state (Contractible dim dart) Truth result }
+        ensures { AnswersQuestion (H.hook self.now.hook) self.now.state (Contractible dim dart) Truth result }
     {
         let dim = self.dimension(dim)?;
         let dart = self.live_dart(dart)?;

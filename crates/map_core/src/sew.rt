@@ -24,7 +24,7 @@ impl<'h, K: Kind, H: Hook, const DIM: usize> Map<'h, K, H, DIM> {
     pub fn sew(&mut self, alloc: Global, link: u64, dart: u64, other: u64) -> Result<Done, Refused>
         requires { H.ready self.old.hook }
         ensures hook { self.new.hook ≡ self.old.hook }
-        ensures does { Does (H.meaning self.old.hook) self.old.state (Sew link dart other) result self.new.state }
+        ensures does { Does (H.hook self.old.hook) self.old.state (Sew link dart other) result self.new.state }
     {
         let link = sewing_link(self.links(), link)?;
         let dart = self.live_dart(dart)?;
@@ -44,7 +44,7 @@ impl<'h, K: Kind, H: Hook, const DIM: usize> Map<'h, K, H, DIM> {
     pub fn unsew(&mut self, alloc: Global, link: u64, dart: u64) -> Result<Done, Refused>
         requires { H.ready self.old.hook }
         ensures hook { self.new.hook ≡ self.old.hook }
-        ensures does { Does (H.meaning self.old.hook) self.old.state (Unsew link dart) result self.new.state }
+        ensures does { Does (H.hook self.old.hook) self.old.state (Unsew link dart) result self.new.state }
     {
         let link = sewing_link(self.links(), link)?;
         let dart = self.live_dart(dart)?;
@@ -59,7 +59,7 @@ impl<'h, K: Kind, H: Hook, const DIM: usize> Map<'h, K, H, DIM> {
     /// Refused as `BadDim` exactly where the link is above the map's dimension, or is link 0 of a combinatorial map, which
     /// follows link 1, and then as `NoDart` exactly where no live dart has one of the numbers.
     pub fn sewable(&self, alloc: Global, link: u64, dart: u64, other: u64) -> Result<bool, Refused>
-        ensures { AnswersQuestion (H.meaning self.now.hook) self.now.state (Sewable link dart other) Truth result }
+        ensures { AnswersQuestion (H.hook self.now.hook) self.now.state (Sewable link dart other) Truth result }
     {
         let link = sewing_link(self.links(), link)?;
         let dart = self.live_dart(dart)?;

@@ -17,7 +17,7 @@ impl<'h, K: Kind, H: Hook, const DIM: usize> Map<'h, K, H, DIM> {
     /// Refused as `NoMark` exactly where no mark has the name.
     pub fn undo(&mut self, alloc: Global, name: &str) -> Result<Done, Refused>
         ensures hook { self.new.hook ≡ self.old.hook }
-        ensures does { Does (H.meaning self.old.hook) self.old.state (Undo name.now) result self.new.state }
+        ensures does { Does (H.hook self.old.hook) self.old.state (Undo name.now) result self.new.state }
     {
         see_order(&self.journal);
         match self.journal.entries_since(name) {

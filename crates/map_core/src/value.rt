@@ -1,6 +1,7 @@
 //! The lines that set rules and values.
 ghost use Rattle.std.specs.Prelude.{◌≡◌, ◌≤◌, IsSome, OnOk, OnErr};
 ghost use Rattle.map_defs.specs.Rows.{IsLive};
+ghost use Rattle.map_defs.specs.RuleNames.{KnowsRule};
 ghost use Rattle.machine_defs.specs.State.{Content, steps_to, rule_at};
 ghost use Rattle.machine_defs.specs.Valuing.{IsValued};
 ghost use Rattle.machine_defs.specs.Machine.{with_rule};
@@ -10,7 +11,7 @@ ghost use Rattle.map_core.specs.Calls.{Does, AnswersAtOnce};
 
 use crate::map::Map;
 use crate::note::{begin, finish};
-use attr_rules::{Hook, TableRule, merge_named, split_named};
+use attr_rules::{Hook, TableRule, merge_beside, split_beside};
 use map_kind::{Dart, Done, Kind, Refusal, Refused, Value};
 use std::alloc::{AllocError, Global};
 
@@ -19,7 +20,7 @@ impl<'h, K: Kind, H: Hook, const DIM: usize> Map<'h, K, H, DIM> {
     /// stay.
     ///
     /// Refused as `BadDim` exactly where the dimension is above the map's, and then as `NoRule` exactly where one of the
-    /// names is not in its table.
+    /// names is not in its table, and the hook does not know it either.
     pub fn rule(
         &mut self,
         alloc: Global,
@@ -27,14 +28,15 @@ impl<'h, K: Kind, H: Hook, const DIM: usize> Map<'h, K, H, DIM> {
         merge: &str,
         split: &str,
     ) -> Result<Done, Refused>
+        requires { H.ready self.old.hook }
         ensures hook { self.new.hook ≡ self.old.hook }
-        ensures does { Does (H.meaning self.old.hook) self.old.state (SetRule dim merge.now split.now) result self.new.state }
+        ensures does { Does (H.hook self.old.hook) self.old.state (SetRule dim merge.now split.now) result self.new.state }
     {
         let dim = self.dimension(dim)?;
-        let Some(merge) = merge_named(merge) else {
+        let Some(merge) = merge_beside(self.hook, merge) else {
             return Err(Refused::Line(Refusal::NoRule));
         };
-        let Some(split) = split_named(split) else {
+        let Some(split) = split_beside(self.hook, split) else {
             return Err(Refused::Line(Refusal::NoRule));
         };
         self.set_rule(alloc, dim, TableRule { merge, split })?;
@@ -48,7 +50,7 @@ impl<'h, K: Kind, H: Hook, const DIM: usize> Map<'h, K, H, DIM> {
     /// has the number, and then as `NoRule` exactly where the dimension has no rule.
     pub fn set(&mut self, alloc: Global, dim: u64, dart: u64, value: Value) -> Result<Done, Refused>
         ensures hook { self.new.hook ≡ self.old.hook }
-        ensures does { Does (H.meaning self.old.hook) self.old.state (Set dim dart value) result self.new.state }
+        ensures does { Does (H.hook self.old.hook) self.old.state (Set dim dart value) result self.new.state }
     {
         let dim = self.dimension(dim)?;
         let dart = self.live_dart(dart)?;
@@ -66,7 +68,7 @@ impl<'h, K: Kind, H: Hook, const DIM: usize> Map<'h, K, H, DIM> {
     /// has the number, and then as `NoRule` exactly where the dimension has no rule.
     pub fn clear(&mut self, alloc: Global, dim: u64, dart: u64) -> Result<Done, Refused>
         ensures hook { self.new.hook ≡ self.old.hook }
-        ensures does { Does (H.meaning self.old.hook) self.old.state (Clear dim dart) result self.new.state }
+        ensures does { Does (H.hook self.old.hook) self.old.state (Clear dim dart) result self.new.state }
     {
         let dim = self.dimension(dim)?;
         let dart = self.live_dart(dart)?;
@@ -82,16 +84,17 @@ impl<'h, K: Kind, H: Hook, const DIM: usize> Map<'h, K, H, DIM> {
     /// Refused as `BadDim` exactly where the dimension is above the map's, and then as `NoDart` exactly where no live
     /// dart has the number.
     pub fn value(&self, dim: u64, dart: u64) -> Result<Option<Value>, Refusal>
-        ensures { AnswersAtOnce (H.meaning self.now.hook) self.now.state (AskValue dim dart) CellValue result }
+        ensures { AnswersAtOnce (H.hook self.now.hook) self.now.state (AskValue dim dart) CellValue result }
     {
         let dim = self.dimension(dim)?;
         let dart = self.live_dart(dart)?;
         Ok(self.present.value(dim, dart))
     }
 
-    /// Gives a dimension a rule. All memory is taken before anything changes.
+    /// Gives a dimension a rule that the hook knows. All memory is taken before anything changes.
     fn set_rule(&mut self, alloc: Global, dim: usize, rule: TableRule) -> Result<(), AllocError>
-        requires { dim ≤ DIM }
+        requires dim { dim ≤ DIM }
+        requires known { KnowsRule (H.hook self.old.hook) rule }
         ensures hook { self.new.hook ≡ self.old.hook }
         ensures set { OnOk result (self.new.state ≡ steps_to self.old.state (with_rule self.old.state.present dim rule)) }
         ensures err { OnErr result (self.new ≡ self.old) }

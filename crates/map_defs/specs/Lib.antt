@@ -7,6 +7,7 @@ pub mod Counts
 pub mod Rows
 pub mod Edits
 pub mod Values
+pub mod Names
 pub mod RuleNames
 pub mod Refusal
 pub mod Polygon

@@ -4,11 +4,11 @@ use Rattle.std.specs.List.Sorted.{IsStrictlyIncreasing}
 use Rattle.map_defs.specs.Kind.{Kind}
 use Rattle.map_defs.specs.Links.{Links}
 use Rattle.map_defs.specs.Cells.{InCell, NamesCell}
-use Rattle.map_defs.specs.Values.{Value, IsRepresentable, Sum, Share, Meaning, meaning_of, on_each}
+use Rattle.map_defs.specs.Values.{Value, IsRepresentable, Sum, Share, Hook, Meaning, meaning_of, on_each}
 use Rattle.map_defs.specs.Carry.{IsCarried, IsValuedWith, known, merged_all}
 
 -- the rule `sum share`, beside a hook: values add up where cells merge, and are dealt out where a cell is split
-abbrev pub sum_share : Meaning → Meaning
+abbrev pub sum_share : Hook → Meaning
 sum_share hook = meaning_of hook (record { merge = Sum; split = Share })
 
 -- the cells of dimension i that have a value, each named once by its least dart, ascending

@@ -9,7 +9,7 @@ struct Audit {
     status: u8,
 }
 
-const AUDITS: [Audit; 15] = [
+const AUDITS: [Audit; 17] = [
     // a triangle in version 1
     Audit {
         listing: "cellmap 1 g 2 6 6\n1: 2 6 0\n2: 1 3 0\n3: 4 2 0\n4: 3 5 0\n5: 6 4 0\n6: 5 1 0\nend\n",
@@ -75,6 +75,18 @@ const AUDITS: [Audit; 15] = [
         listing: "cellmap 2 c 2 9 2\n4: 9 9 0\n9: 4 4 0\nrule 1 max copy\nval 1 4 -1 0 1\nmark a\nend\n",
         text: "cellmap 2 c 2 9 2\n4: 9 9 0\n9: 4 4 0\nrule 1 max copy\nval 1 4 -1 0 1\nmark a\nend\ncount 2 2 2 1 1\n",
         status: 0,
+    },
+    // names that are in no table are those of named rules
+    Audit {
+        listing: "cellmap 2 g 2 1 1\n1: 0 0 0\nrule 0 copy first\nrule 1 sum xor2\nrule 2 host host\nend\n",
+        text: "cellmap 2 g 2 1 1\n1: 0 0 0\nrule 0 copy first\nrule 1 sum xor2\nrule 2 host host\nend\ncount 1 1 1 1 1\n",
+        status: 0,
+    },
+    // what is no name is none
+    Audit {
+        listing: "cellmap 2 g 2 1 1\n1: 0 0 0\nrule 0 Sum share\nend\n",
+        text: "listing line 3 Form\n",
+        status: 3,
     },
     // a mark twice
     Audit {

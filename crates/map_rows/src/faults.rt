@@ -1,7 +1,7 @@
 //! Words that are no command, and what fails outside.
 ghost use Rattle.std.specs.Prelude.{◌≡◌, ℕ, ◌+◌, ◌-◌, ◌^◌, [], None, min};
 
-use attr_rules::FirstCopy;
+use attr_rules::OrCopy;
 use map_io::{FetchFault, PutFault, Shelf, Sink};
 use std::alloc::{AllocError, Global};
 use std::process::Abort;
@@ -152,7 +152,7 @@ fn check(rt: &impl Abort, alloc: Global, words: &[&str], fault: &Fault) -> Resul
         flushes: fault.flushes,
         faults: 0,
     };
-    let status = map_run::run(alloc, owned.as_slice(), &mut shelf, &mut out, &FirstCopy);
+    let status = map_run::run(alloc, owned.as_slice(), &mut shelf, &mut out, &OrCopy);
     assert_eq!(rt; out.text.as_slice(), fault.text.as_bytes());
     assert_eq!(rt; status, fault.status);
     Ok(())

@@ -4,7 +4,8 @@ ghost use Rattle.machine_defs.specs.Outside.{held};
 ghost use Rattle.machine_defs.specs.Program.{NeedsFile};
 ghost use Rattle.map_io.specs.Held.{files_of};
 
-use attr_rules::FirstCopy;
+use attr_rules::OrCopy;
+use hook_book::{Book, Named, Span, Xor};
 use map_io::{Held, SureShelf, SureSink};
 use std::alloc::{AllocError, Global};
 use std::process::Abort;
@@ -23,14 +24,20 @@ pub struct Answer {
     pub status: u8,
 }
 
-/// Runs the program on words, over files that hold all that the words need.
+/// Runs the program on words, over files that hold all that the words need, with the rules `xor` and `span` handed in.
 pub fn run_over(alloc: Global, words: &[String], files: Vec<Held>) -> Result<Answer, AllocError>
     requires { (name : List ℕ) → NeedsFile (map string_bytes words.now) name
         → IsSome (held (files_of files.items) name) }
 {
     let mut shelf = SureShelf::new(files);
     let mut out = SureSink::new(alloc);
-    let status = map_run::run(alloc, words, &mut shelf, &mut out, &FirstCopy);
+    let mut hooks: Vec<Box<dyn Named>> = Vec::new(alloc);
+    hooks.push(Box::new(alloc, Xor)?)?;
+    hooks.push(Box::new(alloc, Span)?)?;
+    let status = match Book::new(OrCopy, hooks) {
+        Ok(book) => map_run::run(alloc, words, &mut shelf, &mut out, &book),
+        Err(fault) => map_run::run(alloc, words, &mut shelf, &mut out, &fault.base),
+    };
     let text = out.written().to_vec(alloc)?;
     Ok(Answer { text, status })
 }
@@ -68,6 +75,16 @@ pub fn audit(alloc: Global, listing: Vec<u8>) -> Result<Answer, AllocError> {
         bytes: listing,
     })?;
     run_over(alloc, words.as_slice(), files)
+}
+
+/// Runs `soak KIND SEED COUNT`.
+pub fn soak(alloc: Global, kind: &str, seed: &str, count: &str) -> Result<Answer, AllocError> {
+    let mut words = Vec::new(alloc);
+    words.push(text(alloc, "soak")?)?;
+    words.push(text(alloc, kind)?)?;
+    words.push(text(alloc, seed)?)?;
+    words.push(text(alloc, count)?)?;
+    run_over(alloc, words.as_slice(), Vec::new(alloc))
 }
 
 /// Runs each row's script over a map of a kind and a dimension, and compares the text and the status.

@@ -24,6 +24,8 @@ mod polygons;
 #[cfg(test)]
 mod removals;
 #[cfg(test)]
+mod soaks;
+#[cfg(test)]
 mod values;
 #[cfg(test)]
 mod words;

@@ -1,7 +1,7 @@
 //! Scripts over meshes, and meshes that are refused.
 ghost use Rattle.std.specs.Prelude.{None};
 
-use attr_rules::FirstCopy;
+use attr_rules::OrCopy;
 use map_io::{FetchFault, Shelf, SureSink};
 use std::alloc::{AllocError, Global};
 use std::process::Abort;
@@ -58,7 +58,7 @@ pub fn check_meshes(
             faults: 0,
         };
         let mut out = SureSink::new(alloc);
-        let status = map_run::run(alloc, words.as_slice(), &mut shelf, &mut out, &FirstCopy);
+        let status = map_run::run(alloc, words.as_slice(), &mut shelf, &mut out, &OrCopy);
         assert_eq!(rt; out.written(), row.text.as_bytes(), "{}", row.mesh);
         assert_eq!(rt; status, row.status, "{}", row.mesh);
     }

@@ -45,6 +45,38 @@ const VALUES: [Row; 6] = [
     },
 ];
 
+const HANDED_IN: [Row; 4] = [
+    // the closures that are stored
+    Row {
+        script: "polygon 3\npolygon 3\nrule 1 host host\nset 1 1 5 0 0\nset 1 7 6 0 0\nsew 2 1 7\nvalue 1 1\n",
+        text: "ok 1 6\nok 7 6\nok\nok\nok\nok\nvalue 7 0 0\n",
+        status: 0,
+    },
+    // rules that are known by names: the least, the greatest and the sum
+    Row {
+        script: "polygon 3\npolygon 3\nrule 1 span span\nset 1 1 5 5 5\nset 1 7 2 9 4\nsew 2 1 7\nvalue 1 1\nunsew 2 1\nvalue 1 1\nvalue 1 7\nrule 0 spam copy\n",
+        text: "ok 1 6\nok 7 6\nok\nok\nok\nok\nvalue 2 9 9\nok\nvalue 2 9 5\nvalue 2 9 4\nno 4 NoRule\n",
+        status: 1,
+    },
+    // a named rule in the log and in the listing, and one that comes back with a mark
+    Row {
+        script: "polygon 3\npolygon 3\nset 1 1 5 0 0\nmark a\nrule 1 xor copy\nlog a\nset 1 1 5 0 0\nset 1 7 6 0 0\nsew 2 1 7\nvalue 1 1\nshow\n",
+        text: "ok 1 6\nok 7 6\nno 4 NoRule\nok\nok\nlog 1\nstep 1\nrule 1 - xor/copy\nend\nok\nok\nok\nvalue 3 0 0\ncellmap 2 g 2 12 12\n1: 2 6 7\n2: 1 3 8\n3: 4 2 0\n4: 3 5 0\n5: 6 4 0\n6: 5 1 0\n7: 8 12 1\n8: 7 9 2\n9: 10 8 0\n10: 9 11 0\n11: 12 10 0\n12: 11 7 0\nrule 1 xor copy\nval 1 1 3 0 0\nmark a\nend\n",
+        status: 1,
+    },
+    // a named rule that an undo gives back
+    Row {
+        script: "polygon 3\nrule 1 xor span\nmark a\nrule 1 sum share\nundo a\nlog a\nshow\n",
+        text: "ok 1 6\nok\nok\nok\nok\nlog 0\nend\ncellmap 2 g 2 6 6\n1: 2 6 0\n2: 1 3 0\n3: 4 2 0\n4: 3 5 0\n5: 6 4 0\n6: 5 1 0\nrule 1 xor span\nmark a\nend\n",
+        status: 0,
+    },
+];
+
+#[test]
+fn rules_that_are_handed_in(rt: HostRuntime) -> Result<(), AllocError> {
+    check_rows(&rt, rt.alloc(), "g", "2", &HANDED_IN)
+}
+
 #[test]
 fn values_in_dimension_2(rt: HostRuntime) -> Result<(), AllocError> {
     check_rows(&rt, rt.alloc(), "g", "2", &VALUES)

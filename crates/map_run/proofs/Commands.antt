@@ -1,8 +1,8 @@
 -- Words that are a command, and words that are none.
-use Rattle.std.proofs.Common.{◌≡◌, ◌≢◌, ◌≤◌, ℕ, List, [], ◌∷◌, length, get_or, Option, Some, refl, ap, arith, codes}
+use Rattle.std.proofs.Common.{◌≡◌, ◌≢◌, ◌≤◌, ◌<◌, ℕ, List, [], ◌∷◌, length, get_or, Option, Some, refl, ap, arith, codes}
 use Rattle.std.specs.Fmt.{decimal}
 use Rattle.map_defs.specs.Kind.{Kind, letter}
-use Rattle.machine_defs.specs.Program.{RunScript, Audit, TellsCommand, IsNoCommand, mesh_word, no_mesh}
+use Rattle.machine_defs.specs.Program.{RunScript, Audit, Soak, TellsCommand, IsNoCommand, mesh_word, no_mesh}
 
 -- a list of five elements
 pub five : {X : Type 0} (xs : List X) (a b c d e : X) → length xs ≡ 5 → a ≡ get_or xs 0 a → b ≡ get_or xs 1 b → c ≡ get_or xs 2 c
@@ -27,6 +27,7 @@ no_run : (run kind dim mesh script : List ℕ) → ((k : Kind) (n : ℕ) (other 
     → run ∷ kind ∷ dim ∷ mesh ∷ script ∷ [] ≡ codes "run" ∷ (letter k ∷ []) ∷ decimal n ∷ other ∷ file ∷ [] → ⊥) → IsNoCommand (run ∷ kind ∷ dim ∷ mesh ∷ script ∷ [])
 no_run run kind dim mesh script differ (RunScript k n name file) t = differ k n (mesh_word name) file t.0.0 t.0.1 t.1
 no_run run kind dim mesh script differ (Audit listing) t = absurd (let same = ap length t.1 in omega arith)
+no_run run kind dim mesh script differ (Soak k seed count) t = absurd (let same = ap length t.1 in omega arith)
 
 -- these words are those of the command
 pub as_told : (run kind dim mesh script : List ℕ) (k : Kind) (n : ℕ) (name : Option (List ℕ))
@@ -47,8 +48,43 @@ not_numbered run kind dim mesh script differ = no_run run kind dim mesh script (
 pub not_audit : (audit listing : List ℕ) → audit ≢ codes "audit" → IsNoCommand (audit ∷ listing ∷ [])
 not_audit audit listing differ (RunScript k n name file) t = absurd (let same = ap length t.1 in omega arith)
 not_audit audit listing differ (Audit other) t = differ (let same = t.1 in cc)
+not_audit audit listing differ (Soak k seed count) t = absurd (let same = ap length t.1 in omega arith)
+
+-- a list of four elements
+pub four : {X : Type 0} (xs : List X) (a b c d : X) → length xs ≡ 4 → a ≡ get_or xs 0 a → b ≡ get_or xs 1 b → c ≡ get_or xs 2 c → d ≡ get_or xs 3 d → xs ≡ a ∷ b ∷ c ∷ d ∷ []
+four [] a b c d len p q r s = absurd (omega arith)
+four (x ∷ []) a b c d len p q r s = absurd (omega arith)
+four (x ∷ y ∷ []) a b c d len p q r s = absurd (omega arith)
+four (x ∷ y ∷ z ∷ []) a b c d len p q r s = absurd (omega arith)
+four (x ∷ y ∷ z ∷ v ∷ []) a b c d len p q r s = cc
+four (x ∷ y ∷ z ∷ v ∷ w ∷ xs) a b c d len p q r s = absurd (omega arith)
+
+-- four words are a command where they are those of a soak
+no_soak : (soak kind seed count : List ℕ) → ((k : Kind) (from squares : ℕ) → from < 2147483648 → 1 ≤ squares → squares ≤ 100000
+    → soak ∷ kind ∷ seed ∷ count ∷ [] ≡ codes "soak" ∷ (letter k ∷ []) ∷ decimal from ∷ decimal squares ∷ [] → ⊥) → IsNoCommand (soak ∷ kind ∷ seed ∷ count ∷ [])
+no_soak soak kind seed count differ (RunScript k n name file) t = absurd (let same = ap length t.1 in omega arith)
+no_soak soak kind seed count differ (Audit listing) t = absurd (let same = ap length t.1 in omega arith)
+no_soak soak kind seed count differ (Soak k from squares) t = differ k from squares t.0.0 t.0.1 t.0.2 t.1
+
+-- these words are those of a soak
+pub as_soak : (soak kind seed count : List ℕ) (k : Kind) (from squares : ℕ) → soak ≡ codes "soak" → kind ≡ letter k ∷ [] → seed ≡ decimal from → count ≡ decimal squares
+    → from < 2147483648 → 1 ≤ squares → squares ≤ 100000 → TellsCommand (soak ∷ kind ∷ seed ∷ count ∷ []) (Soak k from squares)
+as_soak soak kind seed count k from squares named lettered seeded counted low some few = ((low, some, few), rw (named, lettered, seeded, counted) refl)
+
+pub not_soak : (soak kind seed count : List ℕ) → soak ≢ codes "soak" → IsNoCommand (soak ∷ kind ∷ seed ∷ count ∷ [])
+not_soak soak kind seed count differ = no_soak soak kind seed count (λ k from squares low some few e. differ (cc))
+
+pub soak_unlettered : (soak kind seed count : List ℕ) → ((k : Kind) → kind ≡ letter k ∷ [] → ⊥) → IsNoCommand (soak ∷ kind ∷ seed ∷ count ∷ [])
+soak_unlettered soak kind seed count differ = no_soak soak kind seed count (λ k from squares low some few e. differ k (cc))
+
+pub soak_unseeded : (soak kind seed count : List ℕ) → ((n : ℕ) → 0 ≤ n → n ≤ 2147483647 → seed ≡ decimal n → ⊥) → IsNoCommand (soak ∷ kind ∷ seed ∷ count ∷ [])
+soak_unseeded soak kind seed count differ = no_soak soak kind seed count (λ k from squares low some few e. differ from (omega arith) (omega arith) (cc))
+
+pub soak_uncounted : (soak kind seed count : List ℕ) → ((n : ℕ) → 1 ≤ n → n ≤ 100000 → count ≡ decimal n → ⊥) → IsNoCommand (soak ∷ kind ∷ seed ∷ count ∷ [])
+soak_uncounted soak kind seed count differ = no_soak soak kind seed count (λ k from squares low some few e. differ squares some few (cc))
 
 -- no other number of words is a command
-pub not_counted : (words : List (List ℕ)) → length words ≢ 5 → length words ≢ 2 → IsNoCommand words
-not_counted words five two (RunScript k n name file) t = five (ap length t.1)
-not_counted words five two (Audit listing) t = two (ap length t.1)
+pub not_counted : (words : List (List ℕ)) → length words ≢ 5 → length words ≢ 2 → length words ≢ 4 → IsNoCommand words
+not_counted words five two four (RunScript k n name file) t = five (ap length t.1)
+not_counted words five two four (Audit listing) t = two (ap length t.1)
+not_counted words five two four (Soak k seed count) t = four (ap length t.1)

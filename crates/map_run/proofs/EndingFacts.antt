@@ -7,7 +7,7 @@ use Rattle.map_io.specs.declared.shelf.FetchFault.TheVariants as fetch
 use Rattle.map_io.specs.declared.sink.PutFault.{PutFault}
 use Rattle.map_io.specs.declared.sink.PutFault.TheVariants.{Failed, NoMemory}
 use Rattle.map_defs.specs.Kind.{Kind}
-use Rattle.map_defs.specs.Values.{Meaning}
+use Rattle.map_defs.specs.Values.{Hook}
 use Rattle.machine_defs.specs.Outside.{Files, held, Appended}
 use Rattle.machine_defs.specs.State.{State, empty_state}
 use Rattle.map_defs.specs.Off.{mesh_of}
@@ -16,12 +16,12 @@ use Rattle.machine_defs.specs.Program.{Command, RunScript, Audit, TellsCommand, 
 use Rattle.map_run.specs.Going.{IsObeyed}
 use Rattle.map_run.specs.Texts.{IsUnfetched, IsMeshOf, IsFirst, TextsEnd, refused, starved, obeyed, EndsTexts}
 use Rattle.machine_defs.specs.Auditing.{AuditAnswer}
-use Rattle.map_run.specs.Audits.{AuditEnd, done, cut_short, out_of_memory, EndsAudit}
-use Rattle.map_run.specs.Ending.{IsLast, WritesLast, EndsCall, EndsWhole, status_of}
+use Rattle.map_run.specs.Ending.{IsLast, WritesLast, EndsAnswer, EndsCall, EndsWhole, status_of}
+use Rattle.map_run.proofs.AnswerFacts.{Ends-answer}
 use Rattle.map_run.proofs.StartFacts.{starts-nothing}
 use Rattle.text_lines.proofs.WritingFacts.{Appended-nothing, Appended-then, IsFront-all, IsFront-nothing}
 
-module _ (hook : Meaning) (words : List (List ℕ)) (files : Files) (shelf_rose sink_rose : Type 0) where
+module _ (hook : Hook) (words : List (List ℕ)) (files : Files) (shelf_rose sink_rose : Type 0) where
   -- one line that is a whole answer
   last-outcome : (line : List ℕ) (status result : ℕ) (piece : List ℕ) → ProgramAnswer hook words files line status → status ≤ 4
       → IsLast sink_rose line status result piece → Outcome hook words files shelf_rose sink_rose result piece
@@ -84,18 +84,6 @@ module _ (hook : Meaning) (words : List (List ℕ)) (files : Files) (shelf_rose 
     texts-outcome status piece (obeyed start result first is p rose) =
         subst (λ (n : ℕ). Outcome hook words files shelf_rose sink_rose n piece) (sym is) (obeyed-outcome start result piece first rose p)
 
-  -- a listing that was fetched
-  module _ (name bytes : List ℕ) (tells : TellsCommand words (Audit name)) (is : IsFile files name bytes) where
-    audit-answers : (text : List ℕ) (status : ℕ) → AuditAnswer bytes text status → ProgramAnswer hook words files text status
-    audit-answers text status answer =
-        told (Audit name) tells (subst (λ (o : Option (List ℕ)). FileAnswer o AuditAnswer text status) (sym is.0) (inr (is.1, answer)))
-
-    audit-outcome : (status : ℕ) (piece : List ℕ) → AuditEnd bytes sink_rose status piece → Outcome hook words files shelf_rose sink_rose status piece
-    audit-outcome status piece (done answer small) = answered small (audit-answers piece status answer)
-    audit-outcome status piece (cut_short text n answer front (inl (six, rose))) = unwritten six rose (inl (whole text n (audit-answers text n answer) front))
-    audit-outcome status piece (cut_short text n answer front (inr (seven, ends))) = no_memory seven ends (inl (whole text n (audit-answers text n answer) front))
-    audit-outcome status piece (out_of_memory seven none) = no_memory seven (inl none) (inl (lines (Audit name) tells none))
-
   -- what was kept back is handed on
   flushed-outcome : (sink_rose' : Type 0) (status : ℕ) (piece : List ℕ) → (sink_rose → sink_rose') → Outcome hook words files shelf_rose sink_rose status piece
       → Outcome hook words files shelf_rose sink_rose' status piece
@@ -123,7 +111,7 @@ module _ (hook : Meaning) (words : List (List ℕ)) (files : Files) (shelf_rose 
   complete-outcome status piece no_shelf no_sink (unwritten six rose cut) = absurd (no_sink rose)
   complete-outcome status piece no_shelf no_sink (no_memory seven ends cut) = inl seven
 
-pub Ends-last : (hook : Meaning) (before after : Option (List ℕ)) (words : List (List ℕ)) (files : Files) (shelf_rose sink_rose : Type 0) (line : List ℕ) (status result : ℕ)
+pub Ends-last : (hook : Hook) (before after : Option (List ℕ)) (words : List (List ℕ)) (files : Files) (shelf_rose sink_rose : Type 0) (line : List ℕ) (status result : ℕ)
     → ProgramAnswer hook words files line status → status ≤ 4 → WritesLast before after sink_rose line status result → EndsCall hook before after words files shelf_rose sink_rose result
 Ends-last hook before after words files shelf_rose sink_rose line status result answers small w = record {
   text = w.piece;
@@ -131,7 +119,7 @@ Ends-last hook before after words files shelf_rose sink_rose line status result 
   outcome = last-outcome hook words files shelf_rose sink_rose line status result w.piece answers small w.is;
 }
 
-pub Ends-unread : (hook : Meaning) (before after : Option (List ℕ)) (words : List (List ℕ)) (files : Files) (shelf_rose sink_rose : Type 0) (result : ℕ)
+pub Ends-unread : (hook : Hook) (before after : Option (List ℕ)) (words : List (List ℕ)) (files : Files) (shelf_rose sink_rose : Type 0) (result : ℕ)
     → shelf_rose → WritesLast before after sink_rose cannot_read 5 result → EndsCall hook before after words files shelf_rose sink_rose result
 Ends-unread hook before after words files shelf_rose sink_rose result shelf w = record {
   text = w.piece;
@@ -139,7 +127,7 @@ Ends-unread hook before after words files shelf_rose sink_rose result shelf w = 
   outcome = unread-outcome hook words files shelf_rose sink_rose result w.piece shelf w.is;
 }
 
-pub Ends-nothing : (hook : Meaning) (o : Option (List ℕ)) (words : List (List ℕ)) (files : Files) (shelf_rose sink_rose : Type 0)
+pub Ends-nothing : (hook : Hook) (o : Option (List ℕ)) (words : List (List ℕ)) (files : Files) (shelf_rose sink_rose : Type 0)
     → Starts hook words files [] → EndsCall hook o o words files shelf_rose sink_rose 7
 Ends-nothing hook o words files shelf_rose sink_rose starts = record {
   text = [];
@@ -148,7 +136,7 @@ Ends-nothing hook o words files shelf_rose sink_rose starts = record {
 }
 
 -- a file was not fetched
-pub Ends-unfetched : (hook : Meaning) (command : Command) (before after : Option (List ℕ)) (words : List (List ℕ)) (files : Files) (shelf_rose sink_rose : Type 0)
+pub Ends-unfetched : (hook : Hook) (command : Command) (before after : Option (List ℕ)) (words : List (List ℕ)) (files : Files) (shelf_rose sink_rose : Type 0)
     (fault : FetchFault) (result : ℕ) → TellsCommand words command → Starts hook words files [] → IsUnfetched files command fault → (fault ≡ fetch.Failed → shelf_rose)
     → (fault ≡ fetch.Failed → WritesLast before after sink_rose cannot_read 5 result) → ((seen : ℕ) → fault ≡ fetch.TooLong seen → WritesLast before after sink_rose too_long 4 result)
     → (fault ≡ fetch.NoMemory → (result ≡ 7) × (after ≡ before)) → EndsCall hook before after words files shelf_rose sink_rose result
@@ -159,7 +147,7 @@ Ends-unfetched hook command before after words files shelf_rose sink_rose (fetch
 Ends-unfetched hook command before after words files shelf_rose sink_rose fetch.NoMemory result tells starts unfetched rose failed long memory =
     let end = memory refl in rw (end.0, end.1) (Ends-nothing hook before words files shelf_rose sink_rose starts)
 
-pub Ends-texts : (hook : Meaning) (k : Kind) (n : ℕ) (mesh : Option (List ℕ)) (script : List ℕ) (words : List (List ℕ)) (files : Files) (before after : Option (List ℕ)) (shelf_rose sink_rose : Type 0) (status : ℕ)
+pub Ends-texts : (hook : Hook) (k : Kind) (n : ℕ) (mesh : Option (List ℕ)) (script : List ℕ) (words : List (List ℕ)) (files : Files) (before after : Option (List ℕ)) (shelf_rose sink_rose : Type 0) (status : ℕ)
     (bytes : Option (List ℕ)) (text : List ℕ) → TellsCommand words (RunScript k n mesh script) → IsMeshOf files mesh bytes × IsFile files script text
     → EndsTexts hook k n bytes text sink_rose before after status → EndsCall hook before after words files shelf_rose sink_rose status
 Ends-texts hook k n mesh script words files before after shelf_rose sink_rose status bytes text tells are e = record {
@@ -168,15 +156,13 @@ Ends-texts hook k n mesh script words files before after shelf_rose sink_rose st
   outcome = texts-outcome hook words files shelf_rose sink_rose k n mesh script tells bytes text are.0 are.1 status e.piece e.end;
 }
 
-pub Ends-audit : (hook : Meaning) (name bytes : List ℕ) (words : List (List ℕ)) (files : Files) (before after : Option (List ℕ)) (shelf_rose sink_rose : Type 0) (status : ℕ)
-    → TellsCommand words (Audit name) → IsFile files name bytes → EndsAudit bytes sink_rose before after status → EndsCall hook before after words files shelf_rose sink_rose status
-Ends-audit hook name bytes words files before after shelf_rose sink_rose status tells is e = record {
-  text = e.piece;
-  appended = e.appended;
-  outcome = audit-outcome hook words files shelf_rose sink_rose name bytes tells is status e.piece e.end;
-}
+pub Ends-audit : (hook : Hook) (name bytes : List ℕ) (words : List (List ℕ)) (files : Files) (before after : Option (List ℕ)) (shelf_rose sink_rose : Type 0) (status : ℕ)
+    → TellsCommand words (Audit name) → IsFile files name bytes → EndsAnswer (AuditAnswer bytes) sink_rose before after status → EndsCall hook before after words files shelf_rose sink_rose status
+Ends-audit hook name bytes words files before after shelf_rose sink_rose status tells is e =
+    Ends-answer hook words files shelf_rose sink_rose (Audit name) tells refl (AuditAnswer bytes)
+    (λ text status answer. subst (λ (o : Option (List ℕ)). FileAnswer o AuditAnswer text status) (sym is.0) (inr (is.1, answer))) before after status e
 
-pub Ends-flushed : (hook : Meaning) (before middle after : Option (List ℕ)) (words : List (List ℕ)) (files : Files) (shelf_rose sink_rose sink_rose' : Type 0) (status : ℕ)
+pub Ends-flushed : (hook : Hook) (before middle after : Option (List ℕ)) (words : List (List ℕ)) (files : Files) (shelf_rose sink_rose sink_rose' : Type 0) (status : ℕ)
     → (sink_rose → sink_rose') → EndsCall hook before middle words files shelf_rose sink_rose status → Appended middle after []
     → EndsCall hook before after words files shelf_rose sink_rose' status
 Ends-flushed hook before middle after words files shelf_rose sink_rose sink_rose' status grows e kept = record {
@@ -185,7 +171,7 @@ Ends-flushed hook before middle after words files shelf_rose sink_rose sink_rose
   outcome = flushed-outcome hook words files shelf_rose sink_rose sink_rose' status e.text grows e.outcome;
 }
 
-pub Ends-unflushed : (hook : Meaning) (before middle after : Option (List ℕ)) (words : List (List ℕ)) (files : Files) (shelf_rose sink_rose sink_rose' : Type 0) (status : ℕ)
+pub Ends-unflushed : (hook : Hook) (before middle after : Option (List ℕ)) (words : List (List ℕ)) (files : Files) (shelf_rose sink_rose sink_rose' : Type 0) (status : ℕ)
     → sink_rose' → EndsCall hook before middle words files shelf_rose sink_rose status → Appended middle after []
     → EndsCall hook before after words files shelf_rose sink_rose' (cond (nat_lt status 6) 6 status)
 Ends-unflushed hook before middle after words files shelf_rose sink_rose sink_rose' status rose e kept = record {
@@ -194,7 +180,7 @@ Ends-unflushed hook before middle after words files shelf_rose sink_rose sink_ro
   outcome = unflushed-outcome hook words files shelf_rose sink_rose sink_rose' status e.text rose e.outcome;
 }
 
-pub EndsWhole-from : (hook : Meaning) (before after : Option (List ℕ)) (words : List (List ℕ)) (files : Files) (shelf_rose sink_rose : Type 0) (status : ℕ)
+pub EndsWhole-from : (hook : Hook) (before after : Option (List ℕ)) (words : List (List ℕ)) (files : Files) (shelf_rose sink_rose : Type 0) (status : ℕ)
     → (shelf_rose → ⊥) → (sink_rose → ⊥) → EndsCall hook before after words files shelf_rose sink_rose status → (status ≡ 7) ⊎ EndsWhole hook before after words files status
 EndsWhole-from hook before after words files shelf_rose sink_rose status no_shelf no_sink e =
     elim (complete-outcome hook words files shelf_rose sink_rose status e.text no_shelf no_sink e.outcome) [

@@ -5,6 +5,9 @@ pub mod RunFacts
 pub mod Rest
 pub mod StartFacts
 pub mod ToldLines
+pub mod WrittenNumbers
+pub mod AnswerFacts
+pub mod SoakFacts
 pub mod EndingFacts
 pub mod MeshFacts
 pub mod AuditFacts

@@ -4,7 +4,7 @@ use Rattle.std.proofs.lemmas.List.{append-nil}
 use Rattle.map_io.specs.declared.sink.PutFault.{PutFault}
 use Rattle.map_io.specs.declared.sink.PutFault.TheVariants.{Failed, NoMemory}
 use Rattle.machine_defs.specs.Outside.{IsFront}
-use Rattle.map_defs.specs.Values.{Meaning}
+use Rattle.map_defs.specs.Values.{Hook}
 use Rattle.machine_defs.specs.State.{State}
 use Rattle.machine_defs.specs.Script.{Line, line_of}
 use Rattle.machine_defs.specs.Text.{Reply, Refused, reply_text, replies_text, is_refused, any_refused}
@@ -45,7 +45,7 @@ one-refused reply = or_false (is_refused reply)
     or_false false = refl
 
 -- what a line answers, where it has one reply
-answer-is : (hook : Meaning) (s new : State) (words : List (List ℕ)) (reply : Reply) (result : Result Bool PutFault) (piece : List ℕ)
+answer-is : (hook : Hook) (s new : State) (words : List (List ℕ)) (reply : Reply) (result : Result Bool PutFault) (piece : List ℕ)
     → Obeys hook s words (reply ∷ []) new → IsSaid reply result piece → IsAnswered hook s new words result piece
 answer-is hook s new words reply (Ok refused) piece obeys p =
     (reply ∷ [], obeys, p.0 ∙ one-reply reply, p.1 ∙ one-refused reply)
@@ -54,7 +54,7 @@ answer-is hook s new words reply (Err Failed) piece obeys p =
 answer-is hook s new words reply (Err NoMemory) piece obeys p =
     (p.0, inr (reply ∷ [], new, obeys, subst (IsFront piece) (one-reply reply) p.1))
 
-said-line : (hook : Meaning) (before after : Option (List ℕ)) (s new : State) (words : List (List ℕ)) (reply : Reply) (result : Result Bool PutFault)
+said-line : (hook : Hook) (before after : Option (List ℕ)) (s new : State) (words : List (List ℕ)) (reply : Reply) (result : Result Bool PutFault)
     → Obeys hook s words (reply ∷ []) new → Says before after reply result → AnswersLine hook before after s new words result
 said-line hook before after s new words reply result obeys p = record {
   piece = p.piece;
@@ -63,24 +63,24 @@ said-line hook before after s new words reply result obeys p = record {
 }
 
 -- a line that was read and obeyed
-pub AnswersLine-told : (hook : Meaning) (before after : Option (List ℕ)) (s new : State) (words : List (List ℕ)) (line : Line) (reply : Reply) (result : Result Bool PutFault)
+pub AnswersLine-told : (hook : Hook) (before after : Option (List ℕ)) (s new : State) (words : List (List ℕ)) (line : Line) (reply : Reply) (result : Result Bool PutFault)
     → line_of words ≡ Some line → Step hook s line reply new → Says before after reply result → AnswersLine hook before after s new words result
 AnswersLine-told hook before after s new words line reply result told step said =
     said-line hook before after s new words reply result (obeyed line reply told step refl) said
 
 -- a line outside the grammar
-pub AnswersLine-unread : (hook : Meaning) (before after : Option (List ℕ)) (s : State) (words : List (List ℕ)) (result : Result Bool PutFault)
+pub AnswersLine-unread : (hook : Hook) (before after : Option (List ℕ)) (s : State) (words : List (List ℕ)) (result : Result Bool PutFault)
     → words ≢ [] → line_of words ≡ None → Says before after (Refused Syntax) result → AnswersLine hook before after s s words result
 AnswersLine-unread hook before after s [] result some none said = absurd (some refl)
 AnswersLine-unread hook before after s (first ∷ more) result some none said =
     said-line hook before after s s (first ∷ more) (Refused Syntax) result (unread first more refl none refl refl) said
 
 -- nothing is written, for want of memory
-pub AnswersLine-nothing : (hook : Meaning) (o : Option (List ℕ)) (s new : State) (words : List (List ℕ)) → AnswersLine hook o o s new words (Err NoMemory)
+pub AnswersLine-nothing : (hook : Hook) (o : Option (List ℕ)) (s new : State) (words : List (List ℕ)) → AnswersLine hook o o s new words (Err NoMemory)
 AnswersLine-nothing hook o s new words = record { piece = []; appended = Appended-nothing o; is = (inl refl, inl refl) }
 
 -- a line that was read and obeyed, and whose answer was written if there was memory for one
-pub AnswersLine-said : (hook : Meaning) (before after : Option (List ℕ)) (s new : State) (words : List (List ℕ)) (line : Line) (answer : Result Answer AllocError) (result : Result Bool PutFault)
+pub AnswersLine-said : (hook : Hook) (before after : Option (List ℕ)) (s new : State) (words : List (List ℕ)) (line : Line) (answer : Result Answer AllocError) (result : Result Bool PutFault)
     → line_of words ≡ Some line → IfOk answer (λ (told : Answer). Step hook s line (answer_meaning told) new)
     → IfOk answer (λ (told : Answer). Says before after (answer_meaning told) result)
     → IfErr answer (λ (fault : AllocError). (result ≡ Err NoMemory) × (after ≡ before))
@@ -91,5 +91,5 @@ AnswersLine-said hook before after s new words line (Err fault) result read step
     rw (unsaid.0, unsaid.1) (AnswersLine-nothing hook before s new words)
 
 -- a line without a word has no reply
-pub AnswersLine-blank : (hook : Meaning) (o : Option (List ℕ)) (s : State) (words : List (List ℕ)) → words ≡ [] → AnswersLine hook o o s s words (Ok false)
+pub AnswersLine-blank : (hook : Hook) (o : Option (List ℕ)) (s : State) (words : List (List ℕ)) → words ≡ [] → AnswersLine hook o o s s words (Ok false)
 AnswersLine-blank hook o s words none = record { piece = []; appended = Appended-nothing o; is = ([], blank none refl refl, refl, refl) }

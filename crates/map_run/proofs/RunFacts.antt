@@ -8,7 +8,7 @@ use Rattle.map_io.specs.declared.sink.PutFault.{PutFault}
 use Rattle.map_io.specs.declared.sink.PutFault.TheVariants.{Failed, NoMemory}
 use Rattle.map_io.specs.Cause.{HasCause}
 use Rattle.machine_defs.specs.Outside.{Appended, IsFront, Rose}
-use Rattle.map_defs.specs.Values.{Meaning, Value}
+use Rattle.map_defs.specs.Values.{Hook, Value}
 use Rattle.machine_defs.specs.State.{State}
 use Rattle.machine_defs.specs.Script.{lines_of}
 use Rattle.map_defs.specs.TextWords.{words_of}
@@ -66,7 +66,7 @@ replies_end [] = inl refl
 replies_end (reply ∷ replies) = EndsLine-then (reply_text reply) (replies_text replies) (reply_ends reply) (replies_end replies)
 
 -- one more line
-pub Run-more : (hook : Meaning) (s mid new : State) (done : List (List ℕ)) (line : List ℕ) (replies here : List Reply)
+pub Run-more : (hook : Hook) (s mid new : State) (done : List (List ℕ)) (line : List ℕ) (replies here : List Reply)
     → Run hook s done replies mid → Obeys hook mid (words_of line) here new → Run hook s (done ++ line ∷ []) (replies ++ here) new
 Run-more hook s mid new [] line replies here run last =
     let at : Obeys hook s (words_of line) here new = subst (λ (t : State). Obeys hook t (words_of line) here new) run.1 last in
@@ -92,10 +92,10 @@ any-append (reply ∷ replies) here =
 text-append : (replies here : List Reply) → replies_text (replies ++ here) ≡ replies_text replies ++ replies_text here
 text-append replies here = flat_map-append reply_text replies here
 
-pub Going-start : (hook : Meaning) (s : State) (o : Option (List ℕ)) → IsGoing hook s s [] false o o
+pub Going-start : (hook : Hook) (s : State) (o : Option (List ℕ)) → IsGoing hook s s [] false o o
 Going-start hook s o = record { replies = []; run = (refl, refl); any = refl; appended = Appended-nothing o }
 
-pub Going-more : (hook : Meaning) (start mid new : State) (done : List (List ℕ)) (line : List ℕ) (refused here : Bool) (before middle after : Option (List ℕ))
+pub Going-more : (hook : Hook) (start mid new : State) (done : List (List ℕ)) (line : List ℕ) (refused here : Bool) (before middle after : Option (List ℕ))
     → IsGoing hook start mid done refused before middle → AnswersLine hook middle after mid new (words_of line) (Ok here)
     → IsGoing hook start new (done ++ line ∷ []) (refused || here) before after
 Going-more hook start mid new done line refused here before middle after going answer =
@@ -111,7 +111,7 @@ Going-more hook start mid new done line refused here before middle after going a
           (Appended-then before middle after (replies_text replies) (replies_text own) going.appended (subst (Appended middle after) answer.is.2 answer.appended));
     }
 
-begins-here : (hook : Meaning) (start mid : State) (done after : List (List ℕ)) (line : List ℕ) (lines : List (List ℕ)) (replies : List Reply) (piece : List ℕ)
+begins-here : (hook : Hook) (start mid : State) (done after : List (List ℕ)) (line : List ℕ) (lines : List (List ℕ)) (replies : List Reply) (piece : List ℕ)
     → lines ≡ done ++ line ∷ after → Run hook start done replies mid → IsFrontOfLine hook mid (words_of line) piece → Begins hook start lines (replies_text replies ++ piece)
 begins-here hook start mid done after line lines replies piece are run front = record {
   done = done ++ line ∷ [];
@@ -123,7 +123,7 @@ begins-here hook start mid done after line lines replies piece are run front = r
   begins = subst (IsFront (replies_text replies ++ piece)) (sym (text-append replies front.0)) (IsFront-then (replies_text replies) piece (replies_text front.0) front.3);
 }
 
-cut-is : (hook : Meaning) (start mid new : State) (script : List ℕ) (done after : List (List ℕ)) (line : List ℕ) (fault : PutFault) (replies : List Reply) (piece : List ℕ)
+cut-is : (hook : Hook) (start mid new : State) (script : List ℕ) (done after : List (List ℕ)) (line : List ℕ) (fault : PutFault) (replies : List Reply) (piece : List ℕ)
     → lines_of script ≡ done ++ line ∷ after → Run hook start done replies mid → IsAnswered hook mid new (words_of line) (Err fault) piece
     → IsObeyed hook start script (Err fault) (replies_text replies ++ piece)
 cut-is hook start mid new script done after line Failed replies piece are run p = begins-here hook start mid done after line (lines_of script) replies piece are run p
@@ -143,7 +143,7 @@ cut-is hook start mid new script done after line NoMemory replies piece are run 
 )
 
 -- the script is cut short at a line
-pub Going-cut : (hook : Meaning) (start mid new : State) (script : List ℕ) (done after : List (List ℕ)) (line : List ℕ) (refused : Bool) (fault : PutFault) (before middle end : Option (List ℕ))
+pub Going-cut : (hook : Hook) (start mid new : State) (script : List ℕ) (done after : List (List ℕ)) (line : List ℕ) (refused : Bool) (fault : PutFault) (before middle end : Option (List ℕ))
     → lines_of script ≡ done ++ line ∷ after → IsGoing hook start mid done refused before middle → AnswersLine hook middle end mid new (words_of line) (Err fault)
     → ObeysScript hook before end start script (Err fault)
 Going-cut hook start mid new script done after line refused fault before middle end are going answer = record {
@@ -153,7 +153,7 @@ Going-cut hook start mid new script done after line refused fault before middle 
 }
 
 -- the script is obeyed to its end
-pub Going-end : (hook : Meaning) (start new : State) (script : List ℕ) (done : List (List ℕ)) (refused : Bool) (before after : Option (List ℕ))
+pub Going-end : (hook : Hook) (start new : State) (script : List ℕ) (done : List (List ℕ)) (refused : Bool) (before after : Option (List ℕ))
     → lines_of script ≡ done ++ [] → IsGoing hook start new done refused before after → ObeysScript hook before after start script (Ok refused)
 Going-end hook start new script done refused before after are going =
     let all : lines_of script ≡ done = are ∙ append-nil done in

@@ -2,7 +2,7 @@
 use Rattle.std.proofs.Common.{◌≡◌, ℕ, ◌≤◌, List, [], length, Option, Some, None, Result, Ok, Err, refl, sym, ap, subst, inl, inr}
 use Rattle.std.proofs.lemmas.Bool.{cases_lt}
 use Rattle.map_defs.specs.Kind.{Kind}
-use Rattle.map_defs.specs.Values.{Meaning}
+use Rattle.map_defs.specs.Values.{Hook}
 use Rattle.machine_defs.specs.Outside.{Files, held}
 use Rattle.machine_defs.specs.State.{State, empty_state}
 use Rattle.machine_defs.specs.Script.{lines_of}
@@ -29,10 +29,10 @@ loaded-exists k n bytes flat none = go (mesh_of bytes) refl
     go (Err fault) read = absurd (let line = ap (refusal_line k) read in cc)
 
 -- no line is obeyed yet
-Begins-nothing : (hook : Meaning) (start : State) (ls : List (List ℕ)) → Begins hook start ls []
+Begins-nothing : (hook : Hook) (start : State) (ls : List (List ℕ)) → Begins hook start ls []
 Begins-nothing hook start ls = record { done = []; left = ls; all = refl; replies = []; new = start; run = (refl, refl); begins = IsFront-nothing [] }
 
-module _ (hook : Meaning) (words : List (List ℕ)) (files : Files) where
+module _ (hook : Hook) (words : List (List ℕ)) (files : Files) where
   -- a file, by whether it is held and how long it is
   by-file : (name : List ℕ) (read : List ℕ → List ℕ → ℕ → Type 0)
       → ((text : List ℕ) (status : ℕ) → FileAnswer (held files name) read text status → Starts hook words files [])

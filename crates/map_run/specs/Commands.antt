@@ -9,8 +9,9 @@ use Rattle.map_run.specs.declared.command.MapKind.TheVariants.{Generalized, Comb
 use Rattle.map_run.specs.declared.command.Dimension.{Dimension}
 use Rattle.map_run.specs.declared.command.Dimension.TheVariants.{Two, Three, Four}
 use Rattle.map_run.specs.declared.command.RunScript.{RunScript}
+use Rattle.map_run.specs.declared.command.SoakSquares.{SoakSquares}
 use Rattle.map_run.specs.declared.command.Command.{Command}
-use Rattle.map_run.specs.declared.command.Command.TheVariants.{Run, Audit}
+use Rattle.map_run.specs.declared.command.Command.TheVariants as command
 
 abbrev pub kind_of : MapKind → Kind
 kind_of Generalized = alpha
@@ -31,6 +32,11 @@ abbrev pub IsNumbered : Option Dimension → List ℕ → Type 0
 IsNumbered (Some dimension) word = word ≡ decimal (number dimension)
 IsNumbered None word = (n : ℕ) → 2 ≤ n → n ≤ 4 → word ≡ decimal n → ⊥
 
+-- the word writes a number that is not below and not above these; or it writes none
+abbrev pub IsBetween : ℕ → ℕ → Option ℕ → List ℕ → Type 0
+IsBetween low high (Some n) word = (low ≤ n) × (n ≤ high) × (word ≡ decimal n)
+IsBetween low high None word = (n : ℕ) → low ≤ n → n ≤ high → word ≡ decimal n → ⊥
+
 -- the name of a mesh, if there is one
 abbrev pub mesh_name : Option (Bor (List ℕ)) → Option (List ℕ)
 mesh_name None = None
@@ -43,6 +49,10 @@ IsMeshNamed mesh word = (told.mesh_word (mesh_name mesh) ≡ word) × (mesh_name
 abbrev pub run_of : RunScript → told.Command
 run_of command = told.RunScript (kind_of command.kind) (number command.dimension) (mesh_name command.mesh) command.script.now
 
+abbrev pub soak_of : SoakSquares → told.Command
+soak_of soak = told.Soak (kind_of soak.kind) soak.seed soak.count
+
 abbrev pub command_of : Command → told.Command
-command_of (Run command) = run_of command
-command_of (Audit listing) = told.Audit listing.now
+command_of (command.Run run) = run_of run
+command_of (command.Audit listing) = told.Audit listing.now
+command_of (command.Soak soak) = soak_of soak

@@ -7,7 +7,7 @@ use Rattle.map_io.specs.declared.sink.PutFault.{PutFault}
 use Rattle.map_io.specs.declared.sink.PutFault.TheVariants as put
 use Rattle.map_io.specs.Fetched.{IsFetched}
 use Rattle.map_defs.specs.Kind.{Kind}
-use Rattle.map_defs.specs.Values.{Meaning}
+use Rattle.map_defs.specs.Values.{Hook}
 use Rattle.machine_defs.specs.State.{State, empty_state}
 use Rattle.map_defs.specs.Off.{mesh_of}
 use Rattle.machine_defs.specs.Loading.{IsLoaded, refusal_line}
@@ -51,7 +51,7 @@ IsMeshOf files (Some name) (Some bytes) = IsFile files name bytes
 
 -- A file that a command needs was not fetched: one that is too long decides what the command answers.
 abbrev pub IsUnfetched : Files → Command → FetchFault → Type 0
-IsUnfetched files command (fetch.TooLong seen) = (hook : Meaning) → CommandAnswer hook files command too_long 4
+IsUnfetched files command (fetch.TooLong seen) = (hook : Hook) → CommandAnswer hook files command too_long 4
 IsUnfetched files command fetch.Failed = Unit {0}
 IsUnfetched files command fetch.NoMemory = Unit {0}
 
@@ -67,14 +67,14 @@ IsFirst k n (Some bytes) start = IsLoaded k n bytes start
 
 -- How the program ends with this text and status, once its files are fetched: the mesh is refused, there is no memory for its
 -- map, or the script was obeyed, as far as it went.
-pub data TextsEnd (hook : Meaning) (k : Kind) (n : ℕ) (mesh : Option (List ℕ)) (script : List ℕ) (rose : Type 0) (status : ℕ) (piece : List ℕ) : Type 0 where
+pub data TextsEnd (hook : Hook) (k : Kind) (n : ℕ) (mesh : Option (List ℕ)) (script : List ℕ) (rose : Type 0) (status : ℕ) (piece : List ℕ) : Type 0 where
   refused : (bytes line : List ℕ) → mesh ≡ Some bytes → refusal_line k (mesh_of bytes) ≡ Some line → IsLast rose line 3 status piece
       → TextsEnd hook k n mesh script rose status piece
   starved : status ≡ 7 → piece ≡ [] → TextsEnd hook k n mesh script rose status piece
   obeyed : (start : State) (result : Result Bool PutFault) → IsFirst k n mesh start → status ≡ status_of result → IsObeyed hook start script result piece
       → (result ≡ Err put.Failed → rose) → TextsEnd hook k n mesh script rose status piece
 
-pub record EndsTexts (hook : Meaning) (k : Kind) (n : ℕ) (mesh : Option (List ℕ)) (script : List ℕ) (rose : Type 0) (before after : Option (List ℕ)) (status : ℕ) : Type 0 where
+pub record EndsTexts (hook : Hook) (k : Kind) (n : ℕ) (mesh : Option (List ℕ)) (script : List ℕ) (rose : Type 0) (before after : Option (List ℕ)) (status : ℕ) : Type 0 where
   pub piece : List ℕ
   pub appended : Appended before after piece
   pub end : TextsEnd hook k n mesh script rose status piece

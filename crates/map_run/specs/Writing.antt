@@ -4,23 +4,23 @@ use Rattle.map_io.specs.declared.sink.PutFault.{PutFault}
 use Rattle.map_io.specs.declared.sink.PutFault.TheVariants.{Failed, NoMemory}
 use Rattle.machine_defs.specs.Outside.{Appended, IsFront}
 use Rattle.machine_defs.specs.Program.{EndsLine}
-use Rattle.map_defs.specs.Values.{Meaning}
+use Rattle.map_defs.specs.Values.{Hook}
 use Rattle.machine_defs.specs.State.{State}
 use Rattle.machine_defs.specs.Text.{Reply, reply_text, replies_text, is_refused, any_refused}
 use Rattle.machine_defs.specs.Machine.{Obeys}
 
 -- a front of what a line answers
-abbrev pub IsFrontOfLine : Meaning → State → List (List ℕ) → List ℕ → Type 0
+abbrev pub IsFrontOfLine : Hook → State → List (List ℕ) → List ℕ → Type 0
 IsFrontOfLine hook s words piece = (replies : List Reply) × (new : State) × Obeys hook s words replies new × IsFront piece (replies_text replies)
 
 -- The answer to one line: whether it was refused. Want of memory may come before the reply is known.
-abbrev pub IsAnswered : Meaning → State → State → List (List ℕ) → Result Bool PutFault → List ℕ → Type 0
+abbrev pub IsAnswered : Hook → State → State → List (List ℕ) → Result Bool PutFault → List ℕ → Type 0
 IsAnswered hook s new words (Ok refused) piece =
     (replies : List Reply) × Obeys hook s words replies new × (piece ≡ replies_text replies) × (refused ≡ any_refused replies)
 IsAnswered hook s new words (Err Failed) piece = IsFrontOfLine hook s words piece
 IsAnswered hook s new words (Err NoMemory) piece = EndsLine piece × ((piece ≡ []) ⊎ IsFrontOfLine hook s words piece)
 
-pub record AnswersLine (hook : Meaning) (before after : Option (List ℕ)) (s new : State) (words : List (List ℕ)) (result : Result Bool PutFault) : Type 0 where
+pub record AnswersLine (hook : Hook) (before after : Option (List ℕ)) (s new : State) (words : List (List ℕ)) (result : Result Bool PutFault) : Type 0 where
   pub piece : List ℕ
   pub appended : Appended before after piece
   pub is : IsAnswered hook s new words result piece

@@ -1,6 +1,6 @@
 //! What the map answers, as the program says it.
 ghost use Rattle.std.specs.Prelude.{◌≡◌, IfOk, IsErrOf};
-ghost use Rattle.map_defs.specs.Values.{Meaning};
+ghost use Rattle.map_defs.specs.Values.{Hook};
 ghost use Rattle.machine_defs.specs.State.{State};
 ghost use Rattle.machine_defs.specs.Script.{Line as MapLine};
 ghost use Rattle.machine_defs.specs.Machine.{Step};
@@ -61,7 +61,7 @@ impl<'a> Answer<'a> {
 
 /// What is said of a changing line.
 pub fn done<'a>(done: Result<Done, Refused>) -> Result<Answer<'a>, AllocError>
-    ensures { (hook : Meaning) (s : State) (new : State) (line : MapLine) → Does hook s line done new → IfOk result (λ answer. Step hook s line (answer_meaning answer) new) }
+    ensures { (hook : Hook) (s : State) (new : State) (line : MapLine) → Does hook s line done new → IfOk result (λ answer. Step hook s line (answer_meaning answer) new) }
 {
     match done {
         Ok(done) => Ok(Answer::Line(Reply::Done(done))),
@@ -72,7 +72,7 @@ pub fn done<'a>(done: Result<Done, Refused>) -> Result<Answer<'a>, AllocError>
 
 /// What is said of a question of yes or no.
 pub fn truth<'a>(answer: Result<bool, Refused>) -> Result<Answer<'a>, AllocError>
-    ensures { (hook : Meaning) (s : State) (line : MapLine) → AnswersQuestion hook s line Truth answer → IfOk result (λ said. Step hook s line (answer_meaning said) s) }
+    ensures { (hook : Hook) (s : State) (line : MapLine) → AnswersQuestion hook s line Truth answer → IfOk result (λ said. Step hook s line (answer_meaning said) s) }
 {
     match answer {
         Ok(answer) => Ok(Answer::Line(Reply::Truth(answer))),
@@ -83,7 +83,7 @@ pub fn truth<'a>(answer: Result<bool, Refused>) -> Result<Answer<'a>, AllocError
 
 /// What is said of a question of yes or no that takes no memory.
 pub fn told<'a>(answer: Result<bool, Refusal>) -> Result<Answer<'a>, AllocError>
-    ensures { (hook : Meaning) (s : State) (line : MapLine) → AnswersAtOnce hook s line Truth answer → IfOk result (λ said. Step hook s line (answer_meaning said) s) }
+    ensures { (hook : Hook) (s : State) (line : MapLine) → AnswersAtOnce hook s line Truth answer → IfOk result (λ said. Step hook s line (answer_meaning said) s) }
 {
     match answer {
         Ok(answer) => Ok(Answer::Line(Reply::Truth(answer))),
@@ -93,7 +93,7 @@ pub fn told<'a>(answer: Result<bool, Refusal>) -> Result<Answer<'a>, AllocError>
 
 /// What is said of the value of a cell.
 pub fn cell_value<'a>(value: Result<Option<Value>, Refusal>) -> Result<Answer<'a>, AllocError>
-    ensures { (hook : Meaning) (s : State) (line : MapLine) → AnswersAtOnce hook s line CellValue value → IfOk result (λ said. Step hook s line (answer_meaning said) s) }
+    ensures { (hook : Hook) (s : State) (line : MapLine) → AnswersAtOnce hook s line CellValue value → IfOk result (λ said. Step hook s line (answer_meaning said) s) }
 {
     match value {
         Ok(value) => Ok(Answer::Line(Reply::Value(value))),
@@ -103,7 +103,7 @@ pub fn cell_value<'a>(value: Result<Option<Value>, Refusal>) -> Result<Answer<'a
 
 /// What is said of the darts of a cell.
 pub fn darts<'a>(darts: Result<Vec<Dart>, Refused>) -> Result<Answer<'a>, AllocError>
-    ensures { (hook : Meaning) (s : State) (line : MapLine) → AnswersQuestion hook s line (λ found. Darts found.items) darts → IfOk result (λ said. Step hook s line (answer_meaning said) s) }
+    ensures { (hook : Hook) (s : State) (line : MapLine) → AnswersQuestion hook s line (λ found. Darts found.items) darts → IfOk result (λ said. Step hook s line (answer_meaning said) s) }
 {
     match darts {
         Ok(darts) => Ok(Answer::Line(Reply::Cell(darts))),
@@ -114,14 +114,14 @@ pub fn darts<'a>(darts: Result<Vec<Dart>, Refused>) -> Result<Answer<'a>, AllocE
 
 /// What is said of the counts of a map.
 pub fn counts<'a>(counts: Result<Vec<u64>, AllocError>) -> Result<Answer<'a>, AllocError>
-    ensures { (hook : Meaning) (s : State) (line : MapLine) → IfOk counts (λ found. Step hook s line (Counts found.items) s) → IfOk result (λ said. Step hook s line (answer_meaning said) s) }
+    ensures { (hook : Hook) (s : State) (line : MapLine) → IfOk counts (λ found. Step hook s line (Counts found.items) s) → IfOk result (λ said. Step hook s line (answer_meaning said) s) }
 {
     Ok(Answer::Line(Reply::Count(counts?)))
 }
 
 /// What is said of the OFF text of a map.
 pub fn meshed<'a>(rows: Result<OffRows, Refused>) -> Result<Answer<'a>, AllocError>
-    ensures { (hook : Meaning) (s : State) (line : MapLine) → AnswersQuestion hook s line (λ off. Meshed (off_view off)) rows → IfOk result (λ said. Step hook s line (answer_meaning said) s) }
+    ensures { (hook : Hook) (s : State) (line : MapLine) → AnswersQuestion hook s line (λ off. Meshed (off_view off)) rows → IfOk result (λ said. Step hook s line (answer_meaning said) s) }
 {
     match rows {
         Ok(rows) => Ok(Answer::Off(rows)),
@@ -132,7 +132,7 @@ pub fn meshed<'a>(rows: Result<OffRows, Refused>) -> Result<Answer<'a>, AllocErr
 
 /// What is said of a log: the steps, as the map lends them.
 pub fn logged(steps: Result<&[Changed], Refusal>) -> Result<Answer<'_>, AllocError>
-    ensures { (hook : Meaning) (s : State) (line : MapLine) → AnswersAtOnce hook s line (λ found. Logged found.now) steps.entry → IfOk result (λ said. Step hook s line (answer_meaning said) s) }
+    ensures { (hook : Hook) (s : State) (line : MapLine) → AnswersAtOnce hook s line (λ found. Logged found.now) steps.entry → IfOk result (λ said. Step hook s line (answer_meaning said) s) }
 {
     match steps {
         Ok(steps) => Ok(Answer::Log(steps)),

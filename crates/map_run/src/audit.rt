@@ -1,15 +1,16 @@
 //! The audit of a listing: it is read and written again, with the counts of its map.
 ghost use Rattle.std.specs.Prelude.{◌≡◌, ◌≢◌, ◌≤◌, ℕ, List, Some, Result, length, IfOk, IsErrOf};
+ghost use Rattle.machine_defs.specs.Auditing.{AuditAnswer};
 ghost use Rattle.machine_defs.specs.Outside.{Files, Rose};
 ghost use Rattle.machine_defs.specs.Program.{TellsCommand, Audit};
 ghost use Rattle.machine_defs.specs.Text.{replies_text};
-ghost use Rattle.map_defs.specs.Values.{Meaning};
+ghost use Rattle.map_defs.specs.Values.{Hook};
 ghost use Rattle.map_io.specs.Cause.{HasCause};
 ghost use Rattle.text_lines.specs.Writing.{WritesText};
-ghost use Rattle.map_run.specs.Ending.{EndsCall};
-ghost use Rattle.map_run.specs.Audits.{line_of, shows, IsCounted, status_of, EndsAudit};
+ghost use Rattle.map_run.specs.Ending.{EndsCall, EndsAnswer};
+ghost use Rattle.map_run.specs.Audits.{line_of, shows, IsCounted};
 
-use crate::last::{write_last, write_unfetched};
+use crate::last::{put_status, write_last, write_unfetched};
 use list_text::{
     LISTING_MAX, ListFault, ListWhat, Listing, listing_counts, put_listing, read_listing,
 };
@@ -22,7 +23,7 @@ use text_lines::{append_spaced, put_line};
 /// what its first fault is. Answers the status.
 pub fn audit<F: Shelf, S: Sink>(alloc: Global, name: &str, shelf: &mut F, out: &mut S) -> u8
     requires asked { F.may_ask shelf.old name.now }
-    ensures outcome { (hook : Meaning) (words : List (List ℕ)) (files : Files) → TellsCommand words (Audit name.now)
+    ensures outcome { (hook : Hook) (words : List (List ℕ)) (files : Files) → TellsCommand words (Audit name.now)
         → F.holds shelf.old ≡ Some files →
         EndsCall hook (S.written out.old) (S.written out.new) words files
         (Rose (F.faults shelf.old) (F.faults shelf.new)) (Rose (S.faults out.old) (S.faults out.new)) result }
@@ -41,7 +42,7 @@ pub fn audit<F: Shelf, S: Sink>(alloc: Global, name: &str, shelf: &mut F, out: &
 /// The audit of the bytes of a listing.
 fn audit_bytes<S: Sink>(alloc: Global, bytes: &[u8], out: &mut S) -> u8
     requires { length bytes.now ≤ LISTING_MAX }
-    ensures ends { EndsAudit bytes.now (Rose (S.faults out.old) (S.faults out.new)) (S.written out.old) (S.written out.new) result }
+    ensures ends { EndsAnswer (AuditAnswer bytes.now) (Rose (S.faults out.old) (S.faults out.new)) (S.written out.old) (S.written out.new) result }
     ensures unwritten { result ≡ 6 → Rose (S.faults out.old) (S.faults out.new) }
     ensures later { S.faults out.old ≤ S.faults out.new }
     ensures command { result ≢ 2 }
@@ -49,7 +50,7 @@ fn audit_bytes<S: Sink>(alloc: Global, bytes: &[u8], out: &mut S) -> u8
     ensures range { result ≤ 7 }
 {
     match read_counted(alloc, bytes) {
-        Ok((listing, counts)) => put_status(put_audit(alloc, &listing, counts, out)),
+        Ok((listing, counts)) => put_status(put_audit(alloc, &listing, counts, out), 0),
         Err(fault) => refuse_listing(alloc, out, fault),
     }
 }
@@ -78,21 +79,10 @@ fn put_audit<S: Sink>(
     put_line(alloc, out, &Reply::Count(counts))
 }
 
-/// The status of an audit whose text was written, or cut short.
-fn put_status(put: Result<(), PutFault>) -> u8
-    ensures { result ≡ status_of put }
-{
-    match put {
-        Ok(()) => 0,
-        Err(PutFault::Failed) => 6,
-        Err(PutFault::NoMemory) => 7,
-    }
-}
-
 /// Writes the line that says what the first fault of a listing is, and answers the status.
 fn refuse_listing<S: Sink>(alloc: Global, out: &mut S, fault: ListFault) -> u8
     ensures ends { (bytes : List ℕ) → IsCounted bytes (Result.Err fault) →
-        EndsAudit bytes (Rose (S.faults out.old) (S.faults out.new)) (S.written out.old) (S.written out.new) result }
+        EndsAnswer (AuditAnswer bytes) (Rose (S.faults out.old) (S.faults out.new)) (S.written out.old) (S.written out.new) result }
     ensures unwritten { result ≡ 6 → Rose (S.faults out.old) (S.faults out.new) }
     ensures later { S.faults out.old ≤ S.faults out.new }
     ensures range { (3 ≤ result) × (result ≤ 7) }

@@ -1,7 +1,10 @@
 //! The words with which the program is called.
 ghost use Rattle.std.specs.Prelude.{map, IsNone, IfSome, string_bytes, ◌↔◌, [], ◌∷◌};
 ghost use Rattle.machine_defs.specs.Program.{TellsCommand, IsNoCommand};
-ghost use Rattle.map_run.specs.Commands.{IsLettered, IsNumbered, IsMeshNamed, run_of, command_of};
+ghost use Rattle.map_run.specs.Commands.{IsLettered, IsNumbered, IsBetween, IsMeshNamed, command_of};
+
+use map_soak::SQUARES_MAX;
+use text_words::read_numeral;
 
 /// The kinds of map that the program offers.
 #[derive(Clone, Copy, Debug, PartialEq, Eq)]
@@ -25,6 +28,8 @@ pub enum Command<'a> {
     Run(RunScript<'a>),
     /// `audit FILE`: read the listing of this name, and write it again with the counts of its map.
     Audit(&'a str),
+    /// `soak KIND SEED COUNT`.
+    Soak(SoakSquares),
 }
 
 /// The command `run KIND DIM MESH SCRIPT`: run a script over a map of a kind and a dimension.
@@ -38,25 +43,41 @@ pub struct RunScript<'a> {
     pub script: &'a str,
 }
 
+/// The command `soak KIND SEED COUNT`: obey the lines for so many squares that are drawn from a number, and write a summary.
+#[derive(Clone, Copy, Debug, PartialEq, Eq)]
+pub struct SoakSquares {
+    pub kind: MapKind,
+    /// The number that the first one is made from.
+    pub seed: u32,
+    /// How many squares are made.
+    pub count: u32,
+}
+
+/// The greatest number that a soak is drawn from.
+const SEED_MAX: u32 = 2_147_483_647;
+
 /// The command that the words tell; none exactly where they tell none.
 pub fn read_command(words: &[String]) -> Option<Command<'_>>
     ensures none { IsNone result ↔ IsNoCommand (map string_bytes words.now) }
     ensures told { IfSome result (λ command. TellsCommand (map string_bytes words.now) (command_of command)) }
 {
-    if let [audit, listing] = words {
-        return read_audit(audit.as_str(), listing.as_str());
+    match words {
+        [audit, listing] => read_audit(audit.as_str(), listing.as_str()),
+        [soak, kind, seed, count] => read_soak(
+            soak.as_str(),
+            kind.as_str(),
+            seed.as_str(),
+            count.as_str(),
+        ),
+        [run, kind, dimension, mesh, script] => read_run(
+            run.as_str(),
+            kind.as_str(),
+            dimension.as_str(),
+            mesh.as_str(),
+            script.as_str(),
+        ),
+        _ => None,
     }
-    let [run, kind, dimension, mesh, script] = words else {
-        return None;
-    };
-    let command = read_run(
-        run.as_str(),
-        kind.as_str(),
-        dimension.as_str(),
-        mesh.as_str(),
-        script.as_str(),
-    )?;
-    Some(Command::Run(command))
 }
 
 /// The command of two words, of which the first names it.
@@ -71,6 +92,20 @@ fn read_audit<'a>(audit: &str, listing: &'a str) -> Option<Command<'a>>
     }
 }
 
+/// The command of four words, of which the first names it.
+fn read_soak<'a>(soak: &str, kind: &str, seed: &str, count: &str) -> Option<Command<'a>>
+    ensures none { IsNone result ↔ IsNoCommand (soak.now ∷ kind.now ∷ seed.now ∷ count.now ∷ []) }
+    ensures told { IfSome result (λ command. TellsCommand (soak.now ∷ kind.now ∷ seed.now ∷ count.now ∷ []) (command_of command)) }
+{
+    if soak != "soak" {
+        return None;
+    }
+    let kind = read_kind(kind)?;
+    let seed = read_number(seed, 0, SEED_MAX)?;
+    let count = read_number(count, 1, SQUARES_MAX)?;
+    Some(Command::Soak(SoakSquares { kind, seed, count }))
+}
+
 /// The command of five words, of which the first names it.
 fn read_run<'a>(
     run: &str,
@@ -78,21 +113,21 @@ fn read_run<'a>(
     dimension: &str,
     mesh: &'a str,
     script: &'a str,
-) -> Option<RunScript<'a>>
+) -> Option<Command<'a>>
     ensures none { IsNone result ↔ IsNoCommand (run.now ∷ kind.now ∷ dimension.now ∷ mesh.now ∷ script.now ∷ []) }
-    ensures told { IfSome result (λ command. TellsCommand (run.now ∷ kind.now ∷ dimension.now ∷ mesh.now ∷ script.now ∷ []) (run_of command)) }
+    ensures told { IfSome result (λ command. TellsCommand (run.now ∷ kind.now ∷ dimension.now ∷ mesh.now ∷ script.now ∷ []) (command_of command)) }
 {
     if run != "run" {
         return None;
     }
     let kind = read_kind(kind)?;
     let dimension = read_dimension(dimension)?;
-    Some(RunScript {
+    Some(Command::Run(RunScript {
         kind,
         dimension,
         mesh: read_mesh(mesh),
         script,
-    })
+    }))
 }
 
 fn read_kind(word: &str) -> Option<MapKind>
@@ -123,6 +158,18 @@ fn read_dimension(word: &str) -> Option<Dimension>
         Some(Dimension::Three)
     } else if word == "4" {
         Some(Dimension::Four)
+    } else {
+        None
+    }
+}
+
+/// The number that a word writes, if it is not below `low` and not above `high`.
+fn read_number(word: &str, low: u32, high: u32) -> Option<u32>
+    ensures { IsBetween low high result word.now }
+{
+    let number = read_numeral(word.as_bytes())?;
+    if u64::from(low) <= number && number <= u64::from(high) {
+        Some(number as u32)
     } else {
         None
     }

@@ -1,8 +1,8 @@
-//! The line that ends the program.
+//! The line that ends the program, and the status of what was written.
 ghost use Rattle.std.specs.Prelude.{◌≡◌, ◌⊎◌, ◌≤◌, ℕ, option_map};
 ghost use Rattle.machine_defs.specs.Outside.{Rose};
 ghost use Rattle.machine_defs.specs.Program.{cannot_read, too_long};
-ghost use Rattle.map_run.specs.Ending.{WritesLast, last_of};
+ghost use Rattle.map_run.specs.Ending.{WritesLast, last_of, put_status};
 
 use map_io::{FetchFault, PutFault, Sink};
 
@@ -14,6 +14,17 @@ pub fn write_last<S: Sink>(out: &mut S, line: &[u8], status: u8) -> u8
     ensures later { S.faults out.old ≤ S.faults out.new }
 {
     match out.put(line) {
+        Ok(()) => status,
+        Err(PutFault::Failed) => 6,
+        Err(PutFault::NoMemory) => 7,
+    }
+}
+
+/// The status of an answer that was written, or cut short.
+pub fn put_status(put: Result<(), PutFault>, status: u8) -> u8
+    ensures { result ≡ put_status status put }
+{
+    match put {
         Ok(()) => status,
         Err(PutFault::Failed) => 6,
         Err(PutFault::NoMemory) => 7,

@@ -1,4 +1,5 @@
-//! The program: it runs a script over a map and writes the replies of the plain map machine, or audits a listing.
+//! The program: it runs a script over a map and writes the replies of the plain map machine, audits a listing, or obeys lines that
+//! a generator makes.
 #![tactic(auto)]
 
 mod answer;
@@ -11,5 +12,6 @@ mod mesh;
 mod obey;
 mod program;
 mod script;
+mod soak;
 
 pub use program::run;

@@ -25,7 +25,7 @@ pub fn obey_line<K: Edits<DIM>, H: Hook, const DIM: usize, S: Sink>(
     out: &mut S,
 ) -> Result<bool, PutFault>
     requires { H.ready map.old.hook }
-    ensures answered { AnswersLine (H.meaning map.old.hook) (S.written out.old) (S.written out.new) map.old.state map.new.state (words_of line.now) result }
+    ensures answered { AnswersLine (H.hook map.old.hook) (S.written out.old) (S.written out.new) map.old.state map.new.state (words_of line.now) result }
     ensures hook { map.new.hook ≡ map.old.hook }
     ensures cause { HasCause (S.faults out.old) (S.faults out.new) (IsErrOf result PutFault.Failed) }
 {
@@ -67,7 +67,7 @@ fn change<K: Edits<DIM>, H: Hook, const DIM: usize>(
     requires ready { H.ready map.old.hook }
     requires told { IsTold line.now }
     ensures hook { map.new.hook ≡ map.old.hook }
-    ensures does { Does (H.meaning map.old.hook) map.old.state (change_meaning line.now) result map.new.state }
+    ensures does { Does (H.hook map.old.hook) map.old.state (change_meaning line.now) result map.new.state }
 {
     match line {
         Change::Polygon(sides) => map.polygon(alloc, *sides),
@@ -95,7 +95,7 @@ fn ask<'a, K: Edits<DIM>, H: Hook, const DIM: usize>(
     line: &Question,
     map: &'a Map<'_, K, H, DIM>,
 ) -> Result<Answer<'a>, AllocError>
-    ensures { IfOk result (λ answer. Step (H.meaning map.now.hook) map.now.state (question_meaning line.now) (answer_meaning answer) map.now.state) }
+    ensures { IfOk result (λ answer. Step (H.hook map.now.hook) map.now.state (question_meaning line.now) (answer_meaning answer) map.now.state) }
 {
     match line {
         Question::Log(name) => logged(map.log(name.as_str())),

@@ -30,7 +30,7 @@ pub fn obey_in_kind<S: Sink, H: Hook>(
 ) -> u8
     requires ready { H.ready hook.now }
     requires short { AreShort texts.now }
-    ensures ends { EndsTexts (H.meaning hook.now) (kind_of kind) (number dimension) (mesh_bytes texts.now.mesh) texts.now.script.items
+    ensures ends { EndsTexts (H.hook hook.now) (kind_of kind) (number dimension) (mesh_bytes texts.now.mesh) texts.now.script.items
         (Rose (S.faults out.old) (S.faults out.new)) (S.written out.old) (S.written out.new) result }
     ensures unwritten { result ≡ 6 → Rose (S.faults out.old) (S.faults out.new) }
     ensures later { S.faults out.old ≤ S.faults out.new }
@@ -55,7 +55,7 @@ fn obey_in_dimension<K: Edits<2> + Edits<3> + Edits<4>, S: Sink, H: Hook>(
 ) -> u8
     requires ready { H.ready hook.now }
     requires short { AreShort texts.now }
-    ensures ends { EndsTexts (H.meaning hook.now) K.kind (number dimension) (mesh_bytes texts.now.mesh) texts.now.script.items
+    ensures ends { EndsTexts (H.hook hook.now) K.kind (number dimension) (mesh_bytes texts.now.mesh) texts.now.script.items
         (Rose (S.faults out.old) (S.faults out.new)) (S.written out.old) (S.written out.new) result }
     ensures unwritten { result ≡ 6 → Rose (S.faults out.old) (S.faults out.new) }
     ensures later { S.faults out.old ≤ S.faults out.new }
@@ -78,7 +78,7 @@ fn obey_texts<K: Edits<DIM>, H: Hook, const DIM: usize, S: Sink>(
     requires low { 2 ≤ DIM }
     requires high { DIM ≤ 8 }
     requires short { AreShort texts.now }
-    ensures ends { EndsTexts (H.meaning hook.now) K.kind DIM (mesh_bytes texts.now.mesh) texts.now.script.items
+    ensures ends { EndsTexts (H.hook hook.now) K.kind DIM (mesh_bytes texts.now.mesh) texts.now.script.items
         (Rose (S.faults out.old) (S.faults out.new)) (S.written out.old) (S.written out.new) result }
     ensures unwritten { result ≡ 6 → Rose (S.faults out.old) (S.faults out.new) }
     ensures later { S.faults out.old ≤ S.faults out.new }
@@ -120,7 +120,7 @@ fn obey_script<K: Edits<DIM>, H: Hook, const DIM: usize, S: Sink>(
     out: &mut S,
 ) -> Result<bool, PutFault>
     requires { H.ready map.hook }
-    ensures obeyed { ObeysScript (H.meaning map.entry.hook) (S.written out.old) (S.written out.new) map.entry.state script.now result }
+    ensures obeyed { ObeysScript (H.hook map.entry.hook) (S.written out.old) (S.written out.new) map.entry.state script.now result }
     ensures cause { HasCause (S.faults out.old) (S.faults out.new) (IsErrOf result PutFault.Failed) }
 {
     let mut map = map;

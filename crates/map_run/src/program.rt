@@ -10,6 +10,7 @@ use crate::command::{Command, RunScript, read_command};
 use crate::files::fetch_texts;
 use crate::last::{write_last, write_unfetched};
 use crate::obey::obey_in_kind;
+use crate::soak::soak;
 use attr_rules::Hook;
 use map_io::{Shelf, Sink};
 use std::alloc::Global;
@@ -27,7 +28,7 @@ fn run_script<F: Shelf, S: Sink, H: Hook>(
     requires asked { (name : List ℕ) → IsNeededBy (run_of command) name → F.may_ask shelf.old name }
     ensures outcome { (words : List (List ℕ)) (files : Files) → TellsCommand words (run_of command.entry)
         → F.holds shelf.old ≡ Some files →
-        EndsCall (H.meaning hook.now) (S.written out.old) (S.written out.new) words files
+        EndsCall (H.hook hook.now) (S.written out.old) (S.written out.new) words files
         (Rose (F.faults shelf.old) (F.faults shelf.new)) (Rose (S.faults out.old) (S.faults out.new)) result }
     ensures command { result ≢ 2 }
     ensures range { result ≤ 7 }
@@ -59,7 +60,7 @@ fn answer<F: Shelf, S: Sink, H: Hook>(
     requires ready { H.ready hook.now }
     requires asked { (name : List ℕ) → NeedsFile (map string_bytes words.now) name → F.may_ask shelf.old name }
     ensures outcome { (files : Files) → Known (map string_bytes words.now) (F.holds shelf.old) files →
-        EndsCall (H.meaning hook.now) (S.written out.old) (S.written out.new) (map string_bytes words.now) files
+        EndsCall (H.hook hook.now) (S.written out.old) (S.written out.new) (map string_bytes words.now) files
         (Rose (F.faults shelf.old) (F.faults shelf.new)) (Rose (S.faults out.old) (S.faults out.new)) result }
     ensures usage { result ≡ 2 → IsNoCommand (map string_bytes words.now) }
     ensures range { result ≤ 7 }
@@ -70,6 +71,7 @@ fn answer<F: Shelf, S: Sink, H: Hook>(
     match read_command(words) {
         Some(Command::Run(command)) => run_script(alloc, command, shelf, out, hook),
         Some(Command::Audit(name)) => audit(alloc, name, shelf, out),
+        Some(Command::Soak(command)) => soak(alloc, command, out, hook),
         None => write_last(out, b"usage\n", 2),
     }
 }
@@ -85,7 +87,7 @@ fn serve<F: Shelf, S: Sink, H: Hook>(
     requires ready { H.ready hook.now }
     requires asked { (name : List ℕ) → NeedsFile (map string_bytes words.now) name → F.may_ask shelf.old name }
     ensures outcome { (files : Files) → Known (map string_bytes words.now) (F.holds shelf.old) files →
-        EndsCall (H.meaning hook.now) (S.written out.old) (S.written out.new) (map string_bytes words.now) files
+        EndsCall (H.hook hook.now) (S.written out.old) (S.written out.new) (map string_bytes words.now) files
         (Rose (F.faults shelf.old) (F.faults shelf.new)) (Rose (S.faults out.old) (S.faults out.new)) result }
     ensures usage { result ≡ 2 → IsNoCommand (map string_bytes words.now) }
     ensures range { result ≤ 7 }
@@ -107,12 +109,15 @@ fn serve<F: Shelf, S: Sink, H: Hook>(
 /// The words are `run KIND DIM MESH SCRIPT`, where KIND is `g` for a generalized map or `c` for a combinatorial map, DIM is
 /// 2, 3 or 4, MESH is the name of a mesh in OFF text, or `-` for the empty map, and SCRIPT is the name of a script, which is
 /// obeyed from that map. Both files are fetched, the mesh first, before the mesh is read. Or the words are `audit FILE`: the
-/// listing in FILE is read, and written again with the counts of its map. Other words are answered by `usage`.
+/// listing in FILE is read, and written again with the counts of its map. Or the words are `soak KIND SEED COUNT`, where SEED is
+/// a number below 2^31 and COUNT one from 1 to 100,000: COUNT squares are made, sewn to each other, valued and changed by lines
+/// that a generator draws from SEED, and their summary is written, with the counts of the map; no file is needed. Other words
+/// are answered by `usage`.
 ///
 /// | status | when | text |
 /// |---|---|---|
-/// | 0 | every line was accepted, or the listing was read | the replies, or the listing and its counts |
-/// | 1 | some line was refused | the replies |
+/// | 0 | every line was accepted, or the listing was read | the replies, the listing and its counts, or the summary and the counts |
+/// | 1 | some line was refused | the replies, or the summary and the counts |
 /// | 2 | the words are no command | `usage` |
 /// | 3 | the mesh or the listing is refused | `off line N WHAT`, `off face N WHAT` or `off Full`; `listing line N WHAT` |
 /// | 4 | a file has more than 16,777,216 bytes | `too long` |
@@ -134,11 +139,11 @@ pub fn run<F: Shelf, S: Sink, H: Hook>(
     requires ready { H.ready hook.now }
     requires asked { (name : List ℕ) → NeedsFile (map string_bytes words.now) name → F.may_ask shelf.old name }
     ensures outcome { (files : Files) → Known (map string_bytes words.now) (F.holds shelf.old) files →
-        EndsCall (H.meaning hook.now) (S.written out.old) (S.written out.new) (map string_bytes words.now) files
+        EndsCall (H.hook hook.now) (S.written out.old) (S.written out.new) (map string_bytes words.now) files
         (Rose (F.faults shelf.old) (F.faults shelf.new)) (Rose (S.faults out.old) (S.faults out.new)) result }
     ensures complete { (files : Files) → Known (map string_bytes words.now) (F.holds shelf.old) files →
         ¬ (Rose (F.faults shelf.old) (F.faults shelf.new)) → ¬ (Rose (S.faults out.old) (S.faults out.new)) →
-        (result ≡ 7) ⊎ EndsWhole (H.meaning hook.now) (S.written out.old) (S.written out.new) (map string_bytes words.now) files result }
+        (result ≡ 7) ⊎ EndsWhole (H.hook hook.now) (S.written out.old) (S.written out.new) (map string_bytes words.now) files result }
     ensures usage { result ≡ 2 → IsNoCommand (map string_bytes words.now) }
     ensures range { result ≤ 7 }
     ensures unread { result ≡ 5 → Rose (F.faults shelf.old) (F.faults shelf.new) }

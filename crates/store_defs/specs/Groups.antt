@@ -5,7 +5,7 @@ use Rattle.map_defs.specs.Kind.{Kind}
 use Rattle.map_defs.specs.Links.{Links}
 use Rattle.map_defs.specs.Cells.{InCell}
 use Rattle.map_defs.specs.Touched.{IsAlike}
-use Rattle.map_defs.specs.Values.{Value, Rule, Meaning, meaning_of}
+use Rattle.map_defs.specs.Values.{Value, Rule, Hook, meaning_of}
 use Rattle.map_defs.specs.Carry.{IsCarried, known}
 use Rattle.store_defs.specs.Stores.{Store, value_of}
 
@@ -61,7 +61,7 @@ pub record AreTouchedCells (k : Kind) (L : Links) (rules : List (Option Rule)) (
 
 -- The group has the value that is carried to its cell: the old valued cells are the sets of live darts with one label, and
 -- labels are by dimension and dart.
-abbrev pub HasCarriedValue : Kind → Links → (ℕ → Type 0) → (ℕ → ℕ → Option ℕ) → Store → Meaning → List (Option Rule) → Group → Type 0
+abbrev pub HasCarriedValue : Kind → Links → (ℕ → Type 0) → (ℕ → ℕ → Option ℕ) → Store → Hook → List (Option Rule) → Group → Type 0
 HasCarriedValue k L Live label pool hook rules g =
     (rule : Rule) (d : ℕ) → rule_at rules g.dim ≡ Some rule → Contains g.darts d
     → IsCarried (meaning_of hook rule) (known_value pool (label g.dim)) Live (IsAlike (label g.dim)) (InCell k L g.dim) d g.value

@@ -6,7 +6,7 @@ use Rattle.std.proofs.lemmas.List.{get_or_past, get_or_default, get_or_append_le
 use Rattle.map_defs.specs.Kind.{Kind}
 use Rattle.map_defs.specs.Links.{Links}
 use Rattle.map_defs.specs.Cells.{InCell}
-use Rattle.map_defs.specs.Values.{Rule, Meaning, meaning_of}
+use Rattle.map_defs.specs.Values.{Rule, Hook, meaning_of}
 use Rattle.map_defs.specs.Touched.{IsAlike, Covers}
 use Rattle.map_defs.specs.Carry.{IsCarried}
 use Rattle.store_defs.specs.Stores.{Store}
@@ -91,7 +91,7 @@ module _ (Good : Group → Type 0) (Wanted : ℕ → ℕ → Type 0) where
       ascending : (m n : ℕ) → m < n → n < length (xs ++ ys) → IsBefore (group_at (xs ++ ys) m) (group_at (xs ++ ys) n)
       ascending m n l h = ordered m n l (split_place xs ys m (omega arith)) (split_place xs ys n h)
 
-module _ (k : Kind) (L : Links) (Live : ℕ → Type 0) (label : ℕ → ℕ → Option ℕ) (pool : Store) (hook : Meaning) (rules : List (Option Rule)) (touched : ℕ → List ℕ) where
+module _ (k : Kind) (L : Links) (Live : ℕ → Type 0) (label : ℕ → ℕ → Option ℕ) (pool : Store) (hook : Hook) (rules : List (Option Rule)) (touched : ℕ → List ℕ) where
   -- the groups of one dimension
   pub all_of_dim : (i : ℕ) (rule : Rule) (cells new : List Group) (pieces : List Piece) → rule_at rules i ≡ Some rule → AreClasses (InCell k L i) → AreBareCells (InCell k L i) i (touched i) cells
       → AreAllPieces (label i) cells pieces → ((n x : ℕ) → n < length cells → Contains (group_at cells n).darts x → Live x) → Covers k i L Live (label i) (Contains (touched i))

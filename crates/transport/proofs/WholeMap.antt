@@ -3,7 +3,7 @@ use Rattle.std.proofs.Common.{◌≡◌, ◌⊎◌, inl, inr, ℕ, ◌<◌, List
 use Rattle.map_defs.specs.Kind.{Kind}
 use Rattle.map_defs.specs.Rows.{Rows, links_of, IsLive, IsSound}
 use Rattle.map_defs.specs.Cells.{InCell}
-use Rattle.map_defs.specs.Values.{Value, Rule, Meaning, meaning_of}
+use Rattle.map_defs.specs.Values.{Value, Rule, Hook, meaning_of}
 use Rattle.map_defs.specs.Touched.{IsAlike}
 use Rattle.map_defs.specs.Carry.{IsCarried, AreCarriedByLabel}
 use Rattle.store_defs.specs.Stores.{Store}
@@ -13,7 +13,7 @@ use Rattle.transport.proofs.Gathering.{told_eq}
 use Rattle.transport.proofs.CarryFacts.{told_in, find_below}
 use Rattle.transport.proofs.OtherCells.{carried_lived}
 
-module _ (k : Kind) (n : ℕ) (rows : Rows) (sound : IsSound k n rows) (label : ℕ → ℕ → Option ℕ) (pool : Store) (hook : Meaning) (rules : List (Option Rule)) (touched : ℕ → List ℕ) (groups : List Group)
+module _ (k : Kind) (n : ℕ) (rows : Rows) (sound : IsSound k n rows) (label : ℕ → ℕ → Option ℕ) (pool : Store) (hook : Hook) (rules : List (Option Rule)) (touched : ℕ → List ℕ) (groups : List Group)
     (cells : AreTouchedCells k (links_of rows) rules touched groups)
     (values : (m : ℕ) → m < length groups → HasCarriedValue k (links_of rows) (IsLive rows) label pool hook rules (group_at groups m))
     (i : ℕ) (rule : Rule) (ruled : rule_at rules i ≡ Some rule)

@@ -2,12 +2,12 @@
 use Rattle.std.specs.Prelude.{ℕ, ◌≡◌, ◌<◌, List, length, Option, IsSome, Contains}
 use Rattle.map_defs.specs.Kind.{Kind}
 use Rattle.map_defs.specs.Links.{Links}
-use Rattle.map_defs.specs.Values.{Rule, Meaning}
+use Rattle.map_defs.specs.Values.{Rule, Hook}
 use Rattle.store_defs.specs.Stores.{Store}
 use Rattle.store_defs.specs.Groups.{Group, group_at, rule_at, IsBefore, IsTouchedCell, HasCarriedValue}
 
 -- a touched cell with the value that is carried to it
-pub record IsCarriedCell (k : Kind) (L : Links) (Live : ℕ → Type 0) (label : ℕ → ℕ → Option ℕ) (pool : Store) (hook : Meaning) (rules : List (Option Rule)) (touched : ℕ → List ℕ) (g : Group) : Type 0 where
+pub record IsCarriedCell (k : Kind) (L : Links) (Live : ℕ → Type 0) (label : ℕ → ℕ → Option ℕ) (pool : Store) (hook : Hook) (rules : List (Option Rule)) (touched : ℕ → List ℕ) (g : Group) : Type 0 where
   pub cell : IsTouchedCell k L rules touched g
   pub value : HasCarriedValue k L Live label pool hook rules g
 

@@ -48,10 +48,10 @@ pub fn carry<K: Kind, H: Hook, const DIM: usize>(
         AreTouchedCells K.kind (links_of links.now.rows) rules.now (darts_in touched.now) groups.items) }
     ensures values { IfOk result (λ groups. (n : ℕ) → n < length groups.items
         → HasCarriedValue K.kind (links_of links.now.rows) (IsLive links.now.rows) (id_of labels.now) pool.now
-        (H.meaning hook.now) rules.now (group_at groups.items n)) }
+        (H.hook hook.now) rules.now (group_at groups.items n)) }
     ensures others { OnOk result ((i d : ℕ) (rule : Rule) → rule_at rules.now i ≡ Some rule → IsLive links.now.rows d
         → ((x : ℕ) → InCell K.kind (links_of links.now.rows) i d x → Contains (darts_in touched.now i) x → ⊥)
-        → IsCarried (meaning_of (H.meaning hook.now) rule) (known_value pool.now (id_of labels.now i))
+        → IsCarried (meaning_of (H.hook hook.now) rule) (known_value pool.now (id_of labels.now i))
         (IsLive links.now.rows) (IsAlike (id_of labels.now i)) (InCell K.kind (links_of links.now.rows) i) d
         (labelled_value pool.now (id_of labels.now i d))) }
 {
@@ -92,7 +92,7 @@ fn carried_cells<K: Kind, H: Hook, const DIM: usize>(
         → Covers K.kind i (links_of links.now.rows) (IsLive links.now.rows) (id_of labels.now i) (Contains (darts_in touched.now i)) }
     ensures { IfOk result (λ cells. AreAllOf
         (IsCarriedCell K.kind (links_of links.now.rows) (IsLive links.now.rows) (id_of labels.now) pool.now
-        (H.meaning hook.now) rules.now (darts_in touched.now))
+        (H.hook hook.now) rules.now (darts_in touched.now))
         (IsWanted rules.now (darts_in touched.now)) (λ i. i ≡ dim) cells.items) }
 {
     let Some(rule) = rules.rules[dim] else {

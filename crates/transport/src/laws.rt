@@ -3,7 +3,7 @@ ghost use Rattle.map_defs.specs.Kind.{Kind};
 ghost use Rattle.map_defs.specs.Rows.{Rows, IsLive, links_of, IsSound};
 ghost use Rattle.map_defs.specs.Cells.{InCell};
 ghost use Rattle.map_defs.specs.Touched.{IsAlike};
-ghost use Rattle.map_defs.specs.Values.{Value, Rule, Meaning, meaning_of};
+ghost use Rattle.map_defs.specs.Values.{Value, Rule, Hook, meaning_of};
 ghost use Rattle.map_defs.specs.Carry.{IsCarried, AreCarriedByLabel};
 ghost use Rattle.store_defs.specs.Stores.{Store};
 ghost use Rattle.store_defs.specs.Groups.{Group, group_at, rule_at, labelled_value, known_value, AreTouchedCells, HasCarriedValue};
@@ -14,7 +14,7 @@ ghost use Rattle.store_defs.specs.Groups.{Group, group_at, rule_at, labelled_val
 ///
 /// For whoever puts the values of groups at their cells and leaves all others alone.
 pub fn groups_carry_the_whole_map()
-    ensures { (k : Kind) (dim : ℕ) (old new : Rows) (label : ℕ → ℕ → Option ℕ) (pool : Store) (hook : Meaning)
+    ensures { (k : Kind) (dim : ℕ) (old new : Rows) (label : ℕ → ℕ → Option ℕ) (pool : Store) (hook : Hook)
         (rules : List (Option Rule)) (touched : ℕ → List ℕ) (groups : List Group) (i : ℕ) (rule : Rule)
         (after : ℕ → Option Value) → IsSound k dim new
         → AreTouchedCells k (links_of new) rules touched groups

@@ -6,7 +6,7 @@ ghost use Rattle.store_defs.specs.Groups.{darts_in};
 
 use crate::{Group, RuleRow, TouchedDarts, carry};
 use attr_pool::{AttrId, Labels, Pool};
-use attr_rules::{FirstCopy, Merge, Split, TableRule};
+use attr_rules::{Merge, OrCopy, Split, TableRule};
 use link_rows::{Links, polygon_edit};
 use map_kind::{Alpha, Beta, Dart, Kind, Value};
 use std::alloc::{AllocError, Global};
@@ -106,7 +106,7 @@ fn carried<K: Kind>(alloc: Global, links: &Links<K, 2>) -> Result<Vec<Group>, Al
     let labels = labels_of(alloc, &pool, three, two, other)?;
     let rules = rules(alloc)?;
     let touched = all_touched(alloc, links)?;
-    carry(alloc, links, &labels, &pool, &rules, &FirstCopy, &touched)
+    carry(alloc, links, &labels, &pool, &rules, &OrCopy, &touched)
 }
 
 /// All live darts in each dimension.

@@ -7,7 +7,7 @@ use Rattle.map_defs.specs.Kind.{Kind}
 use Rattle.map_defs.specs.Links.{Links}
 use Rattle.map_defs.specs.Laws.{Laws}
 use Rattle.map_defs.specs.Cells.{here, InCell, NamesCell}
-use Rattle.map_defs.specs.Values.{Value, Meaning, dealt, dealt_value, total}
+use Rattle.map_defs.specs.Values.{Value, Hook, Meaning, dealt, dealt_value, total}
 use Rattle.map_defs.specs.Carry.{NamesPiece, ArePieces, Gets, IsCarried, AreCarried, IsValuedWith, AreEqualOnCells, known}
 use Rattle.map_defs.specs.Totals.{sum_share, ListsValuedCells, total_value, NoSumLeaves}
 use Rattle.link_laws.proofs.CellFacts.{cell_back}
@@ -39,7 +39,7 @@ total_number : (number : Value → ℤ) → IsNumber number → (values : ℕ �
 total_number number is values [] = is.nothing
 total_number number is values (c ∷ cells) = is.summed (known (values c)) (total_value values cells) ∙ ap (λ s. number (known (values c)) +ℤ s) (total_number number is values cells)
 
-module _ (k : Kind) (i : ℕ) (hook : Meaning) (L N : Links) (Live LiveAfter : ℕ → Type 0) (w : Laws k L) (wn : Laws k N)
+module _ (k : Kind) (i : ℕ) (hook : Hook) (L N : Links) (Live LiveAfter : ℕ → Type 0) (w : Laws k L) (wn : Laws k N)
     (live_cell : (x y : ℕ) → Live x → InCell k L i x y → Live y) (live_after : (x y : ℕ) → LiveAfter x → InCell k N i x y → LiveAfter y) (stay : (x : ℕ) → Live x → LiveAfter x)
     (values after : ℕ → Option Value) (equal : AreEqualOnCells k i L Live values) (carried : AreCarried k i (sum_share hook) L Live values N LiveAfter after)
     (within : NoSumLeaves k i (sum_share hook) L Live values N LiveAfter)

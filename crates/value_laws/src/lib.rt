@@ -30,7 +30,7 @@ ghost use Rattle.map_defs.specs.Rows.{Rows, IsLive, links_of};
 ghost use Rattle.map_defs.specs.Cells.{InCell};
 ghost use Rattle.map_defs.specs.Walks.{IsTold};
 ghost use Rattle.map_defs.specs.Touched.{IsTouched, IsOldCell, Touches, IsAlike, IsLabelled, Covers};
-ghost use Rattle.map_defs.specs.Values.{Value, Rule, Meaning, meaning_of, KeepsWhole, IsRepresentable, dealt, total};
+ghost use Rattle.map_defs.specs.Values.{Value, Rule, Hook, Meaning, meaning_of, KeepsWhole, AreWhole, IsRepresentable, dealt, total};
 ghost use Rattle.map_defs.specs.Carry.{IsCarried, AreCarried, AreCarriedByLabel, IsValuedWith, AreEqualOnCells, known};
 ghost use Rattle.value_laws.specs.Rerouted.{IsTouchedIn};
 ghost use Rattle.map_defs.specs.Totals.{sum_share, ListsValuedCells, total_value, NoSumLeaves};
@@ -129,11 +129,12 @@ pub fn names_of_cells_do_not_matter()
         ↔ AreCarried k i rule (links_of old) (IsLive old) values (links_of new) (IsLive new) after }
 {}
 
-/// Every rule of the table leaves whole the value of a cell that is not split, if the hook does.
+/// Every rule leaves whole the value of a cell that is not split, if the hook does by itself and by each rule that it knows
+/// by name.
 ///
-/// For whoever hands in a hook: this is all that is asked of it.
+/// For whoever hands in a hook: beside this only its names are looked at.
 pub fn rules_leave_whole_what_is_not_split()
-    ensures { (hook : Meaning) (rule : Rule) → KeepsWhole hook → KeepsWhole (meaning_of hook rule) }
+    ensures { (hook : Hook) (rule : Rule) → AreWhole hook → KeepsWhole (meaning_of hook rule) }
 {}
 
 /// The parts of a number that is dealt out add up to it: it is k times its quotient and its rest, the rest is from 0 to
@@ -154,7 +155,7 @@ pub fn dealt_numbers_add_up()
 /// For whoever keeps amounts in cells, as lengths on edges: to make polygons and darts, to sew and unsew and to insert
 /// neither makes nor loses anything. Where all darts of a cell die, its value is lost.
 pub fn sum_share_keeps_totals()
-    ensures { (k : Kind) (i : ℕ) (hook : Meaning) (old new : Rows) (values after : ℕ → Option Value)
+    ensures { (k : Kind) (i : ℕ) (hook : Hook) (old new : Rows) (values after : ℕ → Option Value)
         (cells cells_after : List ℕ) → Laws k (links_of old) → Laws k (links_of new)
         → ((x : ℕ) → IsLive old x → IsLive new x)
         → AreEqualOnCells k i (links_of old) (IsLive old) values

@@ -51,12 +51,12 @@ placed-told w d (p ∷ places) there told = by (cases_eq p.dart d) (λ other. pl
         let past : placed (p ∷ places) d ≡ placed places d = grind (arith, nat_tests, other) in
         past ∙ rest other
 
-module _ (k : Kind) (rows : Rows) (labels : Labeling) (pool : Store) (values : List ListValue) (a : AreListed labels pool (λ i d. (i < 1) × IsNamed k rows i d) values) where
+module _ (k : Kind) (rows : Rows) (labels : Labeling) (pool : Store) (values : List ListValue) (a : AreListed labels pool (λ i d. (i ≡ 0) × IsNamed k rows i d) values) where
   zero_value : ListValue
   zero_value = record { dim = 0; dart = 0; value = known None }
 
   flat : (j : ℕ) → j < length values → (get_or values j zero_value).dim ≡ 0
-  flat j low = let h = ((a.members (get_or values j zero_value)).0 (Contains-get_or values j zero_value low)).0.0 in omega arith
+  flat j low = ((a.members (get_or values j zero_value)).0 (Contains-get_or values j zero_value low)).0.0
 
   dart_at : (j : ℕ) → j < length values → get_or (map (λ (place : Place). place.dart) (map place_of values)) j 0 ≡ (get_or values j zero_value).dart
   dart_at j low =
@@ -83,7 +83,7 @@ module _ (k : Kind) (rows : Rows) (labels : Labeling) (pool : Store) (values : L
     unfolding place_at
     there v is =
         let line : ListValue = record { dim = 0; dart = d; value = v } in
-        let h = (a.members line).1 ((omega arith, cell), is) in
+        let h = (a.members line).1 ((refl, cell), is) in
         (h.0, (let low = h.1 in let long = length-map values place_of in omega arith), get_or-map place_of values h.0 line (place_of line) h.1 ∙ ap place_of h.2)
 
     told : (p : Place) → Contains (map place_of values) p → p.dart ≡ d → stored_value pool labels 0 d ≡ Some p.value

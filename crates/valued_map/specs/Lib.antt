@@ -3,5 +3,6 @@ pub mod Placed
 pub mod Undoing
 pub mod Made
 pub mod Told
+pub mod SameRules
 pub mod TakingDual
 pub mod Holding

@@ -39,7 +39,7 @@ pub(crate) fn carried<K: Kind, H: Hook, const DIM: usize>(
         → AreAllTouched K.kind old links.now.rows rules.now labels.now groups.items) }
     ensures values { IfOk result (λ groups. (n : ℕ) → n < length groups.items
         → HasCarriedValue K.kind (links_of links.now.rows) (IsLive links.now.rows) (id_of labels.now) pool.old
-        (H.meaning hook.now) rules.now (group_at groups.items n)) }
+        (H.hook hook.now) rules.now (group_at groups.items n)) }
     ensures room { IfOk result (λ groups. length groups.items ≤ pool.new.spare) }
     ensures slots { pool.new.slots ≡ pool.old.slots }
     ensures small { OnOk result (AreSmall rules.now pool.old) }

@@ -67,7 +67,7 @@ impl<K: Kind, const DIM: usize> ValuedMap<K, DIM> {
         requires fits { Fits K.kind DIM self.old.content.rows edit.now }
         requires laws { Laws K.kind (links_of (after_edit DIM edit.now self.old.content.rows)) }
         requires few { made self.old.content.rows + edit.now.births ≤ MADE_MAX }
-        ensures carried { OnOk result (IsCarriedOn (H.meaning hook.now) self.old.content (after_edit DIM edit.now self.old.content.rows) self.new.content) }
+        ensures carried { OnOk result (IsCarriedOn (H.hook hook.now) self.old.content (after_edit DIM edit.now self.old.content.rows) self.new.content) }
         ensures step { IfOk result (λ step. IsStep asked self.old.content self.new.content step) }
         ensures err { OnErr result (self.new.content ≡ self.old.content) }
         ensures places_stay { self.old.places ≤ self.new.places }
@@ -153,7 +153,7 @@ fn moved<K: Kind, H: Hook, const DIM: usize>(
         → AreAllTouched K.kind old links.now.rows rules.now labels.now moved.0.items) }
     ensures values { IfOk result (λ moved. (n : ℕ) → n < length moved.0.items
         → HasCarriedValue K.kind (links_of links.now.rows) (IsLive links.now.rows) (id_of labels.now) pool.old
-        (H.meaning hook.now) rules.now (group_at moved.0.items n)) }
+        (H.hook hook.now) rules.now (group_at moved.0.items n)) }
     ensures room { IfOk result (λ moved. length moved.0.items ≤ pool.new.spare) }
     ensures slots { pool.new.slots ≡ pool.old.slots }
     ensures small { OnOk result (AreSmall rules.now pool.old) }

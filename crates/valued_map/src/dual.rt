@@ -14,6 +14,7 @@ ghost use Rattle.valued_map.specs.Told.{AreDiffering, AreRuleChanges, IsValueAdd
 use crate::ids::stored_value;
 use crate::map::ValuedMap;
 use crate::rules::rule_of;
+use crate::same::same_rule;
 use crate::told::{begin_step, finish_step};
 use attr_pool::{Labels, Pool};
 use kind_edit::Edits;
@@ -182,7 +183,7 @@ fn add_turned_rule(
 {
     let old = rule_of(rules, dim);
     let new = rule_of(rules, rules.rules.len() - 1 - dim);
-    if old == new {
+    if same_rule(&old, &new) {
         return Ok(());
     }
     changes.push(RuleChange { dim, old, new })?;

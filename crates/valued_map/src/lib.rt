@@ -17,6 +17,7 @@ mod near;
 mod off;
 mod restore;
 mod rules;
+mod same;
 mod told;
 mod touched;
 mod value;

@@ -1,8 +1,8 @@
 //! The rows of a listing, its rules and its values.
-ghost use Rattle.std.specs.Prelude.{◌≡◌, ℕ, ◌+◌, ◌≤◌, ◌<◌, IfOk, OnOk, ◌++◌, ◌∷◌, [], length, map, None};
+ghost use Rattle.std.specs.Prelude.{◌≡◌, ℕ, ◌+◌, ◌≤◌, ◌<◌, IfOk, OnOk, List, ◌++◌, ◌∷◌, [], length, map, None};
 ghost use Rattle.std.specs.List.{range_with_len};
 ghost use Rattle.map_defs.specs.Rows.{row_at, links_of};
-ghost use Rattle.machine_defs.specs.Listing.{live_rows_from, rules_from};
+ghost use Rattle.machine_defs.specs.Listing.{live_rows_from, rules_from, ListValue as ValuedCell};
 ghost use Rattle.store_defs.specs.Labelings.{id_of};
 ghost use Rattle.store_defs.specs.Groups.{rule_at};
 ghost use Rattle.label_laws.specs.Stored.{stored_value};
@@ -113,7 +113,8 @@ pub(crate) fn list_values<K: Kind, const DIM: usize>(
     Ok(values)
 }
 
-/// Lists the cells of a dimension with a value. Without a rule it has none, and is not looked at.
+/// Lists the cells of a dimension with a value behind those that stand in `values`. Without a rule it has none, and is not
+/// looked at.
 pub(crate) fn list_dimension<K: Kind, const DIM: usize>(
     alloc: Global,
     links: &Links<K, DIM>,
@@ -126,10 +127,8 @@ pub(crate) fn list_dimension<K: Kind, const DIM: usize>(
     requires high { DIM ≤ 8 }
     requires dim { dim ≤ DIM }
     requires bare { (d : ℕ) → rule_at rules.now dim ≡ None → id_of labels.now dim d ≡ None }
-    requires listed { AreListed labels.now pool.now
-        (λ i d. (i < dim) × IsNamed K.kind links.now.rows i d) values.old.items }
-    ensures { OnOk result (AreListed labels.now pool.now
-        (λ i d. (i < dim + 1) × IsNamed K.kind links.now.rows i d) values.new.items) }
+    ensures { OnOk result ((behind : List ValuedCell) × (values.new.items ≡ values.old.items ++ behind)
+        × AreListed labels.now pool.now (λ i d. (i ≡ dim) × IsNamed K.kind links.now.rows i d) behind) }
 {
     if !has_rule(rules, dim) {
         return Ok(());

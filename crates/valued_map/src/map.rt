@@ -3,19 +3,19 @@ ghost use Rattle.std.specs.Prelude.{◌≡◌, ◌+◌, ◌≤◌, List, IfOk, I
 ghost use Rattle.map_defs.specs.Laws.{Laws};
 ghost use Rattle.map_defs.specs.Rows.{IsSound, links_of, live_count};
 ghost use Rattle.machine_defs.specs.State.{empty_content, rule_at, value_at};
-ghost use Rattle.machine_defs.specs.Listing.{ListValue, ListsValues, listing_with};
+ghost use Rattle.machine_defs.specs.Listing.{ListValue as ValuedCell, ListsValues, ListsValuesIn, listing_with};
 ghost use Rattle.machine_defs.specs.Kept.{IsLawfulContent};
 ghost use Rattle.map_defs.specs.OffOfMap.{AreOffRows, HasOffText, LacksOffText};
 ghost use Rattle.off_text.specs.MapViews.{off_view, IfLine};
 
 use crate::ids::stored_value;
-use crate::list::{list_rows, list_rules, list_values};
+use crate::list::{list_dimension, list_rows, list_rules, list_values};
 use crate::off::points;
 use crate::rules::rule_of;
 use attr_pool::{Labels, Pool};
 use attr_rules::TableRule;
 use link_rows::Links;
-use list_text::{Listing, MarkName};
+use list_text::{ListValue, Listing, MarkName};
 use map_kind::{Dart, Kind, Refused, Value};
 use off_text::{OffRows, off_of};
 use std::alloc::{AllocError, Global};
@@ -102,7 +102,7 @@ impl<K: Kind, const DIM: usize> ValuedMap<K, DIM> {
     /// its least dart, ascending by dimension, then by dart; and the names of marks that are handed in. It costs the size of the
     /// map times a logarithm.
     pub fn listing(&self, alloc: Global, marks: Vec<MarkName>) -> Result<Listing, AllocError>
-        ensures { IfOk result (λ listing. (values : List ListValue) × ListsValues self.now.content values
+        ensures { IfOk result (λ listing. (values : List ValuedCell) × ListsValues self.now.content values
             × (listing ≡ listing_with self.now.content values marks.items)) }
     {
         Ok(Listing {
@@ -114,6 +114,25 @@ impl<K: Kind, const DIM: usize> ValuedMap<K, DIM> {
             values: list_values(alloc, &self.links, &self.labels, &self.pool, &self.rules)?,
             marks,
         })
+    }
+
+    /// The cells of a dimension with a value, each by its least dart, ascending. It costs the size of the map times a
+    /// logarithm, or nothing where the dimension has no rule.
+    pub fn values_in(&self, alloc: Global, dim: usize) -> Result<Vec<ListValue>, AllocError>
+        requires { dim ≤ DIM }
+        ensures { IfOk result (λ values. ListsValuesIn self.now.content dim values.items) }
+    {
+        let mut values = Vec::new(alloc);
+        list_dimension(
+            alloc,
+            &self.links,
+            &self.labels,
+            &self.pool,
+            &self.rules,
+            dim,
+            &mut values,
+        )?;
+        Ok(values)
     }
 
     /// What OFF text tells of the map: the value of each 0-cell as a point, and each 2-cell as a face, cells by ascending least

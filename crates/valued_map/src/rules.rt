@@ -6,6 +6,7 @@ ghost use Rattle.machine_defs.specs.Machine.{with_rule};
 ghost use Rattle.valued_map.specs.Told.{IsOneRule, IsStep};
 
 use crate::map::ValuedMap;
+use crate::same::same_rule;
 use crate::told::{begin_step, finish_step, no_edit};
 use attr_rules::TableRule;
 use map_kind::Kind;
@@ -51,7 +52,7 @@ fn rule_changes(
     ensures { IfOk result (λ changes. IsTrue asked → IsOneRule rules.now dim rule changes.items) }
 {
     let old = rule_of(rules, dim);
-    if !asked || old == Some(rule) {
+    if !asked || same_rule(&old, &Some(rule)) {
         return Ok(Vec::new(alloc));
     }
     Ok(vec![in alloc;

@@ -13,12 +13,12 @@ returns-in_err-append_name c =
     simp append_assoc (rw (← c.rule.view_is) (Appends-at_err _ _ c.from_residual-in_err-append_name.ensures.1
     (AppendsFront-then _ c.in_ok-extend_from_slice.ensures.items
     (AppendsFront-then _ c.in_ok-append_spaced.ensures
-    (AppendsFront-cut _ (rw c.name.ensures.name at c.in_err-append_name.ensures))))))
+    (AppendsFront-cut _ (rw c.name.ensures at c.in_err-append_name.ensures))))))
 
 pub returns-in_err-append_name-2 : goal.returns-in_err-append_name-2
 returns-in_err-append_name-2 c =
     simp append_assoc (rw (← c.rule.view_is) (Appends-at_err _ _ c.from_residual-in_err-append_name-2.ensures.1
     (AppendsFront-then _ c.in_ok-extend_from_slice.ensures.items
     (AppendsFront-then _ c.in_ok-append_spaced.ensures
-    (AppendsFront-then _ (rw c.name.ensures.name at c.in_ok-append_name.ensures)
-    (AppendsFront-cut _ (rw c.name-2.ensures.name at c.in_err-append_name-2.ensures)))))))
+    (AppendsFront-then _ (rw c.name.ensures at c.in_ok-append_name.ensures)
+    (AppendsFront-cut _ (rw c.name-2.ensures at c.in_err-append_name-2.ensures)))))))

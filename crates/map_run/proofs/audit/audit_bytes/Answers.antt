@@ -1,9 +1,16 @@
+use Rattle.std.proofs.Common.{lit≤}
+use Rattle.machine_defs.specs.Auditing.{AuditAnswer}
 use Rattle.machine_defs.specs.Outside.{Rose}
-use Rattle.map_run.proofs.AuditFacts.{put-ends}
+use Rattle.machine_defs.specs.Text.{replies_text}
+use Rattle.map_run.specs.Audits.{shows}
+use Rattle.map_run.proofs.AnswerFacts.{put-ends}
+use Rattle.map_run.proofs.AuditFacts.{shown-answer}
 use Rattle.map_run.proofs.audit.audit_bytes.Goals as goal
 
 pub returns-in-Ok-clause-ends : goal.returns-in-Ok-clause-ends
 returns-in-Ok-clause-ends g c =
+    let l = c.in-Ok.listing in
+    let counts = c.in-Ok.counts.items in
     rw c.put_status.ensures
-    (put-ends c.args.bytes.now (Rose (g.S.Sink.faults c.args.out.now) (g.S.Sink.faults c.put_audit.new.out)) (g.S.Sink.written c.args.out.now) (g.S.Sink.written c.put_audit.new.out)
-    c.in-Ok.listing c.in-Ok.counts.items c.put_audit.result c.in-Ok.ensures.0 c.in-Ok.ensures.1 c.put_audit.ensures.written c.put_audit.ensures.cause.rose)
+    (put-ends (AuditAnswer c.args.bytes.now) (Rose (g.S.Sink.faults c.args.out.now) (g.S.Sink.faults c.put_audit.new.out)) (g.S.Sink.written c.args.out.now) (g.S.Sink.written c.put_audit.new.out)
+    (replies_text (shows l counts)) 0 (shown-answer c.args.bytes.now l counts c.in-Ok.ensures.0 c.in-Ok.ensures.1) (lit≤ tt) c.put_audit.result c.put_audit.ensures.written c.put_audit.ensures.cause.rose)

@@ -13,22 +13,22 @@ pub returns-in-Ok-Some-Change-clause-answered : goal.returns-in-Ok-Some-Change-c
 returns-in-Ok-Some-Change-clause-answered g c =
     let line = change_meaning c.in-Ok-Some-Change.line in
     let read = rw (c.in-Ok-Some-Change.field-0-is, c.in-Ok-Some-Change.field-0-0-is) at c.in-Ok-Some-Change.ensures.told in
-    let step = c.done.ensures (g.H.Rule.meaning c.args.map.now.hook) c.args.map.now.state c.change.new.map.state line c.change.ensures.does in
-    AnswersLine-said (g.H.Rule.meaning c.args.map.now.hook) (g.S.Sink.written c.args.out.now) (g.S.Sink.written c.say.new.out) c.args.map.now.state c.change.new.map.state (words_of c.args.line.now) line c.done.result c.say.result
+    let step = c.done.ensures (g.H.Hook.hook c.args.map.now.hook) c.args.map.now.state c.change.new.map.state line c.change.ensures.does in
+    AnswersLine-said (g.H.Hook.hook c.args.map.now.hook) (g.S.Sink.written c.args.out.now) (g.S.Sink.written c.say.new.out) c.args.map.now.state c.change.new.map.state (words_of c.args.line.now) line c.done.result c.say.result
     read step c.say.ensures.said c.say.ensures.unsaid
 
 pub returns-in-Ok-Some-Question-clause-answered : goal.returns-in-Ok-Some-Question-clause-answered
 returns-in-Ok-Some-Question-clause-answered g c =
     let read = rw (c.in-Ok-Some-Question.field-0-is, c.in-Ok-Some-Question.field-0-0-is) at c.in-Ok-Some-Question.ensures.told in
-    AnswersLine-said (g.H.Rule.meaning c.args.map.now.hook) (g.S.Sink.written c.args.out.now) (g.S.Sink.written c.say-in-Ok-Some-Question.new.out) c.args.map.now.state c.args.map.now.state (words_of c.args.line.now) (question_meaning c.in-Ok-Some-Question.line) c.ask.result c.say-in-Ok-Some-Question.result
+    AnswersLine-said (g.H.Hook.hook c.args.map.now.hook) (g.S.Sink.written c.args.out.now) (g.S.Sink.written c.say-in-Ok-Some-Question.new.out) c.args.map.now.state c.args.map.now.state (words_of c.args.line.now) (question_meaning c.in-Ok-Some-Question.line) c.ask.result c.say-in-Ok-Some-Question.result
     read c.ask.ensures c.say-in-Ok-Some-Question.ensures.said c.say-in-Ok-Some-Question.ensures.unsaid
 
 pub returns-in-Err-Line-clause-answered : goal.returns-in-Err-Line-clause-answered
 returns-in-Err-Line-clause-answered g c =
     let outside = rw c.in-Err-Line.field-0-is at c.in-Err-Line.ensures.refused in
     let said = rw outside.0 at c.say-in-Err-Line.ensures.said in
-    AnswersLine-unread (g.H.Rule.meaning c.args.map.now.hook) (g.S.Sink.written c.args.out.now) (g.S.Sink.written c.say-in-Err-Line.new.out) c.args.map.now.state (words_of c.args.line.now) c.say-in-Err-Line.result outside.1.0 outside.1.1 said
+    AnswersLine-unread (g.H.Hook.hook c.args.map.now.hook) (g.S.Sink.written c.args.out.now) (g.S.Sink.written c.say-in-Err-Line.new.out) c.args.map.now.state (words_of c.args.line.now) c.say-in-Err-Line.result outside.1.0 outside.1.1 said
 
 pub returns-in-Ok-None-clause-answered : goal.returns-in-Ok-None-clause-answered
 returns-in-Ok-None-clause-answered g c =
-    AnswersLine-blank (g.H.Rule.meaning c.args.map.now.hook) (g.S.Sink.written c.args.out.now) c.args.map.now.state (words_of c.args.line.now) (rw c.in-Ok-None.field-0-is at c.in-Ok-None.ensures.blank)
+    AnswersLine-blank (g.H.Hook.hook c.args.map.now.hook) (g.S.Sink.written c.args.out.now) c.args.map.now.state (words_of c.args.line.now) (rw c.in-Ok-None.field-0-is at c.in-Ok-None.ensures.blank)

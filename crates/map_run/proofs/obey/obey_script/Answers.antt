@@ -19,7 +19,7 @@ returns-in_err-obey_line-clause-obeyed g c =
     let are : lines_of script ≡ done ++ line ∷ after =
     c.loop-rest.invariant.0.1 ∙ ap (λ (r : Option (Bor (List ℕ))). done ++ lines_after r) c.in-Some.is ∙ ap (λ (ls : List (List ℕ)). done ++ ls) c.next_line.ensures.lines in
     rw (p.1, p.2)
-    (Going-cut (g.H.Rule.meaning c.args.map.hook) c.args.map.state c.loop-rest.map.state c.obey_line.new.map.state script done after line c.loop-rest.refused c.in_err-obey_line.field-0.0
+    (Going-cut (g.H.Hook.hook c.args.map.hook) c.args.map.state c.loop-rest.map.state c.obey_line.new.map.state script done after line c.loop-rest.refused c.in_err-obey_line.field-0.0
     (g.S.Sink.written c.args.out.now) (g.S.Sink.written c.loop-rest.out) (g.S.Sink.written c.obey_line.new.out) are c.loop-rest.invariant.0.2 here)
 
 pub loop-rest-preserved : goal.loop-rest-preserved
@@ -35,7 +35,7 @@ loop-rest-preserved g c =
         done ++ line ∷ [],
         are ∙ sym (append_assoc done (line ∷ []) after),
         rw c.either-refused.ensures
-            (Going-more (g.H.Rule.meaning c.args.map.hook) c.args.map.state c.loop-rest.map.state c.obey_line.new.map.state done line c.loop-rest.refused c.in_ok-obey_line.field-0
+            (Going-more (g.H.Hook.hook c.args.map.hook) c.args.map.state c.loop-rest.map.state c.obey_line.new.map.state done line c.loop-rest.refused c.in_ok-obey_line.field-0
             (g.S.Sink.written c.args.out.now) (g.S.Sink.written c.loop-rest.out) (g.S.Sink.written c.obey_line.new.out) c.loop-rest.invariant.0.2 here),
       ),
       c.obey_line.ensures.hook ∙ c.loop-rest.invariant.1,
@@ -64,7 +64,7 @@ returns-clause-obeyed g c =
     let script : List ℕ = c.args.script.now in
     let done : List (List ℕ) = c.loop-rest.invariant.0.0 in
     let over : c.loop-rest.rest ≡ None = search rules in
-    Going-end (g.H.Rule.meaning c.args.map.hook) c.args.map.state c.loop-rest.map.state script done c.loop-rest.refused (g.S.Sink.written c.args.out.now) (g.S.Sink.written c.loop-rest.out)
+    Going-end (g.H.Hook.hook c.args.map.hook) c.args.map.state c.loop-rest.map.state script done c.loop-rest.refused (g.S.Sink.written c.args.out.now) (g.S.Sink.written c.loop-rest.out)
     (c.loop-rest.invariant.0.1 ∙ ap (λ (r : Option (Bor (List ℕ))). done ++ lines_after r) over) c.loop-rest.invariant.0.2
 
 -- a script that was obeyed to its end met no fault

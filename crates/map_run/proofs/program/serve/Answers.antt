@@ -16,14 +16,14 @@ failed result NoMemory is none = absurd (none is)
 
 pub returns-in-Ok-clause-outcome : goal.returns-in-Ok-clause-outcome
 returns-in-Ok-clause-outcome g c = λ files known.
-    Ends-flushed (g.H.Rule.meaning c.args.hook.now) (g.S.Sink.written c.args.out.now) (g.S.Sink.written c.answer-status.new.out) (g.S.Sink.written c.flush.new.self) (map string_bytes c.args.words.now) files
+    Ends-flushed (g.H.Hook.hook c.args.hook.now) (g.S.Sink.written c.args.out.now) (g.S.Sink.written c.answer-status.new.out) (g.S.Sink.written c.flush.new.self) (map string_bytes c.args.words.now) files
     (Rose (g.F.Shelf.faults c.args.shelf.now) (g.F.Shelf.faults c.answer-status.new.shelf)) (Rose (g.S.Sink.faults c.args.out.now) (g.S.Sink.faults c.answer-status.new.out)) (Rose (g.S.Sink.faults c.args.out.now) (g.S.Sink.faults c.flush.new.self)) c.answer-status.result
     (rose-then (g.S.Sink.faults c.args.out.now) (g.S.Sink.faults c.answer-status.new.out) (g.S.Sink.faults c.flush.new.self) c.flush.ensures.cause.later) (c.answer-status.ensures.outcome files known) c.flush.ensures.nothing
 
 pub returns-in-Err-clause-outcome : goal.returns-in-Err-clause-outcome
 returns-in-Err-clause-outcome g c = λ files known.
     rw c.unflushed.ensures
-    (Ends-unflushed (g.H.Rule.meaning c.args.hook.now) (g.S.Sink.written c.args.out.now) (g.S.Sink.written c.answer-status.new.out) (g.S.Sink.written c.flush.new.self) (map string_bytes c.args.words.now) files
+    (Ends-unflushed (g.H.Hook.hook c.args.hook.now) (g.S.Sink.written c.args.out.now) (g.S.Sink.written c.answer-status.new.out) (g.S.Sink.written c.flush.new.self) (map string_bytes c.args.words.now) files
     (Rose (g.F.Shelf.faults c.args.shelf.now) (g.F.Shelf.faults c.answer-status.new.shelf)) (Rose (g.S.Sink.faults c.args.out.now) (g.S.Sink.faults c.answer-status.new.out)) (Rose (g.S.Sink.faults c.args.out.now) (g.S.Sink.faults c.flush.new.self)) c.answer-status.result
     (then-rose (g.S.Sink.faults c.args.out.now) (g.S.Sink.faults c.answer-status.new.out) (g.S.Sink.faults c.flush.new.self) c.answer-status.ensures.later
     (c.flush.ensures.cause.rose (failed c.flush.result c.in-Err.field-0 c.in-Err.is c.flush.ensures.needs_no_memory)))

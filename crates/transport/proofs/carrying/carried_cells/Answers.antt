@@ -41,7 +41,7 @@ returns g c =
     let bare = subst (λ (ds : List ℕ). AreBareCells (InCell g.K.Kind.kind (links_of c.args.links.now.rows) c.args.dim) c.args.dim ds c.in_ok-cells.cells.items) c.in_dim.ensures c.in_ok-cells.ensures in
     let low : c.args.dim < length c.args.rules.now = (let d = c.requires.dim in let r = c.requires.rules in omega arith) in
     let ruled : rule_at c.args.rules.now c.args.dim ≡ Some c.in-Some.rule = read_rule c.args.rules.now c.rules.inside.rules.items c.args.dim c.index.result.now c.in-Some.rule c.rules.view_is low c.index.ensures c.in-Some.is in
-    all_of_dim g.K.Kind.kind (links_of c.args.links.now.rows) (IsLive c.args.links.now.rows) (id_of c.args.labels.now) c.args.pool.now (g.H.Rule.meaning c.args.hook.now) c.args.rules.now (darts_in c.args.touched.now)
+    all_of_dim g.K.Kind.kind (links_of c.args.links.now.rows) (IsLive c.args.links.now.rows) (id_of c.args.labels.now) c.args.pool.now (g.H.Hook.hook c.args.hook.now) c.args.rules.now (darts_in c.args.touched.now)
     c.args.dim c.in-Some.rule c.in_ok-cells.cells.items c.merge_pieces.new.cells.items c.in_ok-pieces.pieces.items ruled
     (sound_classes _ _ _ _ c.requires.sound) bare all live (c.requires.covered c.args.dim (subst IsSome (sym ruled) refl))
-    (subst (λ (ps : List Piece). AreMerged (meaning_of (g.H.Rule.meaning c.args.hook.now) c.in-Some.rule) c.args.pool.now ps (length ps) c.in_ok-cells.cells.items c.merge_pieces.new.cells.items) c.deref-2.ensures.value c.in_ok-merge_pieces.ensures)
+    (subst (λ (ps : List Piece). AreMerged (meaning_of (g.H.Hook.hook c.args.hook.now) c.in-Some.rule) c.args.pool.now ps (length ps) c.in_ok-cells.cells.items c.merge_pieces.new.cells.items) c.deref-2.ensures.value c.in_ok-merge_pieces.ensures)

@@ -12,7 +12,7 @@ use Rattle.transport.proofs.carrying.carry.Goals as goal
 pub loop-dim-preserved : goal.loop-dim-preserved
 loop-dim-preserved g c =
     subst (λ (groups : List Group). AreAllOf
-    (IsCarriedCell g.K.Kind.kind (links_of c.args.links.now.rows) (IsLive c.args.links.now.rows) (id_of c.args.labels.now) c.args.pool.now (g.H.Rule.meaning c.args.hook.now) c.args.rules.now (darts_in c.args.touched.now))
+    (IsCarriedCell g.K.Kind.kind (links_of c.args.links.now.rows) (IsLive c.args.links.now.rows) (id_of c.args.labels.now) c.args.pool.now (g.H.Hook.hook c.args.hook.now) c.args.rules.now (darts_in c.args.touched.now))
     (IsWanted c.args.rules.now (darts_in c.args.touched.now)) (λ i. i < c.loop-dim.dim + 1) groups)
     (sym c.in_ok-append.ensures.items)
     (all_joined _ _ c.loop-dim.dim c.loop-dim.groups.items c.in_ok-cells.cells.items c.loop-dim.invariant c.in_ok-cells.ensures)
@@ -29,5 +29,5 @@ returns-clause-values g c = all_carried _ _ _ _ _ _ _ _ c.loop-dim.dim c.loop-di
 
 pub returns-clause-others : goal.returns-clause-others
 returns-clause-others g c i d rule ruled live untouched =
-    other_cells g.K.Kind.kind g.row.DIM c.args.links.now.rows c.dimension-dim-end.ensures.sound i (id_of c.args.labels.now i) c.args.pool.now (darts_in c.args.touched.now i) (meaning_of (g.H.Rule.meaning c.args.hook.now) rule) (keeps_whole (g.H.Rule.meaning c.args.hook.now) rule (g.met.H.Rule.whole c.args.hook.now)) c.see_values.ensures (c.requires.held i)
+    other_cells g.K.Kind.kind g.row.DIM c.args.links.now.rows c.dimension-dim-end.ensures.sound i (id_of c.args.labels.now i) c.args.pool.now (darts_in c.args.touched.now i) (meaning_of (g.H.Hook.hook c.args.hook.now) rule) (keeps_whole (g.H.Hook.hook c.args.hook.now) rule ((g.met.H.Hook.lawful c.args.hook.now c.requires.ready).whole)) c.see_values.ensures (c.requires.held i)
     (c.requires.covered i (subst IsSome (sym ruled) refl)) d live untouched

@@ -7,5 +7,5 @@ use Rattle.transport.proofs.carrying.carry.Given as goal
 
 abbrev pub invariant-loop-dim : goal.invariant-loop-dim
 invariant-loop-dim g l =
-    AreAllOf (IsCarriedCell g.K.Kind.kind (links_of l.links.rows) (IsLive l.links.rows) (id_of l.labels) l.pool (g.H.Rule.meaning l.hook) l.rules (darts_in l.touched))
+    AreAllOf (IsCarriedCell g.K.Kind.kind (links_of l.links.rows) (IsLive l.links.rows) (id_of l.labels) l.pool (g.H.Hook.hook l.hook) l.rules (darts_in l.touched))
     (IsWanted l.rules (darts_in l.touched)) (λ i. i < l.dim) l.groups.items

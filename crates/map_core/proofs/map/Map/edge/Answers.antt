@@ -22,8 +22,8 @@ returns-in_err-edit-clause-does g c =
     let rows : Rows = c.links.result.now.rows in
     let plan = plan-named k n rows c.in_ok-dart.dart c.in_ok-other.other c.args.dart c.args.other (Err c.in_err-edit.field-0.0) c.in_ok-dart.ensures.0 c.in_ok-other.ensures.0 c.in_err-edit.ensures in
     let p = err_from_is_err_and c.from_residual-in_err-edit.result c.from_residual-in_err-edit.ensures.1 in
-    subst (λ (r : Result Done Refused). Does (g.H.Rule.meaning c.args.self.now.hook) c.args.self.now.state (Edge c.args.dart c.args.other) r c.args.self.now.state) (sym (p.1 ∙ ap Err p.2))
-    (edge-refused k n rows (g.H.Rule.meaning c.args.self.now.hook) c.args.self.now.state c.links.ensures.kind c.links.ensures.dim c.links.ensures.rows c.links.ensures.kept
+    subst (λ (r : Result Done Refused). Does (g.H.Hook.hook c.args.self.now.hook) c.args.self.now.state (Edge c.args.dart c.args.other) r c.args.self.now.state) (sym (p.1 ∙ ap Err p.2))
+    (edge-refused k n rows (g.H.Hook.hook c.args.self.now.hook) c.args.self.now.state c.links.ensures.kind c.links.ensures.dim c.links.ensures.rows c.links.ensures.kept
     c.args.dart c.args.other c.in_ok-dart.ensures.1 c.in_ok-other.ensures.1 c.in_err-edit.field-0.0 plan)
 
 pub returns-clause-does : goal.returns-clause-does
@@ -32,5 +32,5 @@ returns-clause-does g c =
     let n : ℕ = g.row.DIM in
     let rows : Rows = c.links.result.now.rows in
     let plan = plan-named k n rows c.in_ok-dart.dart c.in_ok-other.other c.args.dart c.args.other (Ok c.in_ok-edit.edit) c.in_ok-dart.ensures.0 c.in_ok-other.ensures.0 c.in_ok-edit.ensures in
-    edge-does k n rows (g.H.Rule.meaning c.args.self.now.hook) c.args.self.now.state c.links.ensures.kind c.links.ensures.dim c.links.ensures.rows c.links.ensures.kept
+    edge-does k n rows (g.H.Hook.hook c.args.self.now.hook) c.args.self.now.state c.links.ensures.kind c.links.ensures.dim c.links.ensures.rows c.links.ensures.kept
     c.args.dart c.args.other c.in_ok-dart.ensures.1 c.in_ok-other.ensures.1 c.in_ok-edit.edit plan c.insert.result c.insert.new.self.state c.insert.ensures.grows

@@ -20,8 +20,8 @@ returns-in_err-edit-clause-does g c =
     let high : n < 3 → ⊥ = λ low. (let above = c.if-dimension-lt3.false in omega (arith, above, c.dimension.ensures.dimension)) in
     let plan : PlansFace k n rows c.args.path.now (Err c.in_err-edit.field-0.0) = subst (λ (ds : List ℕ). PlansFace k n rows ds (Err c.in_err-edit.field-0.0)) path c.in_err-edit.ensures in
     let p = err_from_is_err_and c.from_residual-in_err-edit.result c.from_residual-in_err-edit.ensures.1 in
-    subst (λ (r : Result Done Refused). Does (g.H.Rule.meaning c.args.self.now.hook) c.args.self.now.state (Face c.args.path.now) r c.args.self.now.state) (sym (p.1 ∙ ap Err p.2))
-    (face-refused k n rows (g.H.Rule.meaning c.args.self.now.hook) c.args.self.now.state c.links-2.ensures.kind c.links-2.ensures.dim c.links-2.ensures.rows c.links-2.ensures.kept
+    subst (λ (r : Result Done Refused). Does (g.H.Hook.hook c.args.self.now.hook) c.args.self.now.state (Face c.args.path.now) r c.args.self.now.state) (sym (p.1 ∙ ap Err p.2))
+    (face-refused k n rows (g.H.Hook.hook c.args.self.now.hook) c.args.self.now.state c.links-2.ensures.kind c.links-2.ensures.dim c.links-2.ensures.rows c.links-2.ensures.kept
     c.args.path.now high darts.1 c.in_err-edit.field-0.0 plan)
 
 pub returns-clause-does : goal.returns-clause-does
@@ -33,5 +33,5 @@ returns-clause-does g c =
     let path : c.deref.result.now ≡ c.args.path.now = c.deref.ensures.value ∙ darts.0 in
     let high : n < 3 → ⊥ = λ low. (let above = c.if-dimension-lt3.false in omega (arith, above, c.dimension.ensures.dimension)) in
     let plan : PlansFace k n rows c.args.path.now (Ok c.in_ok-edit.edit) = subst (λ (ds : List ℕ). PlansFace k n rows ds (Ok c.in_ok-edit.edit)) path c.in_ok-edit.ensures in
-    face-does k n rows (g.H.Rule.meaning c.args.self.now.hook) c.args.self.now.state c.links-2.ensures.kind c.links-2.ensures.dim c.links-2.ensures.rows c.links-2.ensures.kept
+    face-does k n rows (g.H.Hook.hook c.args.self.now.hook) c.args.self.now.state c.links-2.ensures.kind c.links-2.ensures.dim c.links-2.ensures.rows c.links-2.ensures.kept
     c.args.path.now high darts.1 c.in_ok-edit.edit plan c.insert.result c.insert.new.self.state c.insert.ensures.grows

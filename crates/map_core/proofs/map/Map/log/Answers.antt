@@ -10,7 +10,7 @@ returns-in-Ok-clause-answers g c =
     let t : Trail = c.self.inside.journal.trail in
     let since = c.in-Ok.ensures.since in
     rw (← c.self.view_is)
-    (log-answered now t c.self.invariant.traced c.see_order.ensures (g.H.Rule.meaning c.self.inside.hook.now) c.args.name.now since.0 since.1 c.in-Ok.steps.now since.2)
+    (log-answered now t c.self.invariant.traced c.see_order.ensures (g.H.Hook.hook c.self.inside.hook.now) c.args.name.now since.0 since.1 c.in-Ok.steps.now since.2)
 
 pub returns-in-Ok-clause-back : goal.returns-in-Ok-clause-back
 returns-in-Ok-clause-back g c =
@@ -18,7 +18,7 @@ returns-in-Ok-clause-back g c =
     let t : Trail = c.self.inside.journal.trail in
     let since = c.in-Ok.ensures.since in
     rw (← c.self.view_is)
-    (log-back now t c.self.invariant.traced c.see_order.ensures (g.H.Rule.meaning c.self.inside.hook.now) c.args.name.now since.0 since.1 c.in-Ok.steps.now since.2)
+    (log-back now t c.self.invariant.traced c.see_order.ensures (g.H.Hook.hook c.self.inside.hook.now) c.args.name.now since.0 since.1 c.in-Ok.steps.now since.2)
 
 pub returns-in-Ok-clause-forward : goal.returns-in-Ok-clause-forward
 returns-in-Ok-clause-forward g c =
@@ -26,11 +26,11 @@ returns-in-Ok-clause-forward g c =
     let t : Trail = c.self.inside.journal.trail in
     let since = c.in-Ok.ensures.since in
     rw (← c.self.view_is)
-    (log-forward now t c.self.invariant.traced c.see_order.ensures (g.H.Rule.meaning c.self.inside.hook.now) c.args.name.now since.0 since.1 c.in-Ok.steps.now since.2)
+    (log-forward now t c.self.invariant.traced c.see_order.ensures (g.H.Hook.hook c.self.inside.hook.now) c.args.name.now since.0 since.1 c.in-Ok.steps.now since.2)
 
 pub returns-in-Err-clause-answers : goal.returns-in-Err-clause-answers
 returns-in-Err-clause-answers g c =
     let now : Content = c.self.inside.present.content in
     let t : Trail = c.self.inside.journal.trail in
     rw (c.in-Err.ensures.refused, ← c.self.view_is)
-    (log-refused now t c.self.invariant.traced c.see_order.ensures (g.H.Rule.meaning c.self.inside.hook.now) c.args.name.now (c.in-Err.ensures.unmarked.0 refl))
+    (log-refused now t c.self.invariant.traced c.see_order.ensures (g.H.Hook.hook c.self.inside.hook.now) c.args.name.now (c.in-Err.ensures.unmarked.0 refl))

@@ -18,7 +18,7 @@ returns-in_err-mark-clause-does g c =
     let now : Content = c.self.inside.present.content in
     let t : Trail = c.self.inside.journal.trail in
     let p = err_from_is_err_and c.from_residual.result c.from_residual.ensures.1 in
-    let hook = g.H.Rule.meaning c.self.inside.hook.now in
+    let hook = g.H.Hook.hook c.self.inside.hook.now in
     let refused = mark-refused now t c.self.invariant.traced c.see_order.ensures hook c.args.name.now c.in_err-mark.field-0.0
     (λ refusal is. (c.in_err-mark.ensures.refused refusal).0 (ap Err is)) in
     let is = p.1 ∙ ap Err p.2 in
@@ -30,7 +30,7 @@ pub invariant_of-self-2 : goal.invariant_of-self-2
 invariant_of-self-2 g c =
     let now : Content = c.self.inside.present.content in
     let t : Trail = c.self.inside.journal.trail in
-    held-marked c.self.inside.present t c.mark.new.self.trail c.args.name.now c.self.invariant c.see_order.ensures c.in_ok-mark.ensures.ok
+    held-marked (g.H.Hook.hook c.self.inside.hook.now) c.self.inside.present t c.mark.new.self.trail c.args.name.now c.self.invariant c.see_order.ensures c.in_ok-mark.ensures.ok
     (subst (λ (u : Trail). IsTraced now u) (sym c.in_ok-mark.ensures.ok) (traced-marked now t c.args.name.now c.self.invariant.traced c.see_order.ensures))
 
 pub returns-clause-does : goal.returns-clause-does
@@ -39,4 +39,4 @@ returns-clause-does g c =
     let t : Trail = c.self.inside.journal.trail in
     let free : HasMark t c.args.name.now → ⊥ = λ has. (let taken = (c.in_ok-mark.ensures.refused why.MarkTaken).1 (refl, has) in cc) in
     rw (← c.self.view_is)
-    (mark-obeyed now t c.self.invariant.traced c.see_order.ensures (g.H.Rule.meaning c.self.inside.hook.now) c.args.name.now free c.mark.new.self.trail c.in_ok-mark.ensures.ok)
+    (mark-obeyed now t c.self.invariant.traced c.see_order.ensures (g.H.Hook.hook c.self.inside.hook.now) c.args.name.now free c.mark.new.self.trail c.in_ok-mark.ensures.ok)

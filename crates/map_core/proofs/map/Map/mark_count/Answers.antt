@@ -22,3 +22,6 @@ returns-clause-traced g c =
     let now : Content = c.self.inside.present.content in
     let t : Trail = c.self.inside.journal.trail in
     rw (← c.self.view_is) (past-follow now t c.self.invariant.traced c.mark_count.ensures.ordered)
+
+pub returns-clause-rules : goal.returns-clause-rules
+returns-clause-rules g c = rw (← c.self.view_is) c.self.invariant.known

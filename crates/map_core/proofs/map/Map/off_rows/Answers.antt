@@ -5,4 +5,4 @@ use Rattle.map_core.proofs.map.Map.off_rows.Goals as goal
 pub returns : goal.returns
 returns g c =
     rw (← c.self.view_is)
-    (off-answered (g.H.Rule.meaning c.self.inside.hook.now) (told c.self.inside.present.content c.self.inside.journal.trail) c.off_rows.result c.off_rows.ensures.rows c.off_rows.ensures.answered c.off_rows.ensures.refused)
+    (off-answered (g.H.Hook.hook c.self.inside.hook.now) (told c.self.inside.present.content c.self.inside.journal.trail) c.off_rows.result c.off_rows.ensures.rows c.off_rows.ensures.answered c.off_rows.ensures.refused)

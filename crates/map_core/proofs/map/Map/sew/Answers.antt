@@ -10,7 +10,7 @@ returns-in_err-edit-clause-does g c =
     let n : ℕ = g.row.DIM in
     let rows : Rows = c.links-2.result.now.rows in
     let p = err_from_is_err_and c.from_residual-in_err-edit.result c.from_residual-in_err-edit.ensures.1 in
-    sew-refused k n rows (g.H.Rule.meaning c.args.self.now.hook) c.args.self.now.state c.links-2.ensures.kind c.links-2.ensures.dim c.links-2.ensures.rows c.links-2.ensures.kept
+    sew-refused k n rows (g.H.Hook.hook c.args.self.now.hook) c.args.self.now.state c.links-2.ensures.kind c.links-2.ensures.dim c.links-2.ensures.rows c.links-2.ensures.kept
     c.args.link c.args.dart c.in_ok-link.ensures.1 c.in_ok-dart.ensures.1
     c.args.other c.in_ok-other.ensures.1
     c.in_ok-link.link c.in_ok-dart.dart c.in_ok-other.other
@@ -26,7 +26,7 @@ returns-clause-does g c =
     let n : ℕ = g.row.DIM in
     let rows : Rows = c.links-2.result.now.rows in
     let made = c.in_ok-relink.ensures.made in
-    sew-obeyed k n rows (g.H.Rule.meaning c.args.self.now.hook) c.args.self.now.state c.links-2.ensures.kind c.links-2.ensures.dim c.links-2.ensures.rows c.links-2.ensures.kept
+    sew-obeyed k n rows (g.H.Hook.hook c.args.self.now.hook) c.args.self.now.state c.links-2.ensures.kind c.links-2.ensures.dim c.links-2.ensures.rows c.links-2.ensures.kept
     c.args.link c.args.dart c.in_ok-link.ensures.1 c.in_ok-dart.ensures.1
     c.in_ok-edit.edit c.in_ok-edit.ensures.fits c.in_ok-edit.ensures.births c.in_ok-edit.ensures.deaths
     c.relink.new.self.state made.0 made.1 made.2

@@ -15,8 +15,8 @@ take_back-requires g c =
     let since = c.in-Ok.ensures.since in (
       lit< tt,
       rw since.2 (
-        steps-lead c.self.inside.present.content t c.self.invariant.traced c.see_order.ensures (g.H.Rule.meaning c.self.inside.hook.now) c.args.name.now since.0 since.1,
-        room-since c.self.inside.present t c.self.invariant c.see_order.ensures c.args.name.now since.0 since.1,
+        steps-lead c.self.inside.present.content t c.self.invariant.traced c.see_order.ensures (g.H.Hook.hook c.self.inside.hook.now) c.args.name.now since.0 since.1,
+        room-since (g.H.Hook.hook c.self.inside.hook.now) c.self.inside.present t c.self.invariant c.see_order.ensures c.args.name.now since.0 since.1,
       ),
     )
 
@@ -25,7 +25,7 @@ returns-in-Err-clause-does g c =
     let now : Content = c.self.inside.present.content in
     let t : Trail = c.self.inside.journal.trail in
     rw (c.in-Err.ensures.refused, ← c.self.view_is)
-    (undo-refused now t c.self.invariant.traced c.see_order.ensures (g.H.Rule.meaning c.self.inside.hook.now) c.args.name.now (c.in-Err.ensures.unmarked.0 refl))
+    (undo-refused now t c.self.invariant.traced c.see_order.ensures (g.H.Hook.hook c.self.inside.hook.now) c.args.name.now (c.in-Err.ensures.unmarked.0 refl))
 
 -- the mark that the journal went back to is the one whose steps were taken back
 gone-to : (t u : Trail) → IsOrdered t → (name : List ℕ) (k : ℕ) → trails.IsMark t name k → (h : ℕ) × trails.IsMark t name h × (u ≡ back t h) → u ≡ back t k
@@ -40,8 +40,8 @@ invariant_of-self-2 g c =
     elim c.match-back_to.branch [
       | in-Ok-back_to w ↦
           let gone = gone-to t c.back_to.new.self.trail c.see_order.ensures c.args.name.now since.0 since.1 w.in-Ok-back_to.ensures.back in
-          held-back c.self.inside.present t c.self.invariant c.see_order.ensures c.args.name.now since.0 since.1 c.take_back.new.self c.back_to.new.self.trail before c.take_back.ensures.places gone
-          (undo-traced now t c.self.invariant.traced c.see_order.ensures (g.H.Rule.meaning c.self.inside.hook.now) c.args.name.now since.0 since.1
+          held-back (g.H.Hook.hook c.self.inside.hook.now) c.self.inside.present t c.self.invariant c.see_order.ensures c.args.name.now since.0 since.1 c.take_back.new.self c.back_to.new.self.trail before c.take_back.ensures.places gone
+          (undo-traced now t c.self.invariant.traced c.see_order.ensures (g.H.Hook.hook c.self.inside.hook.now) c.args.name.now since.0 since.1
           c.take_back.new.self.content before c.back_to.new.self.trail
           gone)
       | in-Err-back_to w ↦ absurd (w.in-Err-back_to.ensures.unmarked.0 refl (since.0, since.1))
@@ -56,7 +56,7 @@ returns-clause-does g c =
     elim c.match-back_to.branch [
       | in-Ok-back_to w ↦
           rw (w.result-is, ← c.self.view_is)
-          (undo-obeyed now t c.self.invariant.traced c.see_order.ensures (g.H.Rule.meaning c.self.inside.hook.now) c.args.name.now since.0 since.1
+          (undo-obeyed now t c.self.invariant.traced c.see_order.ensures (g.H.Hook.hook c.self.inside.hook.now) c.args.name.now since.0 since.1
           c.take_back.new.self.content before c.back_to.new.self.trail
           (gone-to t c.back_to.new.self.trail c.see_order.ensures c.args.name.now since.0 since.1 w.in-Ok-back_to.ensures.back))
       | in-Err-back_to w ↦ absurd (w.in-Err-back_to.ensures.unmarked.0 refl (since.0, since.1))

@@ -137,13 +137,13 @@ returns-in-Ok-clause-carried g c =
     subst (λ (r : Rows). AreAllTouched k rows r rules c.grow.new.self c.in-Ok.groups.items) is (c.in-Ok.ensures.cells rows here stored) in
     let deaths : c.deref.result.now ≡ e.deaths = c.deref.ensures.value ∙ ap (λ (x : Edit). x.deaths) c.edit.view_is in
     let relabelled = rw (deaths, c.deref-in-Ok.ensures.value) at c.relabel.ensures in
-    let hook = g.H.Rule.meaning c.args.hook.now in
+    let hook = g.H.Hook.hook c.args.hook.now in
     let carried : (h : ℕ) → h < length c.in-Ok.groups.items → HasCarriedValue k (links_of (after_edit n e rows)) (IsLive (after_edit n e rows)) (id_of c.grow.new.self) c.moved.new.pool hook rules (group_at c.in-Ok.groups.items h) =
     λ h lt. carried-pool k (links_of (after_edit n e rows)) (IsLive (after_edit n e rows)) c.grow.new.self c.self.inside.pool c.moved.new.pool hook rules (group_at c.in-Ok.groups.items h) c.moved.ensures.slots
     (subst (λ (r : Rows). HasCarriedValue k (links_of r) (IsLive r) (id_of c.grow.new.self) c.self.inside.pool hook rules (group_at c.in-Ok.groups.items h)) is (c.in-Ok.ensures.values h lt)) in
     let small : AreSmall rules c.moved.new.pool = λ i rule ruled. rw c.moved.ensures.slots (c.in-Ok.ensures.small i rule ruled) in
     let on = relink-carried k n rows e c.self.inside.labels c.self.inside.pool rules c.self.invariant fits few laws c.grow.new.self c.grow.ensures.ids c.grow.ensures.places grown c.moved.new.pool c.moved.ensures.slots
-    c.in-Ok.groups.items touched c.relabel.new.labels c.relabel.new.pool relabelled hook (g.met.H.Rule.whole c.args.hook.now) small carried in
+    c.in-Ok.groups.items touched c.relabel.new.labels c.relabel.new.pool relabelled hook ((g.met.H.Hook.lawful c.args.hook.now c.requires.ready).whole) small carried in
     rw (← c.self.view_is)
     (subst (λ (r : Rows). IsCarriedOn hook (content_of k n rows c.self.inside.labels c.self.inside.pool rules) (after_edit n e rows) (content_of k n r c.relabel.new.labels c.relabel.new.pool rules)) (sym is) on)
 

@@ -1,0 +1,4 @@
+pub mod Rules
+pub mod Books
+pub mod Faults
+pub mod BookFacts

@@ -1,0 +1,2 @@
+pub mod ObeyedFacts
+pub mod TotalFacts
