@@ -234,11 +234,12 @@ ROWS = [
     ("code", [
         ("example, tests", ["first_map", "map_rows", "map_calls"]),
         ("program", ["cellmap", "map_run", "script_text"]),
-        ("the map", ["map_core", "valued_map", "undo_journal", "mesh_build"]),
+        ("the map", ["map_soak", "map_core", "valued_map", "undo_journal", "mesh_build"]),
         ("plans", ["kind_edit", "alpha_edit", "beta_edit", "face_center"]),
         ("and their parts", ["cell_edit", "sewing", "dual_map"]),
-        ("text", ["list_text", "off_text", "text_lines", "text_words", "map_io"]),
-        ("values", ["transport", "attr_pool", "attr_rules"]),
+        ("text", ["list_text", "off_text"]),
+        ("values", ["transport", "attr_pool", "hook_book", "attr_rules"]),
+        ("words, lines", ["text_lines", "text_words", "map_io"]),
         ("rows", ["cell_walk", "link_rows", "dart_arena", "map_kind"]),
     ]),
     ("laws", [
