@@ -13,19 +13,19 @@ use Rattle.map_defs.specs.Removal.{IsRemovable}
 use Rattle.map_defs.specs.Contraction.{IsContractible}
 use Rattle.machine_defs.specs.State.{Content, State, Mark, value_at, without_dart, steps_to}
 use Rattle.machine_defs.specs.Kept.{IsLawfulContent, IsLawfulState}
-use Rattle.machine_defs.specs.Relinking.{IsRelinked, IsGrown}
-use Rattle.machine_defs.specs.Marking.{IsMark, with_mark, back_to, since}
+use Rattle.machine_defs.specs.Relinking.{IsRelinked, IsGrown, IsHungWith}
+use Rattle.machine_defs.specs.Marking.{IsMark, with_mark, back_to, forth_to, since}
 use Rattle.machine_defs.specs.Listing.{names_of, listing_with}
 use Rattle.machine_defs.specs.Script as says
 use Rattle.machine_defs.specs.Script.{Line}
 use Rattle.machine_defs.specs.Text.{Reply, Done, Darts, CellValue, Counts, Shown, Logged, Meshed}
-use Rattle.machine_defs.specs.Machine.{Effect, Gives, InsertsDarts, Values, checks, links_in, with_polygon, with_dart, with_rule}
+use Rattle.machine_defs.specs.Machine.{Effect, Gives, InsertsDarts, HangsEdges, Values, checks, links_in, with_polygon, with_dart, with_rule, first_born}
 use Rattle.journal_laws.specs.Following.{AllFollow}
 use Rattle.machine_laws.specs.Tracing.{AreTraced}
 use Rattle.machine_laws.proofs.Judging.{AllPass}
 use Rattle.machine_laws.proofs.Keeping.{laws-of, dead-at}
 use Rattle.machine_laws.proofs.Marked.{at-mark}
-use Rattle.machine_laws.proofs.OneStep.{not-above}
+use Rattle.machine_laws.proofs.OneStep.{not-above, closing-own}
 use Rattle.machine_laws.proofs.Traced.{follow-rest}
 use Rattle.answer_laws.specs.Answering.{NotNot, AnswerNeeds}
 use Rattle.answer_laws.proofs.Checked.{Has}
@@ -36,7 +36,7 @@ use Rattle.answer_laws.proofs.ValuedFound.{valued_found}
 use Rattle.answer_laws.proofs.SewnFound.{sewn_found, unsewn_found}
 use Rattle.answer_laws.proofs.DualFound.{dual_found}
 use Rattle.answer_laws.proofs.RemovedFound.{removed_found, contracted_found}
-use Rattle.answer_laws.proofs.GrownFound.{vertex_found, edge_found, face_found}
+use Rattle.answer_laws.proofs.GrownFound.{vertex_found, edge_found, face_found, closing_found, dangle_found, centre_found}
 
 some-is : {X : Type 0} (o : Option X) → IsSome o → (x : X) × (o ≡ Some x)
 some-is None h = absurd (cc (h))
@@ -63,7 +63,12 @@ module _ (hook : Hook) (s : State) (kept : IsLawfulState s) where
   inserts : (K : ℕ → Type 0) (Becomes : (ℕ → ℕ) → Links → Type 0) → NotNot ((births : ℕ) × (next : Content) × IsGrown hook c K Becomes births next)
       → NotNot (Has (InsertsDarts hook s K Becomes))
   inserts K Becomes found never = found (λ after.
-      never (Done (made c.rows + 1) after.0, steps_to s after.1, (after.0, after.1, after.2, refl, refl)))
+      never (Done (first_born c after.0) after.0, steps_to s after.1, (after.0, after.1, after.2, refl, refl)))
+
+  hangs : (K : ℕ → Type 0) (Becomes : (ℕ → ℕ) → (ℕ → ℕ) → Links → Type 0) → NotNot ((births : ℕ) × (next : Content) × IsHungWith hook c K Becomes births next)
+      → NotNot (Has (HangsEdges hook s K Becomes))
+  hangs K Becomes found never = found (λ after.
+      never (Done (first_born c after.0) after.0, steps_to s after.1, (after.0, after.1, after.2, refl, refl)))
 
   values : (i d : ℕ) (value : Option Value) → i ≤ c.dim → IsLive c.rows d → NotNot (Has (Values s i d value))
   values i d value within live never = valued_found c kept.present i d within live value (λ after.
@@ -73,7 +78,7 @@ module _ (hook : Hook) (s : State) (kept : IsLawfulState s) where
   module _ (traced : AreTraced s) (name : List ℕ) (k : ℕ) (mark : Mark) (is : IsMark s.marks name k mark) where
     since-follows : AllFollow (since s mark)
     since-follows = subst AllFollow (drop-append-le mark.place s.past (s.present ∷ []) (at-mark (λ m. m.place ≤ length s.past) s.marks name k mark kept.marked.within is))
-        (follow-rest mark.place (s.past ++ s.present ∷ []) traced)
+        (follow-rest mark.place (s.past ++ s.present ∷ []) traced.present)
 
     since-begun : All (λ (a : Content). 1 ≤ length a.rows) (since s mark)
     since-begun = All-weaker IsLawfulContent (λ (a : Content). 1 ≤ length a.rows) (λ a lawful. lawful.begun) (since s mark)
@@ -96,6 +101,9 @@ module _ (hook : Hook) (s : State) (kept : IsLawfulState s) where
   effect_found (says.Remove i d) needs p = changes _ _ (removed_found c kept.present d (dart d p.1.0) hook i (not-above p.0) p.1.1.0)
   effect_found (says.Contract i d) needs p = changes _ _ (contracted_found c kept.present d (dart d p.1.0) hook i (not-above p.0) p.1.1.0)
   effect_found says.Dual needs p = λ never. let dual = dual_found c kept.present in never (Done 0 0, steps_to s dual.0, (dual.0, dual.1, refl, refl))
+  effect_found (says.Close i) needs p = inserts _ _ (closing_found c kept.present hook i (closing-own c.kind i c.dim p.0) (not-above (λ h. p.0 (inl h))))
+  effect_found (says.Dangle d) needs p = hangs _ _ (dangle_found c kept.present hook d p.0 p.1.0)
+  effect_found (says.Center d) needs p = hangs _ _ (centre_found c kept.present hook d p.0)
   effect_found (says.Rule i merge split) needs p = λ never.
       let m = some-is (named_merge hook.names merge) p.1.0.0 in
       let q = some-is (named_split hook.names split) p.1.0.1 in
@@ -105,6 +113,7 @@ module _ (hook : Hook) (s : State) (kept : IsLawfulState s) where
   effect_found (says.Clear i d) needs p = values i d None (not-above p.0) p.1.0
   effect_found (says.Mark name) needs p = gives (Done 0 0) (with_mark s name)
   effect_found (says.Undo name) needs p = λ never. never (Done 0 0, back_to s p.0.0 p.0.1, (p.0.0, p.0.1, p.0.2, (refl, refl)))
+  effect_found (says.Redo name) needs p = λ never. never (Done 0 0, forth_to p.0.0 p.0.1, (p.0.0, p.0.1, p.0.2, (refl, refl)))
   effect_found (says.Log name) needs p = logged needs name p.0.0 p.0.1 p.0.2
   effect_found (says.Value i d) needs p = gives (CellValue (value_at c i d)) s
   effect_found (says.Cell i d) needs p = λ never. cell_found c.kind c.rows (laws-of c kept.present) i d p.1.0 (λ darts.

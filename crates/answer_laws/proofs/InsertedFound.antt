@@ -61,7 +61,7 @@ module _ (k : Kind) (i : ℕ) (own : inverse k i ≡ i) (P : ℕ → ℕ → ℕ
   leads-other t x y (along d f) g = IsDistant-apart k i t d (sym g)
   leads-other t x y (paired p) g = below_apart k i t (just x y t p) g
 
-module _ (c : Content) (kept : IsLawfulContent c) (k : Kind) (w : Laws k (links_of c.rows)) (i : ℕ) (low : suc i ≤ c.dim) (K : ℕ → Type 0) (live : (x : ℕ) → K x → IsLive c.rows x)
+module _ (c : Content) (kept : IsLawfulContent c) (k : Kind) (w : Laws k (links_of c.rows)) (i : ℕ) (within : i ≤ c.dim) (K : ℕ → Type 0) (top : c.dim < suc i → (x : ℕ) → K x → links_of c.rows i x ≡ 0) (live : (x : ℕ) → K x → IsLive c.rows x)
     (P : ℕ → ℕ → ℕ → Type 0) (can : IsInsertable k i K P (links_of c.rows)) (one : (x y z t : ℕ) → P x y t → P x z t → y ≡ z)
     (keys : List ℕ) (star : ℕ → ℕ) (m : IsNumbered K keys (made c.rows) star) where
   abbrev L : Links
@@ -131,13 +131,13 @@ module _ (c : Content) (kept : IsLawfulContent c) (k : Kind) (w : Laws k (links_
     )
   ])
 
-  above-leads : (t z v : ℕ) → c.dim < t → Leads k i P L t z v → 0 ≡ star v
-  above-leads t z v h (over e g) = absurd (omega arith)
-  above-leads t z v h (along d g) =
+  above-leads : (t z v : ℕ) → c.dim < t → K z → Leads k i P L t z v → 0 ≡ star v
+  above-leads t z v h in-set (over e g) = sym (ap star (g ∙ top (omega arith) z in-set) ∙ f.nothing)
+  above-leads t z v h in-set (along d g) =
       let flat = kept.flat in
       let none : L (inverse k t) z ≡ 0 = ap (λ (j : ℕ). L j z) (inverse_own k t (omega arith)) ∙ high-free c kept t z h in
       sym (ap star (g ∙ none) ∙ f.nothing)
-  above-leads t z v h (paired p) = absurd (let e = just z v t p in let a = place-upto k i in let b = place-from k t in omega arith)
+  above-leads t z v h in-set (paired p) = absurd (let e = just z v t p in let a = place-upto k i in let b = place-from k t in omega arith)
 
   inserts-tells : TellsLinks c kept (length keys) NoDart Inserts
   inserts-tells = record {
@@ -148,7 +148,7 @@ module _ (c : Content) (kept : IsLawfulContent c) (k : Kind) (w : Laws k (links_
     above = λ t x h. record {
       new = λ h' e'. absurd (omega arith);
       old = λ z h' e' own'. absurd (omega arith);
-      leads = λ z v h' e' l. above-leads t z v h l;
+      leads = λ z v h' e' l. above-leads t z v h h' l;
       others = λ apart none. sym (high-free c kept t x h);
     };
     outside = λ t x dead. record {

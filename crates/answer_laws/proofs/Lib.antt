@@ -16,6 +16,8 @@ pub mod Bridged
 pub mod RemovedFound
 pub mod Numbered
 pub mod InsertedFound
+pub mod ClosedFound
+pub mod HungFound
 pub mod SplitFound
 pub mod CutFound
 pub mod GrownFound

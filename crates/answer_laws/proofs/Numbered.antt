@@ -1,5 +1,5 @@
 -- New darts for a bounded set of darts are numbered, and an insertion leads to a content.
-use Rattle.std.proofs.Common.{◌≡◌, ◌↔◌, ℕ, ◌+◌, ◌<◌, List, length, Contains, refl, sym, ap, ◌∙◌, subst, inl, inr, arith}
+use Rattle.std.proofs.Common.{◌≡◌, ◌↔◌, ℕ, zero, suc, ◌+◌, ◌<◌, List, length, Contains, refl, sym, ap, ◌∙◌, subst, inl, inr, arith}
 use Rattle.std.specs.Prelude.{slice_index}
 use Rattle.std.specs.List.Sorted.{IsStrictlyIncreasing}
 use Rattle.std.proofs.lemmas.List.Elements.{Contains-get_or}
@@ -9,7 +9,7 @@ use Rattle.map_defs.specs.Births.{IsNumbered, IsFresh}
 use Rattle.map_defs.specs.Values.{Hook}
 use Rattle.machine_defs.specs.State.{Content}
 use Rattle.machine_defs.specs.Kept.{IsLawfulContent}
-use Rattle.machine_defs.specs.Relinking.{NoDart, IsGrown}
+use Rattle.machine_defs.specs.Relinking.{NoDart, IsGrown, IsHungWith}
 use Rattle.link_laws.proofs.RowFacts.{rows_made}
 use Rattle.edit_laws.proofs.RowWrites.{live-within}
 use Rattle.value_laws.proofs.Rising.{rising_place}
@@ -84,3 +84,33 @@ module _ (c : Content) (kept : IsLawfulContent c) (K : ℕ → Type 0) (live : (
   grown_found hook Becomes links never = numbered_found (λ found. links found.0 found.1 found.2 (λ made_links.
       content_found c kept (length found.0) NoDart hook (Becomes found.1) made_links.0 made_links.2 made_links.1 (λ after.
       never (length found.0, after.0, record { keys = found.0; star = found.1; numbered = found.2; counted = refl; relinked = after.1 }))))
+
+  -- numbers that are so much higher; nothing stays nothing
+  higher : ℕ → ℕ → ℕ
+  higher n zero = zero
+  higher n (suc s) = suc s + n
+
+  second-series : (keys : List ℕ) (star : ℕ → ℕ) → IsNumbered K keys (made c.rows) star → IsNumbered K keys (made c.rows + length keys) (λ x. higher (length keys) (star x))
+  unfolding higher
+  second-series keys star m = record {
+    nothing = ap (higher (length keys)) m.nothing;
+    ascending = m.ascending;
+    members = m.members;
+    numbers = λ p l. ap (higher (length keys)) (m.numbers p l ∙ (let e : made c.rows + 1 + p ≡ suc (made c.rows + p) = omega arith in e)) ∙ omega arith;
+  }
+
+  -- and the same of edges that are hung, with two series of new darts
+  pub hung_with_found : (hook : Hook) (Becomes : (ℕ → ℕ) → (ℕ → ℕ) → Links → Type 0)
+      → ((keys : List ℕ) (star tip : ℕ → ℕ) → IsNumbered K keys (made c.rows) star → IsNumbered K keys (made c.rows + length keys) tip
+      → NotNot ((N : Links) × Becomes star tip N × AreLinksAfter c kept (length keys + length keys) NoDart N))
+      → NotNot ((births : ℕ) × (next : Content) × IsHungWith hook c K Becomes births next)
+  hung_with_found hook Becomes links never = numbered_found (λ found.
+      let tip : ℕ → ℕ = λ x. higher (length found.0) (found.1 x) in
+      let later = second-series found.0 found.1 found.2 in
+      links found.0 found.1 tip found.2 later (λ made_links.
+      content_found c kept (length found.0 + length found.0) NoDart hook (Becomes found.1 tip) made_links.0 made_links.2 made_links.1 (λ after.
+      never (
+        length found.0 + length found.0,
+        after.0,
+        record { keys = found.0; star = found.1; tip = tip; begins = found.2; ends = later; counted = refl; relinked = after.1 },
+      ))))

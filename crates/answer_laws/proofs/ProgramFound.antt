@@ -15,6 +15,7 @@ use Rattle.machine_defs.specs.Outside.{Files, held}
 use Rattle.machine_defs.specs.Program.{Command, RunScript, Audit, Soak, IsOffered, TellsCommand, FileAnswer, ScriptAnswer, MeshAnswer, CommandAnswer, untold, told, Starts, usage, cannot_read, too_long, file_limit, run_status}
 use Rattle.loading_laws.proofs.MeshContent.{has-map}
 use Rattle.machine_laws.specs.Tracing.{AreTraced}
+use Rattle.machine_laws.proofs.Traced.{first-traced}
 use Rattle.machine_laws.proofs.Begun.{empty-kept}
 use Rattle.machine_laws.proofs.Programs.{loaded-kept, front-one}
 use Rattle.answer_laws.specs.Answering.{NotNot, HasAnswer, HasWhole}
@@ -46,7 +47,7 @@ module _ (hook : Hook) (k : Kind) (n : ℕ) (flat : 2 ≤ n) (text script : List
   sound_found mesh read None e = λ never.
       let map = has-map k n mesh flat e in
       let loaded : IsLoaded k n text (first_state map.0) = record { mesh = mesh; read = read; sound = e; content = map.0; is = map.1; begun = refl } in
-      script_found hook (first_state map.0) script (loaded-kept k n text (first_state map.0) flat loaded) tt (λ answer.
+      script_found hook (first_state map.0) script (loaded-kept k n text (first_state map.0) flat loaded) (first-traced map.0) (λ answer.
       never (answer.0, answer.1, inr (first_state map.0, loaded, answer.2)))
 
   read_found : (mesh : Result Mesh TextFault) → mesh_of text ≡ mesh → NotNot (HasText (MeshAnswer hook k n text script))
@@ -55,7 +56,7 @@ module _ (hook : Hook) (k : Kind) (n : ℕ) (flat : 2 ≤ n) (text script : List
 
 command_found : (hook : Hook) (files : Files) (c : Command) → IsOffered c → NotNot (HasText (CommandAnswer hook files c))
 command_found hook files (RunScript k n None script) offered =
-    file_found (held files script) (ScriptAnswer hook (empty_state k n)) (λ bytes. script_found hook (empty_state k n) bytes (empty-kept k n offered.0) tt)
+    file_found (held files script) (ScriptAnswer hook (empty_state k n)) (λ bytes. script_found hook (empty_state k n) bytes (empty-kept k n offered.0) (first-traced _))
 command_found hook files (RunScript k n (Some name) script) offered =
     file_found (held files name) (λ mesh. FileAnswer (held files script) (MeshAnswer hook k n mesh))
     (λ mesh. file_found (held files script) (MeshAnswer hook k n mesh) (λ bytes. read_found hook k n offered.0 mesh bytes (mesh_of mesh) refl))

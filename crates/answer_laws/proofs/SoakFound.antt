@@ -11,6 +11,7 @@ use Rattle.machine_defs.specs.Text.{Reply, Counts, reply_text, any_refused, run_
 use Rattle.machine_defs.specs.Listing.{listed_total}
 use Rattle.machine_defs.specs.Soaking.{Takes, TakesSquares, Soaks, SoakAnswer, square_lines, drawn, next_seed, accepted, soak_line}
 use Rattle.machine_laws.specs.Tracing.{AreTraced}
+use Rattle.machine_laws.proofs.Traced.{first-traced}
 use Rattle.machine_laws.proofs.OneStep.{step-kept, step-traced}
 use Rattle.machine_laws.proofs.Begun.{empty-kept}
 use Rattle.answer_laws.specs.Answering.{NotNot}
@@ -39,7 +40,7 @@ module _ (hook : Hook) where
   soaks_found : (kind : Kind) (seed count : ℕ) → NotNot (Reached (Soaks hook kind seed count))
   soaks_found kind seed count never =
       let kept = empty-kept kind 2 (omega arith) in
-      takes_found (empty_state kind 2) (Rule 2 (codes "sum") (codes "share") ∷ []) kept tt (λ first.
+      takes_found (empty_state kind 2) (Rule 2 (codes "sum") (codes "share") ∷ []) kept (first-traced _) (λ first.
       let begun = first.2 in
       squares_found kind None seed count first.1 first.3 first.4 (λ rest.
       never (begun.0 ∷ rest.0, rest.1, (begun.0, rest.0, first.1, rw begun.4.1 begun.3, rest.2, refl), rest.3, rest.4)))

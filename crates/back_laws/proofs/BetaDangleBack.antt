@@ -15,7 +15,7 @@ use Rattle.link_laws.proofs.InverseLinks.{turned_one, turned_of_laws}
 use Rattle.link_laws.proofs.Orbits.{orbit_back, orbit_trans}
 use Rattle.remove_laws.proofs.TotalSteps.{step_free, step_there}
 use Rattle.insert_laws.proofs.Fresh.{IsNew, fresh_link, fresh_old}
-use Rattle.center_laws.proofs.BetaDangle.{begins, dangle_keeps}
+use Rattle.center_laws.proofs.BetaDangle.{corner_begins, dangle_keeps}
 use Rattle.back_laws.proofs.VertexBack.{high_word, edge_word_back}
 
 module _ (L : Links) (w : Laws beta L) (d : ℕ) (linked : L 0 d ≢ 0) (star tip : ℕ → ℕ) (fresh_star : IsFresh L (InBetaCorner L d) star) (fresh_tip : IsFresh L (InBetaCorner L d) tip) (two : (x y : ℕ) → InBetaCorner L d x → InBetaCorner L d y → star x ≢ tip y) (N : Links) (s : IsBetaDangled d star tip L N) where
@@ -156,7 +156,7 @@ module _ (L : Links) (w : Laws beta L) (d : ℕ) (linked : L 0 d ≢ 0) (star ti
           (λ n. by_cases (ComesBefore x) (M 1 x) (L 1 x)
           (λ (c, h, e).
           let k : InCell beta N 1 (star x0) (L 0 c) → ⊥ = outside (L 0 c) (old_link 0 c) in
-          rw e (r.lands (L 0 c) c k (walk_corner c h) ∙ sym (w.back 0 c (begins L w d linked star tip fresh_star fresh_tip two N s c h))))
+          rw e (r.lands (L 0 c) c k (walk_corner c h) ∙ sym (w.back 0 c (corner_begins L w d linked c h))))
           (λ m. r.lands x (L 1 x) (outside x n) (walk_else x n m)))
 
       high_back : (t x : ℕ) → 2 ≤ t → M t x ≡ L t x

@@ -25,7 +25,7 @@ use Rattle.beta_edit.specs.Cutting.{IsTurnEntry, AreCutEntries, AreTurns}
 use Rattle.beta_edit.proofs.WayPlaces.{places-apart}
 use Rattle.beta_edit.proofs.CutEntries.{corner-place}
 use Rattle.beta_edit.proofs.GrowthFacts.{key-made, keys-numbered, keys-fresh, link-old, old-lives, new-lives}
-use Rattle.beta_edit.proofs.EntryEdit.{growing, written, left, entries-fit}
+use Rattle.cell_edit.proofs.EntryEdit.{growing, written, left, entries-fit}
 
 -- a triple before a place of an ascending list comes before the triple there
 pub before-place : (qs : List Triple) → IsAscending qs → (p : ℕ) (q u : Triple) → p < length qs → q ≡ get_or qs p q → Contains (take p qs) u → IsBefore u q

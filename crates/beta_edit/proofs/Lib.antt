@@ -1,4 +1,3 @@
-mod Appending
 mod CellEnds
 mod CellTold
 mod CornerList
@@ -10,10 +9,8 @@ mod DrawnEntries
 mod DrawnTurned
 mod EdgePlan
 mod EdgeTurns
-mod EntryEdit
 mod GrowthFacts
 mod HighEnds
-mod Listed
 mod SameCells
 mod SplitEdit
 mod SplitEntries

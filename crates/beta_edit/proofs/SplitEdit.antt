@@ -23,7 +23,7 @@ use Rattle.beta_edit.specs.Splitting.{IsSplitEntry, AreSplitEntries, IsWholeEdge
 use Rattle.beta_edit.proofs.WayPlaces.{places-apart}
 use Rattle.beta_edit.proofs.SplitEntries.{split-place}
 use Rattle.beta_edit.proofs.GrowthFacts.{key-live, key-dart, key-made, keys-numbered, keys-fresh, link-old, old-lives, new-lives}
-use Rattle.beta_edit.proofs.EntryEdit.{growing, written, left, entries-fit}
+use Rattle.cell_edit.proofs.EntryEdit.{growing, written, left, entries-fit}
 
 module _ (n : ℕ) (rows : Rows) (sound : IsSound beta n rows) (dim : 2 ≤ n) (w : Laws beta (links_of rows)) (stars : Stars) (whole : IsWholeEdge rows stars) where
   abbrev L : Links

@@ -6,7 +6,7 @@ use Rattle.map_defs.specs.Edits.{Change}
 use Rattle.cell_edit.specs.Writing.{Appends}
 use Rattle.beta_edit.specs.Ways.{IsOneEntry, IsWayEntry}
 use Rattle.beta_edit.specs.Splitting.{IsBehindEntry, IsSideEntry, IsSplitEntry}
-use Rattle.beta_edit.proofs.Appending.{appends-then, appends-same}
+use Rattle.cell_edit.proofs.Appending.{appends-then, appends-same}
 use Rattle.beta_edit.proofs.WayPlaces.{IsWayPlace, before, on, after}
 
 module _ (L : Links) (star : ℕ → ℕ) (x : ℕ) where

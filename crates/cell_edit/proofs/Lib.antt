@@ -13,3 +13,6 @@ mod FacePlan
 pub mod WalkTurns
 mod BridgeEntries
 mod EndingEdit
+pub mod Appending
+pub mod EntryEdit
+pub mod Listed

@@ -14,14 +14,19 @@ use Rattle.insert_laws.proofs.Fresh.{IsNew, InOrNone, fresh_link, fresh_old, fre
 use Rattle.insert_laws.proofs.BetaParts.{laws_from_parts, onward_of, backward_of, high_of, back_of, apart_of, alike_backward}
 use Rattle.insert_laws.proofs.BetaEdge.{before_copy}
 
-module _ (L : Links) (w : Laws beta L) (d : ℕ) (linked : L 0 d ≢ 0) (star tip : ℕ → ℕ) (fresh_star : IsFresh L (InBetaCorner L d) star) (fresh_tip : IsFresh L (InBetaCorner L d) tip) (two : (x y : ℕ) → InBetaCorner L d x → InBetaCorner L d y → star x ≢ tip y) (N : Links) (s : IsBetaDangled d star tip L N) where
-  pub begins : (x : ℕ) → InBetaCorner L d x → L 0 x ≢ 0
-  begins x here = linked
-  begins x (onward {x = u} {y = v} o (word, (j, l, e), q, n)) =
+-- some side leads into each copy of a corner that a side leads into
+module _ (L : Links) (w : Laws beta L) (d : ℕ) (linked : L 0 d ≢ 0) where
+  pub corner_begins : (x : ℕ) → InBetaCorner L d x → L 0 x ≢ 0
+  corner_begins x here = linked
+  corner_begins x (onward {x = u} {y = v} o (word, (j, l, e), q, n)) =
       let a : L j (L 0 u) ≡ v = ap (λ t. through L t u) (sym e) ∙ q in
-      let h0 : L 0 u ≢ 0 = begins u o in
+      let h0 : L 0 u ≢ 0 = corner_begins u o in
       let b : L 0 v ≡ L j u = ap (L 0) (sym a) ∙ before_copy L w j u l h0 in
       λ z. n (sym a ∙ (alike_backward L w j u l h0).0 (sym b ∙ z))
+
+module _ (L : Links) (w : Laws beta L) (d : ℕ) (linked : L 0 d ≢ 0) (star tip : ℕ → ℕ) (fresh_star : IsFresh L (InBetaCorner L d) star) (fresh_tip : IsFresh L (InBetaCorner L d) tip) (two : (x y : ℕ) → InBetaCorner L d x → InBetaCorner L d y → star x ≢ tip y) (N : Links) (s : IsBetaDangled d star tip L N) where
+  begins : (x : ℕ) → InBetaCorner L d x → L 0 x ≢ 0
+  begins = corner_begins L w d linked
 
   dart : (x : ℕ) → InBetaCorner L d x → x ≢ 0
   dart x h = dart_of_link beta L w 0 x (begins x h)

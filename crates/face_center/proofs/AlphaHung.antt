@@ -13,7 +13,7 @@ use Rattle.cell_edit.specs.Writing.{WritesEntries}
 use Rattle.face_center.specs.declared.hanging.Hanging.{Hanging}
 use Rattle.face_center.specs.Hanging.{tip_of, turning, CanHang}
 use Rattle.face_center.specs.Planning.{PlansHanging}
-use Rattle.face_center.proofs.EntryEdit.{growing, entries-fit}
+use Rattle.cell_edit.proofs.EntryEdit.{growing, entries-fit}
 use Rattle.face_center.proofs.Tips.{begins-number, ends-number}
 use Rattle.face_center.proofs.HungFacts.{star-fresh, tip-fresh, star-tip}
 use Rattle.face_center.proofs.HungLinks.{Entry, lives, inside, star-links, tip-links, first-links, kept-links}

@@ -11,7 +11,7 @@ use Rattle.cell_edit.specs.Stars.{Stars, star_of}
 use Rattle.cell_edit.specs.Writing.{WritesEntries}
 use Rattle.face_center.specs.declared.hanging.Hanging.{Hanging}
 use Rattle.face_center.specs.Hanging.{tip_of, before, CanHang}
-use Rattle.face_center.proofs.EntryEdit.{growing}
+use Rattle.cell_edit.proofs.EntryEdit.{growing}
 use Rattle.face_center.proofs.HungFacts.{star-fresh, tip-fresh}
 use Rattle.face_center.proofs.HungLinks.{Entry, star-links, tip-links, first-links, back-links, kept-links}
 

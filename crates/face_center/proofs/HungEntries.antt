@@ -7,7 +7,7 @@ use Rattle.map_defs.specs.Edits.{Change}
 use Rattle.cell_edit.specs.Writing.{Appends}
 use Rattle.face_center.specs.declared.hanging.Hanging.{Hanging}
 use Rattle.face_center.specs.Hanging.{before, star_link, tip_link, IsLinkEntry, IsNewEntry, IsOldEntry, IsHungEntry}
-use Rattle.face_center.proofs.Appending.{appends-none, appends-then, appends-same}
+use Rattle.cell_edit.proofs.Appending.{appends-none, appends-then, appends-same}
 
 module _ (k : Kind) (h : Hanging) (L : Links) (star tip : ℕ → ℕ) (x : ℕ) where
   -- ---- the links of the new darts, one after another

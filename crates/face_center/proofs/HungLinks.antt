@@ -11,7 +11,7 @@ use Rattle.cell_edit.specs.Stars.{Stars, star_of}
 use Rattle.cell_edit.specs.Writing.{WritesEntries}
 use Rattle.face_center.specs.declared.hanging.Hanging.{Hanging}
 use Rattle.face_center.specs.Hanging.{tip_of, before, star_link, tip_link, AreHungEntries, CanHang}
-use Rattle.face_center.proofs.EntryEdit.{growing, written, left}
+use Rattle.cell_edit.proofs.EntryEdit.{growing, written, left}
 use Rattle.face_center.proofs.Tips.{star-none, tip-none}
 use Rattle.face_center.proofs.HungFacts.{key-live, key-made, star-fresh, tip-fresh, star-tip, star-above, tip-above, old-lives, star-lives, tip-lives}
 use Rattle.face_center.proofs.HungPlaces.{before-made}

@@ -1,16 +1,13 @@
 mod AlphaHung
-mod Appending
 mod BetaHung
 mod BetaPlans
 mod CornerWords
-mod EntryEdit
 mod Hangable
 mod HungEntries
 mod HungFacts
 mod HungLinks
 mod HungPlaces
 mod KindFacts
-mod Listed
 mod Plans
 mod SameSets
 mod Tips

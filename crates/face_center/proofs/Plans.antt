@@ -12,8 +12,9 @@ use Rattle.center_laws.proofs.HangingSets.{corner_hangs, face_hangs}
 use Rattle.cell_edit.proofs.Premises.{live-dart}
 use Rattle.face_center.specs.declared.hanging.Hanging.TheVariants.{Corner, Face}
 use Rattle.face_center.specs.Hanging.{CanHang, HangsEdges}
-use Rattle.face_center.specs.Planning.{PlansHanging, IsDangled, IsCentred}
-use Rattle.face_center.proofs.EntryEdit.{growing}
+use Rattle.map_defs.specs.Closing.{IsDangled, IsCentred}
+use Rattle.face_center.specs.Planning.{PlansHanging}
+use Rattle.cell_edit.proofs.EntryEdit.{growing}
 use Rattle.face_center.proofs.AlphaHung.{alpha-hangs}
 use Rattle.face_center.proofs.BetaPlans.{dangle-hangs, centre-hangs}
 use Rattle.face_center.proofs.Hangable.{stars_of, alpha-can, alpha-corner-live, cell-live, corner-can, corner-round, face-can, face-round}

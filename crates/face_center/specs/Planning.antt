@@ -12,22 +12,7 @@ use Rattle.map_defs.specs.Births.{IsNumbered}
 use Rattle.map_defs.specs.Edits.{Edit, Fits, after_edit}
 use Rattle.map_defs.specs.Cells.{InCell}
 use Rattle.map_defs.specs.Inserting.{InCorner}
-use Rattle.map_defs.specs.Closing.{IsAlphaDangled, IsBetaDangled, IsAlphaCentred, IsBetaCentred, IsClosedFace}
-
--- a dangling edge at the corner of d
-abbrev pub IsDangled : Kind → ℕ → (ℕ → ℕ) → (ℕ → ℕ) → Links → Links → Type 0
-IsDangled alpha = IsAlphaDangled
-IsDangled beta = IsBetaDangled
-
--- a vertex in the middle of the face of d
-abbrev pub IsCentred : Kind → ℕ → (ℕ → ℕ) → (ℕ → ℕ) → Links → Links → Type 0
-IsCentred alpha = IsAlphaCentred
-IsCentred beta = IsBetaCentred
-
--- a dangling edge is possible at the corner of d: in a combinatorial map some side leads into the corner
-abbrev pub CanDangle : Kind → Links → ℕ → Type 0
-CanDangle alpha L d = Unit {0}
-CanDangle beta L d = L 0 d ≢ 0
+use Rattle.map_defs.specs.Closing.{IsDangled, CanDangle, IsCentred, IsClosedFace}
 
 -- The edit fits the rows of a map of kind k and dimension n. It makes two new darts for each dart of K, and ends none: first
 -- all those where the new edges begin, in the order of the darts of K, and after these, in the same order, those where they

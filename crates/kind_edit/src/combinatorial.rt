@@ -63,6 +63,22 @@ impl<const DIM: usize> Plans<Links<Beta, DIM>> for Beta {
         beta_edit::contractible(alloc, links, dim, dart)
     }
 
+    fn close_plan(
+        alloc: Global,
+        links: &Links<Beta, DIM>,
+        link: usize,
+    ) -> Result<Edit, AllocError> {
+        map_close::beta::close_plan(alloc, links, link)
+    }
+
+    fn dangle_plan(alloc: Global, links: &Links<Beta, DIM>, dart: Dart) -> Result<Edit, Refused> {
+        face_center::beta::dangle_plan(alloc, links, dart)
+    }
+
+    fn center_plan(alloc: Global, links: &Links<Beta, DIM>, dart: Dart) -> Result<Edit, Refused> {
+        face_center::beta::center_plan(alloc, links, dart)
+    }
+
     /// It takes no memory.
     fn take_dual(_alloc: Global, links: &mut Links<Beta, DIM>) -> Result<(), Refused> {
         Ok(dual_map::combinatorial::take_dual(links)?)

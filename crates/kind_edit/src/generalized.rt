@@ -63,6 +63,22 @@ impl<const DIM: usize> Plans<Links<Alpha, DIM>> for Alpha {
         alpha_edit::contractible(alloc, links, dim, dart)
     }
 
+    fn close_plan(
+        alloc: Global,
+        links: &Links<Alpha, DIM>,
+        link: usize,
+    ) -> Result<Edit, AllocError> {
+        map_close::alpha::close_plan(alloc, links, link)
+    }
+
+    fn dangle_plan(alloc: Global, links: &Links<Alpha, DIM>, dart: Dart) -> Result<Edit, Refused> {
+        face_center::alpha::dangle_plan(alloc, links, dart)
+    }
+
+    fn center_plan(alloc: Global, links: &Links<Alpha, DIM>, dart: Dart) -> Result<Edit, Refused> {
+        face_center::alpha::center_plan(alloc, links, dart)
+    }
+
     /// It takes no memory.
     fn take_dual(_alloc: Global, links: &mut Links<Alpha, DIM>) -> Result<(), Refused> {
         Ok(dual_map::generalized::take_dual(links)?)

@@ -1,7 +1,10 @@
-ghost use Rattle.std.specs.Prelude.{◌≤◌, All, length, IfOk};
+ghost use Rattle.std.specs.Prelude.{◌≡◌, ◌≤◌, All, length, IfOk};
+ghost use Rattle.map_defs.specs.Kind.{beta};
 ghost use Rattle.map_defs.specs.Rows.{links_of, IsLive};
 ghost use Rattle.map_defs.specs.Laws.{Laws};
 ghost use Rattle.cell_edit.specs.Planning.{PlansVertex, PlansEdge, PlansFace, PlansRemoval, PlansContraction, TellsRemovable, TellsContractible};
+ghost use Rattle.map_close.specs.Planning.{PlansClosing};
+ghost use Rattle.face_center.specs.Planning.{PlansDangling, PlansCentre};
 ghost use Rattle.kind_edit.specs.Turning.{TakesDual};
 
 use crate::store::LinkStore;
@@ -67,6 +70,28 @@ pub trait Plans<L: LinkStore>: Kind {
         requires dim { dim ≤ L.dim }
         requires laws { Laws Self.kind (links_of (L.rows links.now)) }
         ensures { IfOk result (TellsContractible Self.kind (L.rows links.now) dim dart) };
+
+    /// The edit that closes the map at a link, with a new dart on each live dart that is free there: only memory can lack. In a
+    /// combinatorial map the link is 2 or more.
+    fn close_plan(alloc: Global, links: &L, link: usize) -> Result<Edit, AllocError>
+        requires link { link ≤ L.dim }
+        requires high { Self.kind ≡ beta → 2 ≤ link }
+        requires laws { Laws Self.kind (links_of (L.rows links.now)) }
+        ensures { IfOk result (PlansClosing Self.kind L.dim (L.rows links.now) link) };
+
+    /// The edit that hangs an edge at the corner of a dart. `Unpaired` comes exactly where no side leads into the corner of a
+    /// combinatorial map, memory aside; in a generalized map it never comes.
+    fn dangle_plan(alloc: Global, links: &L, dart: Dart) -> Result<Edit, Refused>
+        requires dart { IsLive (L.rows links.now) dart }
+        requires laws { Laws Self.kind (links_of (L.rows links.now)) }
+        ensures { PlansDangling Self.kind L.dim (L.rows links.now) dart result };
+
+    /// The edit that puts a vertex in the middle of the face of a dart, with an edge to each corner. `NotClosed` comes exactly
+    /// where a dart of the face is free at link 0 or link 1, memory aside.
+    fn center_plan(alloc: Global, links: &L, dart: Dart) -> Result<Edit, Refused>
+        requires dart { IsLive (L.rows links.now) dart }
+        requires laws { Laws Self.kind (links_of (L.rows links.now)) }
+        ensures { PlansCentre Self.kind L.dim (L.rows links.now) dart result };
 
     /// Makes the map its dual, which has the same darts. `Boundary` comes exactly where the map has no dual, memory aside. A
     /// refusal leaves the map as it was.

@@ -1,5 +1,5 @@
 -- The plain map machine: what each line answers and leaves. Source: this project's.
-use Rattle.std.specs.Prelude.{ℕ, ◌≡◌, ◌<◌, ◌+◌, ◌*◌, ◌⊎◌, ◌↔◌, Bool, IsTrue, List, [], ◌∷◌, ◌++◌, Option, Some, None, IsSome, All, slice_set, Contains}
+use Rattle.std.specs.Prelude.{ℕ, ◌≡◌, ◌<◌, ◌+◌, ◌*◌, ◌==◌, ◌⊎◌, ◌↔◌, if◌then◌else◌, Bool, IsTrue, List, [], ◌∷◌, ◌++◌, Option, Some, None, IsSome, All, slice_set, Contains}
 use Rattle.std.specs.List.Sorted.{IsStrictlyIncreasing}
 use Rattle.map_defs.specs.Kind.{beta, inverse, IsDistant}
 use Rattle.map_defs.specs.Links.{Links}
@@ -14,22 +14,23 @@ use Rattle.map_defs.specs.Polygon.{per_side, polygon_rows}
 use Rattle.map_defs.specs.Values as values
 use Rattle.map_defs.specs.Values.{Hook}
 use Rattle.map_defs.specs.RuleNames.{named_merge, named_split}
-use Rattle.machine_defs.specs.State.{State, Content, Mark as SetMark, value_at, rule_at, with_born, without_dart, steps_to}
-use Rattle.machine_defs.specs.Relinking.{IsRelinked, NoDart, IsTooMany, IsGrown}
+use Rattle.machine_defs.specs.State.{State, Content, Undone, Mark as SetMark, value_at, rule_at, with_born, without_dart, steps_to}
+use Rattle.machine_defs.specs.Relinking.{IsRelinked, NoDart, IsTooMany, IsTooManyTwice, IsGrown, IsHungWith}
 use Rattle.map_defs.specs.Insertion.{AreOnOneSide, FaceDarts, IsOnOneVolume, IsClosedPath, IsFacePaired, IsFace}
 use Rattle.map_defs.specs.Inserting.{VertexDarts, IsVertex, InCorner, EdgeDarts, AreEdgePaired, IsEdge}
 use Rattle.map_defs.specs.Removal.{IsRemovable, IsRemoved}
 use Rattle.map_defs.specs.Contraction.{IsContractible, IsContracted}
 use Rattle.map_defs.specs.Dual.{IsDualable}
+use Rattle.map_defs.specs.Closing.{IsOpen, IsClosed, IsDangled, CanDangle, IsCentred, IsClosedFace}
 use Rattle.machine_defs.specs.Dualling.{IsDualOf}
 use Rattle.machine_defs.specs.Valuing.{IsValued}
 use Rattle.machine_defs.specs.Difference.{Difference, AreDifferences}
-use Rattle.machine_defs.specs.Marking.{IsMark, HasMark, with_mark, back_to, since}
+use Rattle.machine_defs.specs.Marking.{IsMark, HasMark, with_mark, back_to, since, IsLastUndone, CanRedo, forth_to}
 use Rattle.map_defs.specs.Refusal as why
 use Rattle.map_defs.specs.Refusal.{Refusal}
 use Rattle.machine_defs.specs.Listing.{ListValue, ListsValues, names_of, listing_with}
 use Rattle.machine_defs.specs.Text.{Reply, Done, Truth, Darts, CellValue, Counts, Shown, Logged, Meshed, Refused}
-use Rattle.machine_defs.specs.Script.{Line, Polygon, Dart, Del, Sew, Unsew, Vertex, Edge, Face, Remove, Contract, Dual, Rule, Set, Clear, Mark, Undo, Log, Cell, Same, Free, Value, Removable, Contractible, Sewable, Off, Count, Show, line_of}
+use Rattle.machine_defs.specs.Script.{Line, Polygon, Dart, Del, Sew, Unsew, Vertex, Edge, Face, Remove, Contract, Dual, Close, Dangle, Center, Rule, Set, Clear, Mark, Undo, Redo, Log, Cell, Same, Free, Value, Removable, Contractible, Sewable, Off, Count, Show, line_of}
 use Rattle.map_defs.specs.TextWords.{words_of}
 
 -- a refusal with the condition under which a line fails by it, and that under which it passes
@@ -54,6 +55,10 @@ dimension_check c i = refuse_if (c.dim < i) why.BadDim
 -- the number is a link that can be sewn: one of the map's, but not link 0 of a combinatorial map, which follows link 1
 abbrev pub link_check : Content → ℕ → Check
 link_check c i = refuse_if ((c.dim < i) ⊎ ((c.kind ≡ beta) × (i ≡ 0))) why.BadDim
+
+-- the number is a link at which the map can be closed: one of the map's, and in a combinatorial map 2 or more
+abbrev pub closing_check : Content → ℕ → Check
+closing_check c i = refuse_if ((c.dim < i) ⊎ ((c.kind ≡ beta) × (i < 2))) why.BadDim
 
 abbrev pub live_check : Content → ℕ → Check
 live_check c d = refuse_unless (IsLive c.rows d) why.NoDart
@@ -89,6 +94,10 @@ path_check c path = refuse_unless (All (IsLive c.rows) path) why.NoDart
 abbrev pub room_check : Content → (ℕ → Type 0) → Check
 room_check c K = refuse_if (IsTooMany c K) why.Full
 
+-- and two new darts for each of them
+abbrev pub room_check_twice : Content → (ℕ → Type 0) → Check
+room_check_twice c K = refuse_if (IsTooManyTwice c K) why.Full
+
 -- The table of refusals: what each line is checked for beside a hook, in ascending number.
 abbrev pub checks_on : Hook → Content → Line → List Check
 checks_on hook c (Polygon sides) = refuse_if ((sides < 3) ⊎ (65536 < sides)) why.BadCount ∷ full_if c (per_side c.kind * sides) ∷ []
@@ -110,6 +119,11 @@ checks_on hook c (Remove i d) =
 checks_on hook c (Contract i d) =
     dimension_check c i ∷ live_check c d ∷ refuse_unless (IsContractible c.kind (links_in c) i d) why.NotContractible ∷ []
 checks_on hook c Dual = refuse_unless (IsDualable c.kind c.dim (links_in c) (IsLive c.rows)) why.Boundary ∷ []
+checks_on hook c (Close i) = closing_check c i ∷ room_check c (IsOpen (IsLive c.rows) i (links_in c)) ∷ []
+checks_on hook c (Dangle d) =
+    live_check c d ∷ refuse_unless (CanDangle c.kind (links_in c) d) why.Unpaired ∷ room_check_twice c (InCorner c.kind (links_in c) d) ∷ []
+checks_on hook c (Center d) =
+    live_check c d ∷ refuse_unless (IsClosedFace c.kind (links_in c) d) why.NotClosed ∷ room_check_twice c (InCell c.kind (links_in c) 2 d) ∷ []
 checks_on hook c (Rule i merge split) = dimension_check c i ∷ refuse_unless (AreNames hook merge split) why.NoRule ∷ []
 checks_on hook c (Set i d value) = dimension_check c i ∷ live_check c d ∷ rule_check c i ∷ []
 checks_on hook c (Clear i d) = dimension_check c i ∷ live_check c d ∷ rule_check c i ∷ []
@@ -127,10 +141,11 @@ checks_on hook c Count = []
 checks_on hook c Show = []
 checks_on hook c line = []
 
--- the table for all lines: those about marks look at the marks, the others at the present content
+-- the table for all lines: those about marks look at the marks, redo at what was undone, the others at the present content
 abbrev pub checks : Hook → State → Line → List Check
 checks hook s (Mark name) = refuse_if (HasMark s.marks name) why.MarkTaken ∷ []
 checks hook s (Undo name) = refuse_unless (HasMark s.marks name) why.NoMark ∷ []
+checks hook s (Redo name) = refuse_unless (CanRedo s.undone name) why.NoRedo ∷ []
 checks hook s (Log name) = refuse_unless (HasMark s.marks name) why.NoMark ∷ []
 checks hook s line = checks_on hook s.present line
 
@@ -154,10 +169,19 @@ TellsWhether s P reply new = (answer : Bool) × (IsTrue answer ↔ P) × (reply 
 abbrev pub Relinks : Hook → State → (Links → Type 0) → Reply → State → Type 0
 Relinks hook s Becomes reply new = (next : Content) × IsRelinked hook s.present 0 NoDart Becomes next × (reply ≡ Done 0 0) × (new ≡ steps_to s next)
 
+-- the first of so many darts that are born, numbered on from those that were made; 0 where none is
+abbrev pub first_born : Content → ℕ → ℕ
+first_born c births = if births == 0 then 0 else made c.rows + 1
+
 -- A change of links by which each dart of K gets a new dart.
 abbrev pub InsertsDarts : Hook → State → (ℕ → Type 0) → ((ℕ → ℕ) → Links → Type 0) → Reply → State → Type 0
 InsertsDarts hook s K Becomes reply new = (births : ℕ) × (next : Content) × IsGrown hook s.present K Becomes births next
-    × (reply ≡ Done (made s.present.rows + 1) births) × (new ≡ steps_to s next)
+    × (reply ≡ Done (first_born s.present births) births) × (new ≡ steps_to s next)
+
+-- A change of links by which each dart of K gets two new darts.
+abbrev pub HangsEdges : Hook → State → (ℕ → Type 0) → ((ℕ → ℕ) → (ℕ → ℕ) → Links → Type 0) → Reply → State → Type 0
+HangsEdges hook s K Becomes reply new = (births : ℕ) × (next : Content) × IsHungWith hook s.present K Becomes births next
+    × (reply ≡ Done (first_born s.present births) births) × (new ≡ steps_to s next)
 
 -- A change of links by which the darts of the i-cell of d end.
 abbrev pub EndsDarts : Hook → State → ℕ → ℕ → (Links → Type 0) → Reply → State → Type 0
@@ -190,6 +214,12 @@ Effect hook s (Face path) =
 Effect hook s (Remove i d) = EndsDarts hook s i d (IsRemoved s.present.kind i d (links_in s.present))
 Effect hook s (Contract i d) = EndsDarts hook s i d (IsContracted s.present.kind i d (links_in s.present))
 Effect hook s Dual = λ reply new. (next : Content) × IsDualOf s.present next × (reply ≡ Done 0 0) × (new ≡ steps_to s next)
+Effect hook s (Close i) =
+    InsertsDarts hook s (IsOpen (IsLive s.present.rows) i (links_in s.present)) (λ star. IsClosed s.present.kind i (IsLive s.present.rows) star (links_in s.present))
+Effect hook s (Dangle d) =
+    HangsEdges hook s (InCorner s.present.kind (links_in s.present) d) (λ star tip. IsDangled s.present.kind d star tip (links_in s.present))
+Effect hook s (Center d) =
+    HangsEdges hook s (InCell s.present.kind (links_in s.present) 2 d) (λ star tip. IsCentred s.present.kind d star tip (links_in s.present))
 Effect hook s (Rule i merge split) = λ reply new. (m : values.Merge) × (p : values.Split)
     × (named_merge hook.names merge ≡ Some m) × (named_split hook.names split ≡ Some p)
     × Gives (Done 0 0) (steps_to s (with_rule s.present i (record { merge = m; split = p }))) reply new
@@ -197,6 +227,8 @@ Effect hook s (Set i d value) = Values s i d (Some value)
 Effect hook s (Clear i d) = Values s i d None
 Effect hook s (Mark name) = Gives (Done 0 0) (with_mark s name)
 Effect hook s (Undo name) = λ reply new. (k : ℕ) × (mark : SetMark) × IsMark s.marks name k mark × Gives (Done 0 0) (back_to s k mark) reply new
+Effect hook s (Redo name) = λ reply new. (others : List Undone) × (last : Undone) × IsLastUndone s.undone name others last
+    × Gives (Done 0 0) (forth_to others last) reply new
 Effect hook s (Log name) = λ reply new. (k : ℕ) × (mark : SetMark) × IsMark s.marks name k mark
     × ((steps : List Difference) × AreDifferences (since s mark) steps × (reply ≡ Logged steps) × (new ≡ s))
 Effect hook s (Value i d) = Gives (CellValue (value_at s.present i d)) s

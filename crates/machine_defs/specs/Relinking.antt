@@ -44,3 +44,19 @@ pub record IsGrown (hook : Hook) (c : Content) (K : ℕ → Type 0) (Becomes : (
   pub numbered : IsNumbered K keys (made c.rows) star
   pub counted : births ≡ length keys
   pub relinked : IsRelinked hook c births NoDart (Becomes star) next
+
+-- with two new darts for each dart of K too many would have been made
+abbrev pub IsTooManyTwice : Content → (ℕ → Type 0) → Type 0
+IsTooManyTwice c K = (count : ℕ) × HasCount K count × (made_max < made c.rows + (count + count))
+
+-- The content after edges were hung on the darts of K: each gets two new darts, where its edge begins and where it ends,
+-- numbered on from those that were made, all begins first, in the order of the darts of K, and then the ends in the same
+-- order; the links are as Becomes tells of the new darts, and the values are carried.
+pub record IsHungWith (hook : Hook) (c : Content) (K : ℕ → Type 0) (Becomes : (ℕ → ℕ) → (ℕ → ℕ) → Links → Type 0) (births : ℕ) (next : Content) : Type 0 where
+  pub keys : List ℕ
+  pub star : ℕ → ℕ
+  pub tip : ℕ → ℕ
+  pub begins : IsNumbered K keys (made c.rows) star
+  pub ends : IsNumbered K keys (made c.rows + length keys) tip
+  pub counted : births ≡ length keys + length keys
+  pub relinked : IsRelinked hook c births NoDart (Becomes star tip) next

@@ -63,11 +63,15 @@ pub data Line : Type 0 where
   Remove : ℕ → ℕ → Line
   Contract : ℕ → ℕ → Line
   Dual : Line
+  Close : ℕ → Line
+  Dangle : ℕ → Line
+  Center : ℕ → Line
   Rule : ℕ → List ℕ → List ℕ → Line
   Set : ℕ → ℕ → values.Value → Line
   Clear : ℕ → ℕ → Line
   Mark : List ℕ → Line
   Undo : List ℕ → Line
+  Redo : List ℕ → Line
   Log : List ℕ → Line
   Cell : ℕ → ℕ → Line
   Same : ℕ → ℕ → ℕ → Line
@@ -90,7 +94,9 @@ abbrev pub alone : List (List ℕ × Line)
 alone = (codes "dart", Dart) ∷ (codes "dual", Dual) ∷ (codes "count", Count) ∷ (codes "show", Show) ∷ (codes "off", Off) ∷ []
 
 abbrev pub with_one : List (List ℕ × (ℕ → Line))
-with_one = (codes "polygon", Polygon) ∷ (codes "del", Del) ∷ (codes "vertex", Vertex) ∷ []
+with_one =
+    (codes "polygon", Polygon) ∷ (codes "del", Del) ∷ (codes "vertex", Vertex) ∷ (codes "close", Close) ∷ (codes "dangle", Dangle)
+    ∷ (codes "center", Center) ∷ []
 
 abbrev pub with_two : List (List ℕ × (ℕ → ℕ → Line))
 with_two =
@@ -153,8 +159,9 @@ line_with first words =
     else (if bytes_eq first (codes "set") then set_line words
     else (if bytes_eq first (codes "mark") then option_map Mark (only_name words)
     else (if bytes_eq first (codes "undo") then option_map Undo (only_name words)
+    else (if bytes_eq first (codes "redo") then option_map Redo (only_name words)
     else (if bytes_eq first (codes "log") then option_map Log (only_name words)
-    else (numerals words >>= numbers_line first))))))
+    else (numerals words >>= numbers_line first)))))))
 
 -- the line that words tell; other words are outside the grammar
 abbrev pub line_of : List (List ℕ) → Option Line

@@ -19,7 +19,7 @@ abbrev pub TellsInserted : (ℕ → Type 0) → ((ℕ → ℕ) → Links → Typ
 TellsInserted K Becomes = (star other : ℕ → ℕ) → AreAlike K star other → (N M : Links) → Becomes star N → Becomes other M → (t x : ℕ) → N t x ≡ M t x
 
 -- a dart that is no new one by the one numbering is none by the other
-not-new : (K : ℕ → Type 0) (star other : ℕ → ℕ) → AreAlike K star other → (x : ℕ) → (IsNew K star x → ⊥) → (y : ℕ) → K y → x ≢ other y
+pub not-new : (K : ℕ → Type 0) (star other : ℕ → ℕ) → AreAlike K star other → (x : ℕ) → (IsNew K star x → ⊥) → (y : ℕ) → K y → x ≢ other y
 not-new K star other alike x old y h e = old (y, h, e ∙ sym (alike y (inl h)))
 
 -- an insertion in general

@@ -1,5 +1,5 @@
 -- Every rule that a state keeps is of the tables, or one that the hook knows: a step keeps this.
-use Rattle.std.proofs.Common.{◌≡◌, ℕ, zero, suc, ◌+◌, ◌-◌, Bool, true, false, cond, codes, List, [], ◌∷◌, length, replicate, reverse, slice_set, Option, Some, None, All, slice_index_or, refl, sym, ap, ◌∙◌, subst, inl, inr, arith}
+use Rattle.std.proofs.Common.{◌≡◌, ℕ, zero, suc, ◌+◌, ◌-◌, Bool, true, false, cond, codes, List, [], ◌∷◌, ◌++◌, length, replicate, reverse, slice_set, Option, Some, None, All, slice_index_or, refl, sym, ap, ◌∙◌, subst, inl, inr, arith}
 use Rattle.std.specs.Option.{option_or, option_map}
 use Rattle.std.specs.Str.{bytes_eq}
 use Rattle.std.proofs.lemmas.Bool.{cases_lt}
@@ -10,17 +10,17 @@ use Rattle.map_defs.specs.Values.{Merge, First, Last, Sum, Min, Max, Mid, Split,
 use Rattle.map_defs.specs.RuleNames.{table_merge, table_split, known_name, named_merge, named_split, KnowsMerge, KnowsSplit, KnowsRule}
 use Rattle.map_defs.specs.Kind.{Kind}
 use Rattle.map_defs.specs.Off.{Mesh}
-use Rattle.machine_defs.specs.State.{State, Content, Mark, rule_at, kept_past, steps_to, empty_content, empty_state}
+use Rattle.machine_defs.specs.State.{State, Content, Mark, Undone, rule_at, kept_past, steps_to, empty_content, empty_state}
 use Rattle.machine_defs.specs.Loading.{IsMeshContent, IsLoaded, first_copy, first_state}
 use Rattle.machine_defs.specs.Kept.{AreRulesKnown, KnowsRules}
-use Rattle.machine_defs.specs.Marking.{IsMark, with_mark, back_to}
+use Rattle.machine_defs.specs.Marking.{IsMark, with_mark, undone_to, back_to, forth_to}
 use Rattle.machine_defs.specs.Script as says
 use Rattle.machine_defs.specs.Script.{Line, line_of}
 use Rattle.map_defs.specs.TextWords.{words_of}
 use Rattle.machine_defs.specs.Text.{Reply}
 use Rattle.machine_defs.specs.Machine.{Step, Effect, checks, with_rule, Obeys, blank, unread, obeyed, Run}
 use Rattle.machine_laws.proofs.Judging.{judged-kept}
-use Rattle.machine_laws.proofs.Marked.{at-mark}
+use Rattle.machine_laws.proofs.Marked.{at-mark, all-front, all-last}
 
 -- the first that is named, or one of the rest
 chosen : {A : Type 0} (P : A → Type 0) (b : Bool) (x m : A) (rest : Option A) → P x → (rest ≡ Some m → P m) → cond b (Some x) rest ≡ Some m → P m
@@ -119,6 +119,10 @@ module _ (hook : Hook) where
   past-known [] past c all known = λ p z h. absurd (omega arith)
   past-known (mark ∷ marks) past c all known = All-push (AreRulesKnown hook) past c all known
 
+  -- the hook knows the rules of what an undo took back
+  abbrev AreUndoneKnown : Undone → Type 0
+  AreUndoneKnown u = AreRulesKnown hook u.present × All (AreRulesKnown hook) u.past × All (λ (m : Mark). AreRulesKnown hook m.content) u.marks
+
   module _ (s : State) (known : KnowsRules hook s) where
     pub same-known : (new : State) → new ≡ s → KnowsRules hook new
     same-known new e = subst (KnowsRules hook) (sym e) known
@@ -148,8 +152,14 @@ module _ (hook : Hook) where
       present = at-mark (λ (m : Mark). AreRulesKnown hook m.content) s.marks name k mark known.marks is;
       past = All-take (AreRulesKnown hook) mark.place s.past known.past;
       marks = All-take (λ (m : Mark). AreRulesKnown hook m.content) (k + 1) s.marks known.marks;
-      undone = λ p z h. absurd (omega arith);
+      undone = All-push AreUndoneKnown s.undone (undone_to s mark) known.undone (known.present, known.past, known.marks);
     })
+
+    pub forth-known : (others : List Undone) (last : Undone) → s.undone ≡ others ++ last ∷ [] → (new : State) → new ≡ forth_to others last → KnowsRules hook new
+    forth-known others last is new e =
+        let all = subst (λ (us : List Undone). All AreUndoneKnown us) is known.undone in
+        let one = all-last AreUndoneKnown others last all in
+        subst (KnowsRules hook) (sym e) (record { present = one.0; past = one.1; marks = one.2; undone = all-front AreUndoneKnown others last all })
 
     effect-known : (line : Line) (reply : Reply) (new : State) → Effect hook s line reply new → KnowsRules hook new
     effect-known (says.Polygon sides) reply new e = stays-known _ new refl e.1
@@ -163,12 +173,16 @@ module _ (hook : Hook) where
     effect-known (says.Remove i d) reply new e = stays-known e.0 new e.1.rules e.3
     effect-known (says.Contract i d) reply new e = stays-known e.0 new e.1.rules e.3
     effect-known says.Dual reply new e = next-known e.0 new (rules-reversed s.present e.0 e.1.rules known.present) e.3
+    effect-known (says.Close i) reply new e = stays-known e.1 new e.2.relinked.rules e.4
+    effect-known (says.Dangle d) reply new e = stays-known e.1 new e.2.relinked.rules e.4
+    effect-known (says.Center d) reply new e = stays-known e.1 new e.2.relinked.rules e.4
     effect-known (says.Rule i merge split) reply new e =
         next-known _ new (rule-set s.present i (record { merge = e.0; split = e.1 }) (merge-known hook merge e.0 e.2, split-known hook split e.1 e.3) known.present) e.4.1
     effect-known (says.Set i d value) reply new e = stays-known e.0 new e.1.rules e.3
     effect-known (says.Clear i d) reply new e = stays-known e.0 new e.1.rules e.3
     effect-known (says.Mark name) reply new e = marked-known name new e.1
     effect-known (says.Undo name) reply new e = back-known name e.0 e.1 e.2 new e.3.1
+    effect-known (says.Redo name) reply new e = forth-known e.0 e.1 e.2.there new e.3.1
     effect-known (says.Log name) reply new e = same-known new e.3.3
     effect-known (says.Value i d) reply new e = same-known new e.1
     effect-known (says.Cell i d) reply new e = same-known new e.4

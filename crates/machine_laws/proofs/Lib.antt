@@ -2,6 +2,7 @@ pub mod Judging
 pub mod ValueLists
 pub mod Relinked
 pub mod Inserted
+pub mod Hung
 pub mod Marked
 pub mod Keeping
 pub mod Grown
@@ -18,6 +19,7 @@ pub mod Followed
 pub mod Traced
 pub mod Outcomes
 pub mod Logs
+pub mod Redone
 pub mod Runs
 pub mod Audits
 pub mod Soaks

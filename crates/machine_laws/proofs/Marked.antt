@@ -2,7 +2,7 @@
 use Rattle.std.proofs.Common.{◌≡◌, ◌≢◌, ℕ, zero, suc, ◌+◌, ◌<◌, ◌≤◌, List, [], ◌∷◌, ◌++◌, length, get_or, take, Some, All, slice_get, refl, sym, ap, ◌∙◌, subst, inl, inr, arith}
 use Rattle.std.specs.List.{AllPairs}
 use Rattle.std.proofs.lemmas.Bool.{cases_lt}
-use Rattle.std.proofs.lemmas.List.{length-append, length-take, length-take-le, get_or-take, take-append-le}
+use Rattle.std.proofs.lemmas.List.{length-append, length-take, length-take-le, get_or-take, get_or_append_left, get_or_push, take-append-le}
 use Rattle.std.proofs.lemmas.List.Elements.{All-push}
 use Rattle.std.proofs.lemmas.List.Quantifiers.{all_pairs_push}
 use Rattle.std.proofs.lemmas.Option.{slice_get_within, get_or_from_slice_get, slice_get-get_or}
@@ -147,3 +147,21 @@ module _ (marks : List Mark) (past : List Content) (present : Content) (kept : A
             let low = below p z h in
             rw (left-same p z h, sym left-front)
             (slice-take (suc mark.place) (get_or marks p z).place (past ++ present ∷ []) (omega arith) ∙ kept.copies p z (omega (arith, length-take (k + 1) marks)))
+
+-- a list with one more at its end: the others and the last are what they are, and what holds of all holds of them
+pub last-one : {X : Type 0} (xs ys : List X) (x y : X) → xs ++ x ∷ [] ≡ ys ++ y ∷ [] → (xs ≡ ys) × (x ≡ y)
+last-one [] [] x y e = let same : x ≡ y = cc in (refl, same)
+last-one [] (b ∷ ys) x y e = absurd (let long = ap length e in let more = length-append ys (y ∷ []) in omega arith)
+last-one (a ∷ xs) [] x y e = absurd (let long = ap length e in let more = length-append xs (x ∷ []) in omega arith)
+last-one (a ∷ xs) (b ∷ ys) x y e =
+    let first : a ≡ b = cc in
+    let rest : xs ++ x ∷ [] ≡ ys ++ y ∷ [] = cc in
+    let same = last-one xs ys x y rest in
+    let others : a ∷ xs ≡ b ∷ ys = ap (λ z. z ∷ xs) first ∙ ap (λ zs. b ∷ zs) same.0 in
+    (others, same.1)
+
+pub all-front : {X : Type 0} (P : X → Type 0) (xs : List X) (x : X) → All P (xs ++ x ∷ []) → All P xs
+all-front P xs x all i z h = subst P (get_or_append_left xs (x ∷ []) z i h) (all i z (omega (arith, length-append xs (x ∷ []))))
+
+pub all-last : {X : Type 0} (P : X → Type 0) (xs : List X) (x : X) → All P (xs ++ x ∷ []) → P x
+all-last P xs x all = subst P (get_or_push xs x x (length xs) refl) (all (length xs) x (omega (arith, length-append xs (x ∷ []))))

@@ -1,31 +1,32 @@
 -- One step has one reply and one state, and keeps what every state keeps.
-use Rattle.std.proofs.Common.{◌≡◌, ◌≢◌, ℕ, ◌+◌, ◌*◌, ◌<◌, ◌≤◌, List, [], ◌∷◌, length, Option, Some, None, refl, sym, ap, ◌∙◌, subst, inl, inr, arith}
+use Rattle.std.proofs.Common.{◌≡◌, ◌≢◌, ℕ, ◌+◌, ◌*◌, ◌<◌, ◌≤◌, ◌⊎◌, List, [], ◌∷◌, length, Option, Some, None, refl, sym, ap, ◌∙◌, subst, inl, inr, arith}
 use Rattle.std.proofs.lemmas.Bool.{cases_lt}
 use Rattle.std.proofs.lemmas.List.{append-nil, length-set}
 use Rattle.std.proofs.lemmas.List.Elements.{All-contains}
 use Rattle.std.specs.Prelude.{slice_set}
+use Rattle.map_defs.specs.Kind.{Kind, alpha, beta, inverse}
 use Rattle.map_defs.specs.Links.{Links}
 use Rattle.map_defs.specs.Laws.{Laws}
 use Rattle.map_defs.specs.Rows.{Rows, links_of, made, made_max, IsLive, IsSound}
 use Rattle.map_defs.specs.Edits.{Edit, free_row}
 use Rattle.map_defs.specs.Polygon.{per_side, polygon_rows}
 use Rattle.map_defs.specs.Births.{IsFresh}
-use Rattle.machine_defs.specs.Relinking.{IsTooMany, NoDart, IsRelinked}
+use Rattle.machine_defs.specs.Relinking.{IsTooMany, IsTooManyTwice, NoDart, IsRelinked}
 use Rattle.map_defs.specs.Sewing.{IsSewn, IsUnsewn}
 use Rattle.map_defs.specs.Refusal.{Refusal}
 use Rattle.map_defs.specs.RuleNames.{named_merge, named_split}
 use Rattle.map_defs.specs.Values.{Hook, Value}
-use Rattle.machine_defs.specs.State.{State, Content, Mark, rule_at, value_at, with_born, without_dart, steps_to}
+use Rattle.machine_defs.specs.State.{State, Content, Mark, Undone, rule_at, value_at, with_born, without_dart, steps_to}
 use Rattle.machine_defs.specs.Script as says
 use Rattle.machine_defs.specs.Script.{Line}
 use Rattle.machine_defs.specs.Listing.{ListValue, names_of, listing_with}
 use Rattle.machine_defs.specs.Difference.{AreDifferences}
-use Rattle.machine_defs.specs.Marking.{since, back_to}
+use Rattle.machine_defs.specs.Marking.{since, back_to, forth_to}
 use Rattle.map_defs.specs.Removal.{IsRemovable, IsRemoved}
 use Rattle.map_defs.specs.Contraction.{IsContractible, IsContracted}
 use Rattle.machine_defs.specs.Kept.{IsLawfulContent, IsLawfulState}
 use Rattle.machine_defs.specs.Text.{Reply, Done, Truth, Darts, Counts, Shown, Logged, Meshed, Refused}
-use Rattle.machine_defs.specs.Machine.{Step, Effect, Gives, TellsWhether, InsertsDarts, Values, AreFree, ArePaired, checks, links_in, with_polygon, with_dart}
+use Rattle.machine_defs.specs.Machine.{Step, Effect, Gives, TellsWhether, InsertsDarts, HangsEdges, Values, AreFree, ArePaired, checks, links_in, with_polygon, with_dart, first_born}
 use Rattle.link_laws.proofs.Sewn.{sewing_keeps}
 use Rattle.link_laws.proofs.Unsewn.{unsewing_keeps}
 use Rattle.link_laws.proofs.RowFacts.{rows_made}
@@ -40,18 +41,20 @@ use Rattle.machine_laws.proofs.Judging.{ordered, AllPass, judged-both, judged-ke
 use Rattle.machine_laws.proofs.ValueLists.{one-listing}
 use Rattle.machine_laws.proofs.Relinked.{TellsOne, sewn-one, unsewn-one, relinked-one, valued-one}
 use Rattle.machine_laws.proofs.Inserted.{TellsInserted}
+use Rattle.machine_laws.proofs.Hung.{TellsHung, dangle-one, centre-one}
+use Rattle.link_laws.proofs.Basics.{inverse_own}
 use Rattle.machine_laws.specs.Needs.{HasLaws, LineNeeds, ReplyNeeds}
 use Rattle.machine_laws.specs.Tracing.{AreTraced}
-use Rattle.machine_laws.proofs.Grown.{births-one, grown-one, vertex-one, edge-one, face-one}
-use Rattle.machine_laws.proofs.GrownLaws.{vertex-lawful, edge-lawful, vertex-live, edge-live, face-live, kept-grown}
+use Rattle.machine_laws.proofs.Grown.{TellsNumbered, tells-numbered, births-one, grown-one, hung-births-one, hung-content-one, vertex-one, edge-one, face-one, closed-one}
+use Rattle.machine_laws.proofs.GrownLaws.{AreTwoSeries, vertex-lawful, edge-lawful, closed-lawful, dangle-lawful, centre-lawful, vertex-live, edge-live, face-live, cell-live, corner-live, kept-grown, kept-hung}
 use Rattle.machine_laws.proofs.Keeping.{laws-of, dead-at, kept-relinked, kept-valued, kept-ruled}
 use Rattle.machine_laws.proofs.Born.{kept-born}
 use Rattle.machine_laws.proofs.Ended.{kept-ended, lived}
 use Rattle.machine_laws.proofs.Dualled.{dualled-one, kept-dualled}
 use Rattle.journal_laws.proofs.OneDifference.{differences-one}
-use Rattle.machine_laws.proofs.Marked.{mark-one}
+use Rattle.machine_laws.proofs.Marked.{mark-one, last-one}
 use Rattle.machine_laws.proofs.Followed.{stays-follows, relinked-follows, born-follows}
-use Rattle.machine_laws.proofs.Outcomes.{Leads, to_same, to_next, to_marked, to_earlier, leads-kept, leads-traced}
+use Rattle.machine_laws.proofs.Outcomes.{Leads, to_same, to_next, to_marked, to_earlier, to_undone, leads-kept, leads-traced}
 use Rattle.machine_laws.proofs.Answers.{truth-one, darts-one, counts-one}
 use Rattle.machine_laws.proofs.OffOne.{off-one}
 
@@ -73,11 +76,15 @@ effect-refuses hook s (says.Face path) r new f = let g = f.3 in cc
 effect-refuses hook s (says.Remove i d) r new f = let g = f.2 in cc
 effect-refuses hook s (says.Contract i d) r new f = let g = f.2 in cc
 effect-refuses hook s says.Dual r new f = let g = f.2 in cc
+effect-refuses hook s (says.Close i) r new f = let g = f.3 in cc
+effect-refuses hook s (says.Dangle d) r new f = let g = f.3 in cc
+effect-refuses hook s (says.Center d) r new f = let g = f.3 in cc
 effect-refuses hook s (says.Rule i merge split) r new f = let g = f.4.0 in cc
 effect-refuses hook s (says.Set i d value) r new f = let g = f.2 in cc
 effect-refuses hook s (says.Clear i d) r new f = let g = f.2 in cc
 effect-refuses hook s (says.Mark name) r new f = let g = f.0 in cc
 effect-refuses hook s (says.Undo name) r new f = let g = f.3.0 in cc
+effect-refuses hook s (says.Redo name) r new f = let g = f.3.0 in cc
 effect-refuses hook s (says.Log name) r new f = let g = f.3.2 in cc
 effect-refuses hook s (says.Value i d) r new f = let g = f.0 in cc
 effect-refuses hook s (says.Removable i d) r new f = let g = f.2 in cc
@@ -116,6 +123,11 @@ some-one o x y e f = cc
 
 pub not-above : {a b : ℕ} → (a < b → ⊥) → b ≤ a
 not-above {a} {b} h = elim (cases_lt a b) [ inl less ↦ absurd (h less) | inr more ↦ more ]
+
+-- a link at which a map can be closed is its own inverse
+pub closing-own : (k : Kind) (i n : ℕ) → ((n < i) ⊎ ((k ≡ beta) × (i < 2)) → ⊥) → inverse k i ≡ i
+closing-own alpha i n can = refl
+closing-own beta i n can = inverse_own beta i (elim (cases_lt i 2) [ inl less ↦ absurd (can (inr (refl, less))) | inr more ↦ more ])
 
 -- links that sewing and unsewing make
 module _ (c : Content) (kept : IsLawfulContent c) where
@@ -185,11 +197,21 @@ module _ (hook : Hook) (s : State) where
   -- an insertion has one reply, and leads to one state where its links are told
   inserts-reply : (K : ℕ → Type 0) (Becomes : (ℕ → ℕ) → Links → Type 0) → HasOneReply (InsertsDarts hook s K Becomes)
   inserts-reply K Becomes one other new new' e f =
-      e.3 ∙ ap (Done (made s.present.rows + 1)) (births-one hook s.present K Becomes e.0 f.0 e.1 f.1 e.2 f.2) ∙ sym f.3
+      e.3 ∙ ap (λ (n : ℕ). Done (first_born s.present n) n) (births-one hook s.present K Becomes e.0 f.0 e.1 f.1 e.2 f.2) ∙ sym f.3
+
+  numbers-one : (K : ℕ → Type 0) (Becomes : (ℕ → ℕ) → Links → Type 0) → TellsNumbered K (made s.present.rows) Becomes → IsOne s (InsertsDarts hook s K Becomes)
+  numbers-one K Becomes tells one other new new' e f =
+      (inserts-reply K Becomes one other new new' e f, e.4 ∙ ap (steps_to s) (grown-one hook s.present K Becomes e.0 f.0 e.1 f.1 e.2 f.2 tells) ∙ sym f.4)
 
   inserts-one : (K : ℕ → Type 0) (Becomes : (ℕ → ℕ) → Links → Type 0) → (((x : ℕ) → K x → x ≢ 0) → TellsInserted K Becomes) → IsOne s (InsertsDarts hook s K Becomes)
-  inserts-one K Becomes tells one other new new' e f =
-      (inserts-reply K Becomes one other new new' e f, e.4 ∙ ap (steps_to s) (grown-one hook s.present K Becomes e.0 f.0 e.1 f.1 e.2 f.2 tells) ∙ sym f.4)
+  inserts-one K Becomes tells = numbers-one K Becomes (tells-numbered K (made s.present.rows) Becomes tells)
+
+  -- edges that are hung
+  hangs-one : (K : ℕ → Type 0) (Becomes : (ℕ → ℕ) → (ℕ → ℕ) → Links → Type 0) → (((x : ℕ) → K x → x ≢ 0) → TellsHung K Becomes) → IsOne s (HangsEdges hook s K Becomes)
+  hangs-one K Becomes tells one other new new' e f = (
+    e.3 ∙ ap (λ (n : ℕ). Done (first_born s.present n) n) (hung-births-one hook s.present K Becomes e.0 f.0 e.1 f.1 e.2 f.2) ∙ sym f.3,
+    e.4 ∙ ap (steps_to s) (hung-content-one hook s.present K Becomes e.0 f.0 e.1 f.1 e.2 f.2 tells) ∙ sym f.4,
+  )
 
   effect-one : (line : Line) → LineNeeds line s → ReplyNeeds line s → AllPass (checks hook s line) → IsOne s (Effect hook s line)
   effect-one (says.Polygon sides) needs told p = gives-one s _ _
@@ -220,10 +242,17 @@ module _ (hook : Hook) (s : State) where
   effect-one (says.Contract i d) needs told p = contracts-one i d (needs.0 p.1.0) needs.1 p.1.1.0
   effect-one says.Dual needs told p = λ one other new new' e f.
       (e.2 ∙ sym f.2, e.3 ∙ ap (steps_to s) (dualled-one s.present e.0 f.0 e.1 f.1) ∙ sym f.3)
+  effect-one (says.Close i) needs told p =
+      numbers-one _ _ (closed-one s.present.kind s.present.rows i (closing-own s.present.kind i s.present.dim p.0) needs.0 needs.1)
+  effect-one (says.Dangle d) needs told p = hangs-one _ _ (dangle-one s.present.kind (links_in s.present) d)
+  effect-one (says.Center d) needs told p = hangs-one _ _ (centre-one s.present.kind (links_in s.present) d)
   effect-one (says.Mark name) needs told p = gives-one s _ _
   effect-one (says.Undo name) needs told p = λ one other new new' e f.
       let same = mark-one s.marks name needs e.0 f.0 e.1 f.1 e.2 f.2 in
       (e.3.0 ∙ sym f.3.0, e.3.1 ∙ ap (λ (k : ℕ). back_to s k e.1) same.0 ∙ ap (back_to s f.0) same.1 ∙ sym f.3.1)
+  effect-one (says.Redo name) needs told p = λ one other new new' e f.
+      let same = last-one e.0 f.0 e.1 f.1 (sym e.2.there ∙ f.2.there) in
+      (e.3.0 ∙ sym f.3.0, e.3.1 ∙ ap (λ (others : List Undone). forth_to others e.1) same.0 ∙ ap (forth_to f.0) same.1 ∙ sym f.3.1)
   effect-one (says.Log name) needs told p = λ one other new new' e f.
       let same = (mark-one s.marks name told e.0 f.0 e.1 f.1 e.2 f.2).1 in
       let are = subst (λ (m : Mark). AreDifferences (since s m) e.3.0) same e.3.1 in
@@ -238,6 +267,7 @@ module _ (hook : Hook) (s : State) where
   effect-reply (says.Face path) told p = inserts-reply _ _
   effect-reply (says.Remove i d) told p = changes-reply _ _
   effect-reply (says.Contract i d) told p = changes-reply _ _
+  effect-reply (says.Close i) told p = inserts-reply _ _
   effect-reply (says.Undo name) told p = λ one other new new' e f. e.3.0 ∙ sym f.3.0
   effect-reply line told p = λ one other new new' e f. (effect-one line tt told p one other new new' e f).0
 
@@ -276,12 +306,24 @@ module _ (hook : Hook) (s : State) (kept : IsLawfulState s) where
       let is = kept-grown hook s.present kept.present K live Becomes room lawful e.0 e.1 e.2 in
       to_next e.1 is (relinked-follows hook s.present e.1 e.0 NoDart (Becomes e.2.star) kept.present is (λ d low high h. h) e.2.relinked) e.4
 
+  hangs-leads : (K : ℕ → Type 0) (Becomes : (ℕ → ℕ) → (ℕ → ℕ) → Links → Type 0) → ((x : ℕ) → K x → IsLive s.present.rows x) → (IsTooManyTwice s.present K → ⊥)
+      → ((star tip : ℕ → ℕ) (N : Links) → AreTwoSeries (links_in s.present) K star tip → Becomes star tip N → Laws s.present.kind N)
+      → (reply : Reply) (new : State) → HangsEdges hook s K Becomes reply new → Leads s new
+  hangs-leads K Becomes live room lawful reply new e =
+      let is = kept-hung hook s.present kept.present K live Becomes room lawful e.0 e.1 e.2 in
+      to_next e.1 is (relinked-follows hook s.present e.1 e.0 NoDart (Becomes e.2.star e.2.tip) kept.present is (λ d low high h. h) e.2.relinked) e.4
+
+  -- place 0 has no dart
+  nothing-lives : IsLive s.present.rows 0 → ⊥
+  nothing-lives = dead-at s.present.rows kept.present.sound.nothing
+
   -- such a state has what each line needs
   needs-kept : (line : Line) → LineNeeds line s
   needs-kept (says.Edge d e) = λ is. laws
   needs-kept (says.Face path) = λ is. laws
   needs-kept (says.Remove i d) = (dart-some s.present kept.present d, laws)
   needs-kept (says.Contract i d) = (dart-some s.present kept.present d, laws)
+  needs-kept (says.Close i) = (nothing-lives, laws)
   needs-kept (says.Undo name) = kept.marked.named
   needs-kept line = tt
 
@@ -344,8 +386,17 @@ module _ (hook : Hook) (s : State) (kept : IsLawfulState s) where
   effect-leads (says.Remove i d) p reply new f = changes-leads _ _ (removed-lawful s.present kept.present i d p.1.0 p.1.1.0) reply new f
   effect-leads (says.Contract i d) p reply new f = changes-leads _ _ (contracted-lawful s.present kept.present i d p.1.0 p.1.1.0) reply new f
   effect-leads says.Dual p reply new e = stays-leads e.0 new (kept-dualled s.present kept.present p.0 e.0 e.1) e.1.kind e.1.dim e.1.long (λ d h. (e.1.live d).0 h) e.3
+  effect-leads (says.Close i) p reply new f = inserts-leads _ _ (λ x h. h.0) p.1.0
+      (λ star N fresh becomes. closed-lawful s.present.kind s.present.rows i (closing-own s.present.kind i s.present.dim p.0) nothing-lives laws star N fresh becomes) reply new f
+  effect-leads (says.Dangle d) p reply new f = hangs-leads _ _
+      (λ x h. corner-live s.present.kind s.present.rows laws d x p.0 h) p.1.1.0
+      (λ star tip N two becomes. dangle-lawful s.present.kind (links_in s.present) N d star tip laws (dart-some s.present kept.present d p.0) p.1.0 two becomes) reply new f
+  effect-leads (says.Center d) p reply new f = hangs-leads _ _
+      (λ x h. cell-live s.present.kind s.present.rows laws 2 d x p.0 h) p.1.1.0
+      (λ star tip N two becomes. centre-lawful s.present.kind (links_in s.present) N d star tip laws (dart-some s.present kept.present d p.0) two becomes) reply new f
   effect-leads (says.Mark name) p reply new e = to_marked name p.0 e.1
   effect-leads (says.Undo name) p reply new e = to_earlier name e.0 e.1 e.2 e.3.1
+  effect-leads (says.Redo name) p reply new e = to_undone e.0 e.1 e.2.there e.3.1
   effect-leads (says.Log name) p reply new e = to_same e.3.3
   effect-leads (says.Removable i d) p reply new f = to_same f.3
   effect-leads (says.Contractible i d) p reply new f = to_same f.3

@@ -5,7 +5,7 @@ use Rattle.map_defs.specs.Rows.{IsLive}
 use Rattle.map_defs.specs.Laws.{Laws}
 use Rattle.machine_defs.specs.State.{Content, State}
 use Rattle.machine_defs.specs.Kept.{AreNamedApart}
-use Rattle.machine_defs.specs.Script.{Line, Edge, Face, Remove, Contract, Undo, Log, Off}
+use Rattle.machine_defs.specs.Script.{Line, Edge, Face, Remove, Contract, Close, Undo, Log, Off}
 use Rattle.machine_defs.specs.Machine.{links_in}
 
 -- the links obey the laws
@@ -17,13 +17,14 @@ abbrev pub IsDartIfLive : Content → ℕ → Type 0
 IsDartIfLive c d = IsLive c.rows d → d ≢ 0
 
 -- In a map that breaks the laws an edge or a face may leave a link of a new dart open, and a walk across a cell that is
--- removed or contracted may go on for ever, and so tell no link. Nor does a walk ever leave the cell of 0. Where two marks
--- have one name, undo may go back to either.
+-- removed or contracted, or around a boundary that is closed, may go on for ever, and so tell no link. Nor does a walk ever
+-- leave the cell of 0. Where two marks have one name, undo may go back to either.
 abbrev pub LineNeeds : Line → State → Type 0
 LineNeeds (Edge d e) s = s.present.kind ≡ beta → HasLaws s.present
 LineNeeds (Face path) s = s.present.kind ≡ alpha → HasLaws s.present
 LineNeeds (Remove i d) s = IsDartIfLive s.present d × HasLaws s.present
 LineNeeds (Contract i d) s = IsDartIfLive s.present d × HasLaws s.present
+LineNeeds (Close i) s = (IsLive s.present.rows 0 → ⊥) × HasLaws s.present
 LineNeeds (Undo name) s = AreNamedApart s.marks
 LineNeeds line s = Unit {0}
 

@@ -13,8 +13,8 @@ ghost use Rattle.machine_defs.specs.Listing.{ListValue, ListsValues, listed_tota
 ghost use Rattle.machine_defs.specs.State.{Content, State, Mark, value_at, with_born, empty_state};
 ghost use Rattle.machine_defs.specs.Loading.{IsLoaded};
 ghost use Rattle.machine_defs.specs.Kept.{KnowsRules, IsLawfulContent, IsLawfulState};
-ghost use Rattle.machine_defs.specs.Script.{Line, Undo, Log};
-ghost use Rattle.machine_defs.specs.Text.{Reply, Logged, Refused};
+ghost use Rattle.machine_defs.specs.Script.{Line, Undo, Redo, Log};
+ghost use Rattle.machine_defs.specs.Text.{Reply, Done, Logged, Refused};
 ghost use Rattle.machine_defs.specs.Machine.{Step, Run, FailsFor, checks};
 ghost use Rattle.machine_defs.specs.Outside.{Files, IsFront};
 ghost use Rattle.machine_defs.specs.Program.{ProgramAnswer, Starts};
@@ -43,10 +43,11 @@ pub fn accepted_without_refusal()
 
 /// A line has one reply, and leads to one state where the state has what the line needs. An edge in a combinatorial map and
 /// a face in a generalized map need links that obey the laws; a cell that is removed or contracted needs them in both kinds,
-/// and that its dart, if it lives, is not 0; undo, and the reply of a log, need that no two marks have one name; and the reply
-/// of `off` needs links that obey the laws. No other line needs anything, and no other reply. Each state of a run has what all
-/// lines need. In a map that breaks the laws an edge or a face may leave a link of a new dart open, and a walk across the cell
-/// may go on for ever, so that nothing tells a link; and a dart may lie in two 0-cells, and so be a corner at two points.
+/// and that its dart, if it lives, is not 0; a closing needs them too, and that 0 does not live; undo, and the reply of a log,
+/// need that no two marks have one name; and the reply of `off` needs links that obey the laws. No other line needs anything,
+/// and no other reply. Each state of a run has what all lines need. In a map that breaks the laws an edge or a face may leave
+/// a link of a new dart open, and a walk across the cell, or around a boundary, may go on for ever, so that nothing tells a
+/// link; and a dart may lie in two 0-cells, and so be a corner at two points.
 pub fn one_step()
     ensures reply { (hook : Hook) (s : State) (line : Line) (one other : Reply) (new new' : State)
         → ReplyNeeds line s → Step hook s line one new → Step hook s line other new' → one ≡ other }
@@ -109,6 +110,17 @@ pub fn undo_leads_back()
     ensures undone { (hook : Hook) (s : State) (name : List ℕ) (steps : List Difference) (reply : Reply) (same new : State)
         → IsLawfulState s → AreTraced s → Step hook s (Log name) (Logged steps) same → Step hook s (Undo name) reply new
         → all_taken_back steps s.present ≡ new.present }
+{}
+
+/// A redo under the name of the undo just made is accepted, and gives back the whole state as it stood before the undo: the
+/// present content, the past, the marks, and the undos that could be taken back then.
+///
+/// For whoever offers an undo to somebody who may think better of it: nothing is lost by it.
+pub fn redo_gives_back()
+    ensures accepted { (hook : Hook) (s mid new : State) (name : List ℕ) (reply : Reply) → Step hook s (Undo name) (Done 0 0) mid
+        → Step hook mid (Redo name) reply new → reply ≡ Done 0 0 }
+    ensures same { (hook : Hook) (s mid new : State) (name : List ℕ) (reply : Reply) → Step hook s (Undo name) (Done 0 0) mid
+        → Step hook mid (Redo name) reply new → new ≡ s }
 {}
 
 /// The program has one text and one status for its words and files.

@@ -70,6 +70,30 @@ const SPHERE: [(Line, Wanted); 12] = [
     (Line::Dual, Wanted::Done),
 ];
 
+/// A square with a dangling edge, that is closed and gets a vertex in its middle.
+#[rattlefmt::skip]
+const CLOSED: [(Line, Wanted); 8] = [
+    (Line::Polygon { sides: 4 }, Wanted::Made { first: 1, count: 8 }),
+    (Line::Dangle { dart: 9 }, Wanted::No(Refusal::NoDart)),
+    (Line::Dangle { dart: 1 }, Wanted::Made { first: 9, count: 4 }),
+    (Line::Close { link: 3 }, Wanted::No(Refusal::BadDim)),
+    (Line::Close { link: 2 }, Wanted::Made { first: 13, count: 8 }),
+    (Line::Center { dart: 13 }, Wanted::Made { first: 21, count: 16 }),
+    (Line::Dart, Wanted::Made { first: 37, count: 1 }),
+    (Line::Center { dart: 37 }, Wanted::No(Refusal::NotClosed)),
+];
+
+/// A step is taken back and given again.
+#[rattlefmt::skip]
+const AGAIN: [(Line, Wanted); 6] = [
+    (Line::Mark { name: Name::Begin }, Wanted::Done),
+    (Line::Polygon { sides: 3 }, Wanted::Made { first: 1, count: 6 }),
+    (Line::Undo { name: Name::Begin }, Wanted::Done),
+    (Line::Redo { name: Name::End }, Wanted::No(Refusal::NoRedo)),
+    (Line::Redo { name: Name::Begin }, Wanted::Done),
+    (Line::Redo { name: Name::Begin }, Wanted::No(Refusal::NoRedo)),
+];
+
 /// Two marks are set, and the first is gone back to.
 #[rattlefmt::skip]
 const MARKS: [(Line, Wanted); 4] = [
@@ -195,6 +219,18 @@ fn inserts_a_face(rt: HostRuntime) {
 fn turns_a_map_and_goes_back(rt: HostRuntime) -> Result<(), Fail> {
     let map = map_after::<2>(&rt, rt.alloc(), &SPHERE);
     check_counts(&rt, rt.alloc(), &map, &[12, 2, 3, 3, 1])
+}
+
+#[test]
+fn closes_a_map(rt: HostRuntime) -> Result<(), Fail> {
+    let map = map_after::<2>(&rt, rt.alloc(), &CLOSED);
+    check_counts(&rt, rt.alloc(), &map, &[37, 7, 10, 6, 2])
+}
+
+#[test]
+fn gives_again_what_was_taken_back(rt: HostRuntime) -> Result<(), Fail> {
+    let map = map_after::<2>(&rt, rt.alloc(), &AGAIN);
+    check_counts(&rt, rt.alloc(), &map, &[6, 3, 3, 1, 1])
 }
 
 #[test]

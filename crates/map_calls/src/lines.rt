@@ -47,6 +47,15 @@ pub enum Line {
         dart: u64,
     },
     Dual,
+    Close {
+        link: u64,
+    },
+    Dangle {
+        dart: u64,
+    },
+    Center {
+        dart: u64,
+    },
     Rule {
         dim: u64,
         merge: &'static str,
@@ -65,6 +74,9 @@ pub enum Line {
         name: Name,
     },
     Undo {
+        name: Name,
+    },
+    Redo {
         name: Name,
     },
 }
@@ -109,11 +121,15 @@ pub fn obey<K: Edits<DIM>, const DIM: usize>(
         Line::Remove { dim, dart } => map.remove(alloc, dim, dart),
         Line::Contract { dim, dart } => map.contract(alloc, dim, dart),
         Line::Dual => map.dual(alloc),
+        Line::Close { link } => map.close(alloc, link),
+        Line::Dangle { dart } => map.dangle(alloc, dart),
+        Line::Center { dart } => map.center(alloc, dart),
         Line::Rule { dim, merge, split } => map.rule(alloc, dim, merge, split),
         Line::Set { dim, dart, value } => map.set(alloc, dim, dart, value),
         Line::Clear { dim, dart } => map.clear(alloc, dim, dart),
         Line::Mark { name } => map.mark(name.as_str()),
         Line::Undo { name } => map.undo(alloc, name.as_str()),
+        Line::Redo { name } => map.redo(alloc, name.as_str()),
     }
 }
 

@@ -108,6 +108,8 @@ fn line_of(choice: u64, dimension: u64, named: Named) -> Line {
         16 => Line::Face { dart, other },
         17 => Line::Remove { dim, dart },
         18 => Line::Contract { dim, dart },
+        19 => Line::Dangle { dart },
+        20 => Line::Center { dart },
         _ => Line::Sew {
             link: dim,
             dart,
@@ -410,20 +412,22 @@ fn begin_script<K: Edits<DIM>, const DIM: usize>(
     standings(alloc, map)
 }
 
-/// Goes back to the mark, and compares what stands there.
+/// Goes back to the mark and forth again, and compares what stands there and there.
 fn check_return<K: Edits<DIM>, const DIM: usize>(
     rt: &impl Abort,
     alloc: Global,
     map: &mut Map<'_, K, OrCopy, DIM>,
     begin: &[Standing],
 ) -> Result<(), Refused> {
-    obey(alloc, map, &Line::Undo { name: Name::Begin })?;
     let end = standings(alloc, map)?;
-    assert!(rt; end.as_slice() == begin);
+    obey(alloc, map, &Line::Undo { name: Name::Begin })?;
+    assert!(rt; standings(alloc, map)?.as_slice() == begin);
+    obey(alloc, map, &Line::Redo { name: Name::Begin })?;
+    assert!(rt; standings(alloc, map)?.as_slice() == end.as_slice());
     Ok(())
 }
 
-/// Checks a random script, takes it back, and answers how many of its lines joined or parted cells with values.
+/// Checks a random script, takes it back and gives it again, and answers how many of its lines joined or parted cells with values.
 fn check_script<K: Edits<DIM>, const DIM: usize>(
     rt: &impl Abort,
     alloc: Global,

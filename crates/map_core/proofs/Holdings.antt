@@ -1,22 +1,24 @@
 -- A map keeps places for all contents of its trail, whatever is done.
-use Rattle.std.proofs.Common.{◌≡◌, ◌≢◌, ℕ, zero, suc, ◌+◌, ◌-◌, ◌<◌, ◌≤◌, ◌↔◌, Bool, true, false, IsTrue, Option, Some, None, List, [], ◌∷◌, ◌++◌, length, take, drop, get_or, refl, sym, ap, ap₂, subst, ◌∙◌, append_assoc, arith}
+use Rattle.std.proofs.Common.{◌≡◌, ◌≢◌, ℕ, zero, suc, ◌+◌, ◌-◌, ◌<◌, ◌≤◌, ◌↔◌, Bool, true, false, IsTrue, Option, Some, None, List, [], ◌∷◌, ◌++◌, length, take, drop, map, get_or, refl, sym, ap, ap₂, subst, ◌∙◌, append_assoc, arith}
 use Rattle.map_defs.specs.Rows.{made, live_count}
 use Rattle.machine_defs.specs.State.{Content}
 use Rattle.machine_defs.specs.Difference.{Difference, IsDifference, put_forward}
 use Rattle.map_defs.specs.Values.{Hook}
 use Rattle.machine_defs.specs.Kept.{IsLawfulContent, AreRulesKnown, KnowsRules}
-use Rattle.machine_laws.proofs.KnownRules.{same-known, next-known, marked-known, back-known, state-known}
+use Rattle.machine_laws.proofs.KnownRules.{same-known, next-known, marked-known, back-known, forth-known, state-known}
 use Rattle.journal_laws.specs.Following.{Follows, all_put_forward, all_taken_back}
 use Rattle.journal_laws.proofs.Leading.{leads-on}
-use Rattle.trail_laws.specs.Trails.{Trail, empty_trail, standing_steps, steps_since, place_of, noted, marked, back, IsOrdered}
+use Rattle.trail_laws.specs.Trails.{Ahead, Trail, empty_trail, standing_steps, steps_since, steps_ahead, place_of, noted, marked, back, forth, IsLastAhead, IsOrdered}
 use Rattle.trail_laws.specs.Trails as trails
-use Rattle.trail_laws.proofs.TrailFacts.{mark_within}
-use Rattle.trail_laws.specs.Told.{told, origin, contents_along, contents_of, past_of, before_steps, IsTraced}
+use Rattle.trail_laws.proofs.TrailFacts.{mark_within, last-ahead}
+use Rattle.trail_laws.specs.Told.{told, origin, contents_along, contents_of, past_of, undone_of, before_steps, after_steps, IsTraced}
 use Rattle.trail_laws.proofs.Along.{along-push}
 use Rattle.trail_laws.proofs.Reading.{within, along-standing, past-and-now}
 use Rattle.trail_laws.proofs.Noting.{origin-noted, told-begun}
 use Rattle.trail_laws.proofs.Marking.{origin-marked, told-marked}
 use Rattle.trail_laws.proofs.Returning.{contents-back, gone-back}
+use Rattle.trail_laws.proofs.Redoing.{contents-forth, told-forth}
+use Rattle.trail_laws.proofs.UndoneNames.{ahead-told}
 use Rattle.trail_laws.proofs.Between.{since-long, between-is, between-differ}
 use Rattle.valued_map.specs.Holding.{Holding}
 use Rattle.valued_map.specs.Told.{IsTold, IsStep}
@@ -162,4 +164,25 @@ module _ (hook : Hook) (map : Holding) (t : Trail) (h : IsHeld hook map t) (o : 
             let (mark, named, copy, told-is, stays) = gone-back map.content t name k h.traced o is in
             back-known hook (told map.content t) h.known name k mark named (told new.content u)
             (ap (λ (c : Content). told c u) before ∙ ap (told (before_steps map.content t k)) gone ∙ told-is);
+      }
+
+-- taking an undo back
+module _ (hook : Hook) (old : Holding) (t : Trail) (h : IsHeld hook old t) (o : IsOrdered t) (name : List ℕ) (others : List Ahead) (last : Ahead)
+    (is : IsLastAhead t name others last) where
+  pub held-forth : (new : Holding) (u : Trail) → new.content ≡ all_put_forward (steps_ahead t last) old.content → old.places ≤ new.places → u ≡ forth t others last
+      → IsTraced new.content u → IsHeld hook new u
+  held-forth new u on more gone traced =
+      let ahead = last-ahead t others last o is.there in
+      let there : HasPlacesForAll new.places (contents_of (after_steps old.content t last) (forth t others last)) =
+      subst (λ (cs : List Content). HasPlacesForAll new.places cs) (sym (contents-forth old.content t others last h.traced o ahead))
+      (places-more old.places new.places more (contents_of old.content t) h.room) in
+      record {
+        traced = traced;
+        room =
+            subst (λ (v : Trail). HasPlacesForAll new.places (contents_of new.content v)) (sym gone)
+            (subst (λ (c : Content). HasPlacesForAll new.places (contents_of c (forth t others last))) (sym on) there);
+        known =
+            forth-known hook (told old.content t) h.known (map (undone_of old.content t) others) (undone_of old.content t last)
+            (ahead-told old.content t o name others last is).there (told new.content u)
+            (ap (λ (c : Content). told c u) on ∙ ap (told (after_steps old.content t last)) gone ∙ told-forth old.content t others last h.traced o ahead);
       }

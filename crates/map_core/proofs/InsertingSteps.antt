@@ -52,7 +52,7 @@ module _ (k : Kind) (n : ℕ) (rows : Rows) (hook : Hook) where
         relinked = relinked k n rows edit (seen-sound k n rows s.present kind dim same kept) (seen-begun rows s.present same kept) plan.fits NoDart (λ x. (λ none. absurd none, λ at. absurd (omega (arith, at.1, ap length plan.deaths)))) hook s.present next on (Becomes Here plan.star) plan.becomes;
       }
 
-      inserted : (line : Line) → ((reply : Reply) (new : State) → Judged s (room_check s.present (K s.present) ∷ []) (InsertsDarts hook s (K s.present) (Becomes s.present)) reply new → Step hook s line reply new)
+      pub inserted : (line : Line) → ((reply : Reply) (new : State) → Judged s (room_check s.present (K s.present) ∷ []) (InsertsDarts hook s (K s.present) (Becomes s.present)) reply new → Step hook s line reply new)
           → (result : Result Done Refused) (new : State) → Grows hook s edit result new → Does hook s line result new
       inserted line passes (Ok done) new g =
           let few : made rows + edit.births ≤ made_max = subst (λ (c : Content). made c.rows + edit.births ≤ made_max) (sym view) g.0 in

@@ -1,10 +1,12 @@
 pub mod Present
 pub mod SewingSteps
 pub mod InsertingSteps
+pub mod HangingSteps
 pub mod RemovingSteps
 pub mod Stepped
 pub mod Marks
 pub mod MeshSteps
 pub mod GoingBack
+pub mod GoingForth
 pub mod DualSteps
 pub mod Holdings

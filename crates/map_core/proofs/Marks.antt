@@ -14,11 +14,12 @@ use Rattle.machine_defs.specs.Listing.{names_of}
 use Rattle.machine_defs.specs.Machine.{Step}
 use Rattle.machine_defs.specs.Text as text
 use Rattle.journal_laws.specs.Following.{all_put_forward, all_taken_back}
+use Rattle.machine_laws.specs.Tracing.{AreTraced}
 use Rattle.machine_laws.proofs.Traced.{leads-back, leads-forward}
 use Rattle.trail_laws.specs.Trails as trails
 use Rattle.trail_laws.specs.Trails.{Placed, Trail, standing_marks, mark_names, steps_since, IsOrdered, marked}
 use Rattle.trail_laws.specs.Told.{mark_of, told, IsTraced}
-use Rattle.trail_laws.proofs.Naming.{names-told, mark-told, mark-stands, trail-mark, all-kept}
+use Rattle.trail_laws.proofs.Naming.{names-told, mark-told, mark-stands, trail-mark, all-kept, undone-follow}
 use Rattle.trail_laws.proofs.Reading.{past-follow}
 use Rattle.trail_laws.proofs.Marking.{told-marked}
 use Rattle.trail_laws.proofs.Returning.{differ-since}
@@ -32,6 +33,10 @@ names-of-told now t (mark ∷ marks) = ap (λ (names : List (List ℕ)). mark.na
 
 pub told-names : (now : Content) (t : Trail) → names_of (told now t).marks ≡ mark_names t
 told-names now t = names-of-told now t (standing_marks t)
+
+-- in what is told each content follows the one before it
+pub told-traced : (now : Content) (t : Trail) → IsTraced now t → IsOrdered t → AreTraced (told now t)
+told-traced now t h o = record { present = past-follow now t h o; undone = undone-follow now t o h }
 
 module _ (now : Content) (t : Trail) (h : IsTraced now t) (o : IsOrdered t) (hook : Hook) (name : List ℕ) where
   -- a mark that is refused
@@ -63,7 +68,7 @@ module _ (now : Content) (t : Trail) (h : IsTraced now t) (o : IsOrdered t) (hoo
         (differ-since now t name i h o (mark-stands now t o name i mark is) mark is)
 
     pub log-back : all_taken_back steps now ≡ mark.content
-    log-back = leads-back (told now t) (all-kept now t o h) (past-follow now t h o) name i mark is steps differ
+    log-back = leads-back (told now t) (all-kept now t o h) (told-traced now t h o) name i mark is steps differ
 
     pub log-forward : all_put_forward steps mark.content ≡ now
-    log-forward = leads-forward (told now t) (all-kept now t o h) (past-follow now t h o) name i mark is steps differ
+    log-forward = leads-forward (told now t) (all-kept now t o h) (told-traced now t h o) name i mark is steps differ

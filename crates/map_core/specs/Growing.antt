@@ -9,12 +9,13 @@ use Rattle.map_defs.specs.Rows.{Rows, made, made_max, IsLive}
 use Rattle.map_defs.specs.Edits.{Edit, after_edit}
 use Rattle.map_defs.specs.Values.{Hook}
 use Rattle.machine_defs.specs.State.{State, Content, steps_to}
+use Rattle.machine_defs.specs.Machine.{first_born}
 use Rattle.label_laws.specs.Contents.{IsCarriedOn}
 
 -- An edit that inserts was made, and the values were carried; or too many darts would have been made, or memory was wanting.
 abbrev pub Grows : Hook → State → Edit → Result Done Refused → State → Type 0
 Grows hook s edit (Ok done) new =
-    (made s.present.rows + edit.births ≤ made_max) × (done.first ≡ made s.present.rows + 1) × (done.count ≡ edit.births)
+    (made s.present.rows + edit.births ≤ made_max) × (done.first ≡ first_born s.present edit.births) × (done.count ≡ edit.births)
     × ((next : Content) × IsCarriedOn hook s.present (after_edit s.present.dim edit s.present.rows) next × (new ≡ steps_to s next))
 Grows hook s edit (Err (why.Line refusal)) new = (refusal ≡ told.Full) × (made_max < made s.present.rows + edit.births) × (new ≡ s)
 Grows hook s edit (Err why.NoMemory) new = new ≡ s

@@ -15,6 +15,11 @@ abbrev pub NamesDimension : ℕ → ℕ → Result ℕ Refusal → Type 0
 NamesDimension n number (Ok dim) = (dim ≡ number) × (number ≤ n)
 NamesDimension n number (Err refusal) = (refusal ≡ told.BadDim) × (n < number)
 
+-- the link of a number at which the map can be closed, or it is above the map's dimension, or below 2 in a combinatorial map
+abbrev pub NamesClosingLink : Kind → ℕ → ℕ → Result ℕ Refusal → Type 0
+NamesClosingLink k n number (Ok link) = (link ≡ number) × (((n < number) ⊎ ((k ≡ beta) × (number < 2))) → ⊥)
+NamesClosingLink k n number (Err refusal) = (refusal ≡ told.BadDim) × ((n < number) ⊎ ((k ≡ beta) × (number < 2)))
+
 -- the link of a number at which darts can be sewn, or it is above the map's dimension, or link 0 of a combinatorial map,
 -- which follows link 1
 abbrev pub NamesSewingLink : Kind → ℕ → ℕ → Result ℕ Refusal → Type 0

@@ -81,8 +81,8 @@ impl<'h, K: Edits<DIM>, H: Hook, const DIM: usize> Map<'h, K, H, DIM> {
 }
 
 impl<'h, K: Kind, H: Hook, const DIM: usize> Map<'h, K, H, DIM> {
-    /// Makes an edit that inserts, unless too many darts would have been made.
-    fn insert(&mut self, alloc: Global, edit: &Edit) -> Result<Done, Refused>
+    /// Makes an edit that inserts, unless too many darts would have been made, and answers the darts that were born.
+    pub(crate) fn insert(&mut self, alloc: Global, edit: &Edit) -> Result<Done, Refused>
         requires ready { H.ready self.old.hook }
         requires fits { Fits K.kind DIM self.old.state.present.rows edit.now }
         requires laws { Laws K.kind (links_of (after_edit DIM edit.now self.old.state.present.rows)) }
@@ -94,6 +94,9 @@ impl<'h, K: Kind, H: Hook, const DIM: usize> Map<'h, K, H, DIM> {
             return Err(Refused::Line(Refusal::Full));
         }
         self.relink(alloc, edit)?;
+        if edit.births == 0 {
+            return Ok(Done::NONE);
+        }
         Ok(Done {
             first: made + 1,
             count: edit.births,

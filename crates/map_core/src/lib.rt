@@ -8,6 +8,7 @@
 
 mod change;
 mod dual;
+mod hang;
 mod insert;
 mod list;
 mod load;

@@ -16,13 +16,13 @@ use valued_map::ValuedMap;
 
 /// A map of a kind and a dimension from 2 to 8 with values on its cells, seen as the state of the plain map machine
 /// beside the hook that was handed in. Its type keeps the laws of a map: at every moment its links obey them, and the
-/// darts of a cell have one value or none; and the hook knows each rule that the map has or may go back to. Of the past it
-/// keeps what each step since the first mark changed, and tells all else from that.
+/// darts of a cell have one value or none; and the hook knows each rule that the map has or may go back or forth to. Of the
+/// past, and of what undos took back, it keeps what each step changed, and tells all else from that.
 #[derive(Drop)]
 pub struct Map<'h, K: Kind, H: Hook, const DIM: usize> {
     pub(crate) present: ValuedMap<K, DIM>,
     pub(crate) hook: &'h H,
-    // The steps since the first mark. Without a mark none is noted.
+    // The steps since the first mark, and the undos that can be taken back. Without a mark no step is noted.
     pub(crate) journal: Journal,
 }
 

@@ -20,9 +20,9 @@ impl<'h, K: Kind, H: Hook, const DIM: usize> Map<'h, K, H, DIM> {
     /// content, those of the past and each mark's copy are lawful maps with one value or none on each cell; no two marks
     /// have one name, a later mark has no lesser place, and each mark's copy is the content at its place; and each content
     /// follows the one before it: kind, dimension and places stay, numbers of darts go on, and no dart that ended lives again.
-    /// And the hook knows each rule of all of them.
+    /// So it is with what stood before each undo that can be taken back. And the hook knows each rule of all of them.
     ///
-    /// For whoever rests on a law that asks for a lawful state, as those of undo, whatever calls led to it.
+    /// For whoever rests on a law that asks for a lawful state, as those of undo and redo, whatever calls led to it.
     pub fn mark_count(&self) -> usize
         ensures count { result ≡ length self.now.state.marks }
         ensures kept { IsLawfulState self.now.state }
@@ -33,8 +33,8 @@ impl<'h, K: Kind, H: Hook, const DIM: usize> Map<'h, K, H, DIM> {
     }
 
     /// Sets a mark of this name on the present state, for `undo` to go back to and `log` to tell what was done since. It
-    /// costs the length of the name, and what the last undo took back. The name is one of the grammar of lines: 1 to 32 small
-    /// letters, digits and underscores.
+    /// costs the length of the name, and what undos took back, which is then gone. The name is one of the grammar of lines:
+    /// 1 to 32 small letters, digits and underscores.
     ///
     /// Refused as `MarkTaken` exactly where a mark has the name.
     pub fn mark(&mut self, name: &str) -> Result<Done, Refused>

@@ -74,6 +74,21 @@ pub record IsBetaCentred (d : ℕ) (star tip : ℕ → ℕ) (L N : Links) : Type
   pub kept : (x t : ℕ) → 1 ≤ t → (InCell beta L 2 d x → t ≢ 1) → ((y : ℕ) → InCell beta L 2 d y → x ≢ star y) → ((y : ℕ) → InCell beta L 2 d y → x ≢ tip y) → N t x ≡ L t x
   pub turned : IsTurned N
 
+-- a dangling edge at the corner of d, by kind
+abbrev pub IsDangled : Kind → ℕ → (ℕ → ℕ) → (ℕ → ℕ) → Links → Links → Type 0
+IsDangled alpha = IsAlphaDangled
+IsDangled beta = IsBetaDangled
+
+-- it is possible: in a combinatorial map some side leads into the corner
+abbrev pub CanDangle : Kind → Links → ℕ → Type 0
+CanDangle alpha L d = Unit {0}
+CanDangle beta L d = L 0 d ≢ 0
+
+-- a vertex in the middle of the face of d, by kind
+abbrev pub IsCentred : Kind → ℕ → (ℕ → ℕ) → (ℕ → ℕ) → Links → Links → Type 0
+IsCentred alpha = IsAlphaCentred
+IsCentred beta = IsBetaCentred
+
 -- the face of d is closed, as a vertex in its middle needs
 abbrev pub IsClosedFace : Kind → Links → ℕ → Type 0
 IsClosedFace k L d = (x : ℕ) → InCell k L 2 d x → (L 0 x ≢ 0) × (L 1 x ≢ 0)

@@ -4,6 +4,8 @@
 #[cfg(test)]
 mod audits;
 #[cfg(test)]
+mod closings;
+#[cfg(test)]
 mod combinatorial;
 #[cfg(test)]
 mod faults;

@@ -12,8 +12,8 @@ const MARKS: [Row; 3] = [
     },
     // a name is taken while its mark stands, and free again once it is gone
     Row {
-        script: "undo a\nlog a\nmark a\nmark a\nmark b\nundo a\nundo b\nlog b\nmark b\nredo a\n",
-        text: "no 18 NoMark\nno 18 NoMark\nok\nno 17 MarkTaken\nok\nok\nno 18 NoMark\nno 18 NoMark\nok\nno 1 Syntax\n",
+        script: "undo a\nlog a\nmark a\nmark a\nmark b\nundo a\nundo b\nlog b\nmark b\nredo b\n",
+        text: "no 18 NoMark\nno 18 NoMark\nok\nno 17 MarkTaken\nok\nok\nno 18 NoMark\nno 18 NoMark\nok\nno 22 NoRedo\n",
         status: 1,
     },
     // refused lines, questions and marks are no steps, and a number that was taken back is given again
@@ -21,6 +21,29 @@ const MARKS: [Row; 3] = [
         script: "polygon 3\nmark a\nunsew 2 1\npolygon 2\nmark b\ncell 0 1\nlog a\ndart\nlog b\nundo a\nlog b\nmark b\ndart\nlog a\n",
         text: "ok 1 6\nok\nno 7 AlreadyFree\nno 16 BadCount\nok\ncell 1 6\nlog 0\nend\nok 7 1\nlog 1\nstep 1\nborn 7 1\nend\n\
             ok\nno 18 NoMark\nok\nok 7 1\nlog 1\nstep 1\nborn 7 1\nend\n",
+        status: 1,
+    },
+];
+
+const REDOS: [Row; 3] = [
+    // the last undo alone can be taken back, by its name, until a step is made
+    Row {
+        script: "polygon 3\nmark a\nvertex 1\nundo a\nredo b\nredo a\ncount\nundo a\ndart\nredo a\n",
+        text: "ok 1 6\nok\nok 7 2\nok\nno 22 NoRedo\nok\ncount 8 4 4 1 1\nok\nok 7 1\nno 22 NoRedo\n",
+        status: 1,
+    },
+    // undos within an undo, taken back one after another, with the later mark
+    Row {
+        script: "polygon 3\nmark a\nvertex 1\nmark b\ndart\nundo b\nundo a\nredo b\nredo a\nredo b\nlog b\n",
+        text: "ok 1 6\nok\nok 7 2\nok\nok 9 1\nok\nok\nno 22 NoRedo\nok\nok\nlog 1\nstep 1\nborn 9 1\nend\n",
+        status: 1,
+    },
+    // a face with a value that is gone, the dual and its rules; a refused line drops nothing, and a mark drops what was undone
+    Row {
+        script: "redo a\npolygon 3\nrule 2 first copy\nset 2 1 4 5 6\nmark a\nremove 2 1\nmark b\ndual\nundo a\nvalue 2 1\n\
+            mark a\nredo a\nmark b\nundo b\nredo b\nundo b\nundo a\nvalue 2 1\nmark c\nredo a\n",
+        text: "no 22 NoRedo\nok 1 6\nok\nok\nok\nok\nok\nok\nok\nvalue 4 5 6\nno 17 MarkTaken\nok\nno 17 MarkTaken\nok\nok\nok\n\
+            ok\nvalue 4 5 6\nok\nno 22 NoRedo\n",
         status: 1,
     },
 ];
@@ -74,6 +97,11 @@ const SOLID: [MeshRow; 1] = [
 #[test]
 fn marks_in_dimension_2(rt: HostRuntime) -> Result<(), AllocError> {
     check_rows(&rt, rt.alloc(), "g", "2", &MARKS)
+}
+
+#[test]
+fn redos_in_dimension_2(rt: HostRuntime) -> Result<(), AllocError> {
+    check_rows(&rt, rt.alloc(), "g", "2", &REDOS)
 }
 
 #[test]

@@ -5,7 +5,7 @@ use Rattle.std.specs.List.{list_all}
 use Rattle.std.specs.Str.{bytes_eq}
 use Rattle.std.proofs.lemmas.Bool.{and_parts, leb-true}
 use Rattle.std.proofs.lemmas.Option.{option_and_then_some}
-use Rattle.machine_defs.specs.Script.{Line, Rule, Set, Face, Mark, Undo, Log, is_name, numeral, numerals, name, value, found, alone, with_one, with_two, with_three, numbers_line, face_line, rule_line, set_line, only_name, line_with, line_of}
+use Rattle.machine_defs.specs.Script.{Line, Rule, Set, Face, Mark, Undo, Redo, Log, is_name, numeral, numerals, name, value, found, alone, with_one, with_two, with_three, numbers_line, face_line, rule_line, set_line, only_name, line_with, line_of}
 use Rattle.map_defs.specs.TextWords.{is_text}
 
 abbrev IsFit : Line → Type 0
@@ -47,7 +47,7 @@ abbrev IsFitThree : (ℕ → ℕ → ℕ → Line) → Type 0
 IsFitThree f = (a b c : ℕ) → IsFit (f a b c)
 
 one-fit : AllRows IsFitOne with_one
-one-fit = (λ a. tt, (λ a. tt, (λ a. tt, tt)))
+one-fit = (λ a. tt, (λ a. tt, (λ a. tt, (λ a. tt, (λ a. tt, (λ a. tt, tt))))))
 
 two-fit : AllRows IsFitTwo with_two
 two-fit = (λ a b. tt, (λ a b. tt, (λ a b. tt, (λ a b. tt, (λ a b. tt, (λ a b. tt, (λ a b. tt, (λ a b. tt, (λ a b. tt, (λ a b. tt, tt))))))))))
@@ -115,8 +115,9 @@ with-fit first words line =
     (branch (bytes_eq first (codes "set")) _ _ _ _ (set-fit words line)
     (branch (bytes_eq first (codes "mark")) _ _ _ _ (mapped Mark (only_name words) line (only-named words))
     (branch (bytes_eq first (codes "undo")) _ _ _ _ (mapped Undo (only_name words) line (λ n is. tt))
+    (branch (bytes_eq first (codes "redo")) _ _ _ _ (mapped Redo (only_name words) line (λ n is. tt))
     (branch (bytes_eq first (codes "log")) _ _ _ _ (mapped Log (only_name words) line (λ n is. tt))
-    (λ e. option_and_then_some (numbers_line first) (numerals words) _ e (λ ns is f. numbers-fit first ns line f)))))))
+    (λ e. option_and_then_some (numbers_line first) (numerals words) _ e (λ ns is f. numbers-fit first ns line f))))))))
 
 line-fit : (words : List (List ℕ)) (line : Line) → line_of words ≡ Some line → IsFit line
 line-fit [] line e = absurd (cc (e))

@@ -81,11 +81,15 @@ fn change<K: Edits<DIM>, H: Hook, const DIM: usize>(
         Change::Remove(dim, dart) => map.remove(alloc, *dim, *dart),
         Change::Contract(dim, dart) => map.contract(alloc, *dim, *dart),
         Change::Dual => map.dual(alloc),
+        Change::Close(link) => map.close(alloc, *link),
+        Change::Dangle(dart) => map.dangle(alloc, *dart),
+        Change::Center(dart) => map.center(alloc, *dart),
         Change::Rule(dim, merge, split) => map.rule(alloc, *dim, merge.as_str(), split.as_str()),
         Change::Set(dim, dart, value) => map.set(alloc, *dim, *dart, *value),
         Change::Clear(dim, dart) => map.clear(alloc, *dim, *dart),
         Change::Mark(name) => map.mark(name.as_str()),
         Change::Undo(name) => map.undo(alloc, name.as_str()),
+        Change::Redo(name) => map.redo(alloc, name.as_str()),
     }
 }
 

@@ -89,5 +89,6 @@ told-by_numbers first words line told =
     let set = differs first (codes "set") words line told (without-row (codes "set") refl refl refl refl) in
     let mark = differs first (codes "mark") words line told (without-row (codes "mark") refl refl refl refl) in
     let undo = differs first (codes "undo") words line told (without-row (codes "undo") refl refl refl refl) in
+    let redo = differs first (codes "redo") words line told (without-row (codes "redo") refl refl refl refl) in
     let log = differs first (codes "log") words line told (without-row (codes "log") refl refl refl refl) in
-    rw (text, others, face, rule, set, mark, undo, log) told
+    rw (text, others, face, rule, set, mark, undo, redo, log) told

@@ -28,11 +28,15 @@ change_meaning (change.Face darts) = machine.Face darts.items
 change_meaning (change.Remove i d) = machine.Remove i d
 change_meaning (change.Contract i d) = machine.Contract i d
 change_meaning change.Dual = machine.Dual
+change_meaning (change.Close i) = machine.Close i
+change_meaning (change.Dangle d) = machine.Dangle d
+change_meaning (change.Center d) = machine.Center d
 change_meaning (change.Rule i merge split) = machine.Rule i (string_bytes merge) (string_bytes split)
 change_meaning (change.Set i d value) = machine.Set i d value
 change_meaning (change.Clear i d) = machine.Clear i d
 change_meaning (change.Mark name) = machine.Mark (string_bytes name)
 change_meaning (change.Undo name) = machine.Undo (string_bytes name)
+change_meaning (change.Redo name) = machine.Redo (string_bytes name)
 
 abbrev pub question_meaning : Question → machine.Line
 question_meaning (question.Log name) = machine.Log (string_bytes name)

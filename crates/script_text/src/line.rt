@@ -38,6 +38,12 @@ pub enum Change {
     Contract(u64, u64),
     /// `dual`: take the dual of the map.
     Dual,
+    /// `close i`: close the map at link i, with a new dart on each dart that is free there.
+    Close(u64),
+    /// `dangle d`: hang an edge at the corner of a dart.
+    Dangle(u64),
+    /// `center d`: put a vertex in the middle of the face of a dart, with an edge to each corner.
+    Center(u64),
     /// `rule i merge split`: name the rule for the values of dimension i by its merge and its split. Each name has 1 to 32
     /// small letters, digits and underscores; that they are names in the tables of rules is not known.
     Rule(u64, String, String),
@@ -49,6 +55,8 @@ pub enum Change {
     Mark(String),
     /// `undo name`: go back to the mark of that name.
     Undo(String),
+    /// `redo name`: take back the last undo, which was one of that name.
+    Redo(String),
 }
 
 /// A line that asks something of the map and changes nothing, in the same form as a [`Change`].

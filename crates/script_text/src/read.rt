@@ -59,6 +59,7 @@ fn read_worded_line(alloc: Global, first: &str, others: &[u8]) -> Result<Line, R
         "set" => Ok(read_set(others).ok_or(Refusal::Syntax)?),
         "mark" => Ok(Line::Change(Change::Mark(read_only_name(alloc, others)?))),
         "undo" => Ok(Line::Change(Change::Undo(read_only_name(alloc, others)?))),
+        "redo" => Ok(Line::Change(Change::Redo(read_only_name(alloc, others)?))),
         "log" => Ok(Line::Question(Question::Log(read_only_name(alloc, others)?))),
         _ => Err(Refused::Line(Refusal::Syntax)),
     }
@@ -190,6 +191,9 @@ fn line_with_one(first: &str, a: u64) -> Option<Line>
         "polygon" => Some(Line::Change(Change::Polygon(a))),
         "del" => Some(Line::Change(Change::Del(a))),
         "vertex" => Some(Line::Change(Change::Vertex(a))),
+        "close" => Some(Line::Change(Change::Close(a))),
+        "dangle" => Some(Line::Change(Change::Dangle(a))),
+        "center" => Some(Line::Change(Change::Center(a))),
         _ => None,
     }
 }

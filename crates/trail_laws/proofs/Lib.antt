@@ -3,6 +3,9 @@ pub mod Along
 pub mod Reading
 pub mod Noting
 pub mod Marking
+pub mod Redoing
 pub mod Naming
 pub mod Returning
 pub mod Between
+pub mod Onward
+pub mod UndoneNames

@@ -1,19 +1,20 @@
 -- The marks that are told, one by one.
 use Rattle.std.proofs.Common.{◌≡◌, ◌≢◌, ◌↔◌, ℕ, suc, ◌<◌, ◌≤◌, List, [], ◌∷◌, ◌++◌, length, get_or, take, map, Some, All, AllPairs, slice_get, sym, ap, ◌∙◌, subst, arith}
 use Rattle.std.proofs.lemmas.List.{get_or-take, get_or-map, length-map, length-append}
-use Rattle.std.proofs.lemmas.List.Elements.{All-map, All-nil, All-weaker}
+use Rattle.std.proofs.lemmas.List.Elements.{All-map, All-weaker}
 use Rattle.std.proofs.lemmas.Option.{slice_get-get_or, slice_get_within, same_Some}
-use Rattle.machine_defs.specs.State.{Content, Mark}
+use Rattle.machine_defs.specs.State.{Content, Mark, Undone}
 use Rattle.machine_defs.specs.Marking.{IsMark, HasMark}
 use Rattle.machine_defs.specs.Difference.{Difference}
-use Rattle.machine_defs.specs.Kept.{IsLawfulContent, IsLawfulState}
-use Rattle.journal_laws.specs.Following.{all_put_forward}
+use Rattle.machine_defs.specs.Kept.{IsLawfulContent, AreMarksKept, IsLawfulState}
+use Rattle.journal_laws.specs.Following.{AllFollow, all_put_forward}
 use Rattle.trail_laws.specs.Trails as trails
-use Rattle.trail_laws.specs.Trails.{Placed, Trail, standing_marks, place_of, IsOrdered}
-use Rattle.trail_laws.proofs.TrailFacts.{standing_length, mark_within, name_is_mark, place_read}
-use Rattle.trail_laws.specs.Told.{origin, contents_of, past_of, mark_of, told, IsTraced}
+use Rattle.trail_laws.specs.Trails.{Placed, Ahead, Trail, standing_marks, place_of, forth, IsAhead, IsOrdered}
+use Rattle.trail_laws.proofs.TrailFacts.{standing_length, mark_within, name_is_mark, place_read, ordered-alone}
+use Rattle.trail_laws.specs.Told.{origin, contents_of, past_of, mark_of, undone_of, told, after_steps, IsTraced}
 use Rattle.trail_laws.proofs.Along.{along-at}
-use Rattle.trail_laws.proofs.Reading.{within, past-and-now, past-long, now-kept, past-kept}
+use Rattle.trail_laws.proofs.Reading.{within, past-and-now, past-long, now-kept, past-kept, past-follow}
+use Rattle.trail_laws.proofs.Redoing.{after-is, past-forth, marks-forth, traced-forth}
 
 -- what stands where no mark is
 abbrev no_mark : Placed
@@ -110,24 +111,77 @@ module _ (now : Content) (t : Trail) (o : IsOrdered t) where
             slice_get-get_or (past_of now t ++ now ∷ []) m.place now (omega arith)
             ∙ ap (λ (c : Content). Some c) (front ∙ along-at t.steps (origin now t) m.place now (omega arith))
 
-    -- every content that is told is lawful
-    pub all-kept : IsLawfulState (told now t)
-    all-kept = record {
-      present = now-kept now t h o;
-      past = past-kept now t h o;
-      marks = each-told (λ (m : Mark). IsLawfulContent m.content) copy;
-      marked = record { named = names-differ; rising = places-ascend; within = places-within; nothing = nothing; copies = copies-there };
-      undone = All-nil _;
-    }
+    -- the copies of marks are lawful
+    pub marks-kept : All (λ (m : Mark). IsLawfulContent m.content) (told now t).marks
+    marks-kept = each-told (λ (m : Mark). IsLawfulContent m.content) copy
       where
         copy : (m : Placed) → m.place ≤ t.at → IsLawfulContent (all_put_forward (take m.place t.steps) (origin now t))
         copy m low =
             subst (λ (c : Content). IsLawfulContent c) (along-at t.steps (origin now t) m.place now (let at = o.at in omega arith))
             (h.kept m.place now (within now t h o m.place low))
 
+    pub marks-marked : AreMarksKept (told now t).marks (told now t).past now
+    marks-marked = record { named = names-differ; rising = places-ascend; within = places-within; nothing = nothing; copies = copies-there }
+      where
         nothing : (told now t).marks ≡ [] → (told now t).past ≡ []
         nothing none =
             let bare : t.standing ≡ 0 = sym marks-long ∙ ap (λ (ms : List Mark). length ms) none in
             let at = o.at in
             let short = ap (λ (ss : List Difference). length ss) (h.unmarked bare) in
             ap (λ (n : ℕ). take n (contents_of now t)) (let zero-at : t.at ≡ 0 = omega arith in zero-at)
+
+-- what holds of the parts of what was undone
+abbrev pub IsUndoneKept : Undone → Type 0
+IsUndoneKept u = IsLawfulContent u.present × All IsLawfulContent u.past × All (λ m. IsLawfulContent m.content) u.marks × AreMarksKept u.marks u.past u.present
+
+module _ (now : Content) (t : Trail) (o : IsOrdered t) (h : IsTraced now t) where
+  -- what an undo took back is told of the trail with the cursors of then
+  module _ (u : Ahead) (is : IsAhead t.steps t.at t.marks u) where
+    abbrev then : Content
+    then = after_steps now t u
+
+    abbrev before : Trail
+    before = forth t [] u
+
+    order-then : IsOrdered before
+    order-then = ordered-alone t u o is
+
+    traced-then : IsTraced then before
+    traced-then = traced-forth now t [] u h o is
+
+    undone-is : record { name = (undone_of now t u).name; present = then; past = past_of then before; marks = (told then before).marks } ≡ undone_of now t u
+    undone-is = λ i. record {
+      name = (undone_of now t u).name;
+      present = after-is now t [] u h o is i;
+      past = past-forth now t [] u h o is i;
+      marks = marks-forth now t [] u h o is i;
+    }
+
+    undone-kept : IsUndoneKept (undone_of now t u)
+    undone-kept =
+        subst IsUndoneKept undone-is (
+          now-kept then before traced-then order-then,
+          past-kept then before traced-then order-then,
+          marks-kept then before order-then traced-then,
+          marks-marked then before order-then traced-then,
+        )
+
+    undone-follows : AllFollow ((undone_of now t u).past ++ (undone_of now t u).present ∷ [])
+    undone-follows = subst (λ (v : Undone). AllFollow (v.past ++ v.present ∷ [])) undone-is (past-follow then before traced-then order-then)
+
+  each-undone : (P : Undone → Type 0) → ((u : Ahead) → IsAhead t.steps t.at t.marks u → P (undone_of now t u)) → All P (told now t).undone
+  each-undone P all = All-map P (undone_of now t) t.undone (All-weaker (IsAhead t.steps t.at t.marks) (λ (u : Ahead). P (undone_of now t u)) all t.undone o.ahead)
+
+  -- every content that is told is lawful
+  pub all-kept : IsLawfulState (told now t)
+  all-kept = record {
+    present = now-kept now t h o;
+    past = past-kept now t h o;
+    marks = marks-kept now t o h;
+    marked = marks-marked now t o h;
+    undone = each-undone IsUndoneKept undone-kept;
+  }
+
+  -- and in what an undo took back each content follows the one before it too
+  pub undone-follow : All (λ (u : Undone). AllFollow (u.past ++ u.present ∷ [])) (told now t).undone
+  undone-follow = each-undone (λ (u : Undone). AllFollow (u.past ++ u.present ∷ [])) undone-follows

@@ -8,9 +8,9 @@ use Rattle.machine_defs.specs.Kept.{IsLawfulContent}
 use Rattle.journal_laws.specs.Following.{Follows, AllFollow, all_put_forward, all_taken_back}
 use Rattle.journal_laws.proofs.Leading.{leads-on, leads-back}
 use Rattle.journal_laws.proofs.Chains.{follow-more, differences-more}
-use Rattle.trail_laws.specs.Trails.{Placed, Trail, empty_trail, standing_steps, standing_marks, noted, IsOrdered}
+use Rattle.trail_laws.specs.Trails.{Placed, Ahead, Trail, empty_trail, standing_steps, standing_marks, noted, IsOrdered}
 use Rattle.trail_laws.proofs.TrailFacts.{standing_length}
-use Rattle.trail_laws.specs.Told.{origin, contents_along, contents_of, past_of, mark_of, told, IsTraced}
+use Rattle.trail_laws.specs.Told.{origin, contents_along, contents_of, past_of, mark_of, undone_of, told, IsTraced}
 use Rattle.trail_laws.proofs.Along.{along-push, forward-push, back-append}
 use Rattle.trail_laws.proofs.Reading.{along-standing, past-long, past-kept, past-follow, past-differ, now-kept}
 
@@ -62,7 +62,8 @@ module _ (now next : Content) (t : Trail) (h : IsTraced now t) (o : IsOrdered t)
       past-unmarked next ∙ sym (ap (λ (ms : List Mark). kept_past ms (past_of now t) now) (marks-unmarked now)) in
       let marks : map (mark_of next t) (standing_marks t) ≡ map (mark_of now t) (standing_marks t) =
       marks-unmarked next ∙ sym (marks-unmarked now) in
-      λ i. record { present = next; past = past i; marks = marks i; undone = [] }
+      let undone : map (undone_of next t) t.undone ≡ [] = ap (λ (us : List Ahead). map (undone_of next t) us) (o.begun none) in
+      λ i. record { present = next; past = past i; marks = marks i; undone = undone i }
 
   pub traced-unmarked : IsTraced next t
   traced-unmarked = record {

@@ -1,19 +1,20 @@
 -- Going back to a mark.
 use Rattle.std.proofs.Common.{◌≡◌, ℕ, ◌+◌, ◌<◌, ◌≤◌, List, [], ◌∷◌, ◌++◌, get_or, take, drop, map, All, sym, ap, ◌∙◌, subst, arith}
-use Rattle.std.proofs.lemmas.List.{take-take, take-append-drop, take-map, drop-append-le}
-use Rattle.machine_defs.specs.State.{Content, Mark}
-use Rattle.machine_defs.specs.Marking.{IsMark, back_to, since}
+use Rattle.std.proofs.lemmas.List.{take-take, take-append-drop, take-map, map_push, drop-append-le}
+use Rattle.machine_defs.specs.State.{Content, Mark, Undone}
+use Rattle.machine_defs.specs.Marking.{IsMark, undone_to, back_to, since}
 use Rattle.machine_defs.specs.Difference.{Difference, AreDifferences}
 use Rattle.machine_defs.specs.Kept.{IsLawfulContent}
 use Rattle.journal_laws.specs.Following.{AllFollow, all_put_forward, all_taken_back}
 use Rattle.trail_laws.specs.Trails as trails
-use Rattle.trail_laws.specs.Trails.{Placed, Trail, standing_steps, standing_marks, mark_names, steps_since, place_of, back, IsOrdered}
-use Rattle.trail_laws.proofs.TrailFacts.{mark_within, place_within}
-use Rattle.trail_laws.specs.Told.{origin, contents_along, contents_of, past_of, mark_of, told, before_steps, IsTraced}
+use Rattle.trail_laws.specs.Trails.{Placed, Trail, standing_steps, standing_marks, mark_names, steps_since, place_of, undo_at, back, IsOrdered}
+use Rattle.trail_laws.proofs.TrailFacts.{mark_within, place_within, name_read}
+use Rattle.trail_laws.specs.Told.{origin, contents_along, contents_of, past_of, mark_of, undone_of, told, before_steps, IsTraced}
 use Rattle.trail_laws.proofs.Along.{back-append, differences-rest}
 use Rattle.trail_laws.proofs.Reading.{past-long, past-differ, taken-is}
 use Rattle.trail_laws.proofs.Noting.{map-same}
-use Rattle.trail_laws.proofs.Naming.{mark-told, mark-place, mark-content}
+use Rattle.trail_laws.proofs.Naming.{mark-told, mark-place, mark-content, trail-mark}
+use Rattle.trail_laws.proofs.Redoing.{undone_from}
 
 module _ (now : Content) (t : Trail) (name : List ℕ) (k : ℕ) (h : IsTraced now t) (o : IsOrdered t) (stands : k < t.standing) where
   low : place_of t k ≤ t.at
@@ -62,13 +63,24 @@ module _ (now : Content) (t : Trail) (name : List ℕ) (k : ℕ) (h : IsTraced n
     pub mark-before : mark.content ≡ before_steps now t k
     mark-before = mark-content now t o name k mark is ∙ sym before-is
 
+    -- what was undone before is told as before, and this undo behind it
+    undone-back : map (undone_of (before_steps now t k) (back t k)) (t.undone ++ undo_at t k ∷ []) ≡ map (undone_of now t) t.undone ++ undone_to (told now t) mark ∷ []
+    undone-back =
+        let named : get_or (map (λ (m : Placed). m.name) t.marks) k [] ≡ mark.name =
+        name_read t name k o (trail-mark now t o name k mark is) ∙ sym is.named in
+        let here : undone_of now t (undo_at t k) ≡ undone_to (told now t) mark =
+        λ i. record { name = named i; present = h.here i; past = past_of now t; marks = map (mark_of now t) (standing_marks t) } in
+        ap (λ (c : Content). map (undone_from c t) (t.undone ++ undo_at t k ∷ [])) origin-back
+        ∙ map_push (undone_of now t) t.undone (undo_at t k)
+        ∙ ap (λ (u : Undone). map (undone_of now t) t.undone ++ u ∷ []) here
+
     pub told-back : told (before_steps now t k) (back t k) ≡ back_to (told now t) k mark
     told-back =
         let place : mark.place ≡ place_of t k = mark-place now t o name k mark is in
         let past : past_of (before_steps now t k) (back t k) ≡ take mark.place (past_of now t) =
         past-back ∙ ap (λ (n : ℕ). take n (past_of now t)) (sym place) in
         let present : before_steps now t k ≡ mark.content = sym mark-before in
-        λ i. record { present = present i; past = past i; marks = marks-back i; undone = [] }
+        λ i. record { present = present i; past = past i; marks = marks-back i; undone = undone-back i }
 
     -- the steps since the mark are the differences of the contents since then
     pub differ-since : AreDifferences (since (told now t) mark) (steps_since t k)

@@ -1,10 +1,10 @@
 -- The state that a present content and a trail tell: whole copies of the past and of the marks, all told from the steps.
-use Rattle.std.specs.Prelude.{ℕ, ◌≡◌, List, [], ◌∷◌, take, map, All}
+use Rattle.std.specs.Prelude.{ℕ, ◌≡◌, List, [], ◌∷◌, take, map, All, slice_index_or}
 use Rattle.machine_defs.specs.Difference.{Difference, put_forward, AreDifferences}
-use Rattle.machine_defs.specs.State.{Content, Mark, State}
+use Rattle.machine_defs.specs.State.{Content, Mark, Undone, State}
 use Rattle.machine_defs.specs.Kept.{IsLawfulContent}
 use Rattle.journal_laws.specs.Following.{AllFollow, all_put_forward, all_taken_back}
-use Rattle.trail_laws.specs.Trails.{Placed, Trail, standing_steps, standing_marks, steps_since}
+use Rattle.trail_laws.specs.Trails.{Placed, Ahead, Trail, standing_steps, standing_marks, steps_since, steps_ahead}
 
 -- the content before all standing steps
 abbrev pub origin : Content → Trail → Content
@@ -23,17 +23,39 @@ contents_of now t = contents_along t.steps (origin now t)
 abbrev pub past_of : Content → Trail → List Content
 past_of now t = take t.at (contents_of now t)
 
+-- the content that so many of these steps lead to
+abbrev pub content_at : Content → List Difference → ℕ → Content
+content_at first steps j = all_put_forward (take j steps) first
+
 -- a mark, with the content that the steps before it lead to
 abbrev pub mark_of : Content → Trail → Placed → Mark
-mark_of now t m = record { name = m.name; content = all_put_forward (take m.place t.steps) (origin now t); place = m.place }
+mark_of now t m = record { name = m.name; content = content_at (origin now t) t.steps m.place; place = m.place }
+
+-- what an undo took back: the content that the steps before it lead to, and the past and the marks of then
+abbrev pub undone_of : Content → Trail → Ahead → Undone
+undone_of now t u = record {
+  name = slice_index_or (map (λ (m : Placed). m.name) t.marks) u.mark [];
+  present = content_at (origin now t) t.steps u.at;
+  past = take u.at (contents_of now t);
+  marks = map (mark_of now t) (take u.standing t.marks);
+}
 
 -- the state of a present content and a trail
 abbrev pub told : Content → Trail → State
-told now t = record { present = now; past = past_of now t; marks = map (mark_of now t) (standing_marks t); undone = [] }
+told now t = record {
+  present = now;
+  past = past_of now t;
+  marks = map (mark_of now t) (standing_marks t);
+  undone = map (undone_of now t) t.undone;
+}
 
 -- the content with all steps since mark k taken back
 abbrev pub before_steps : Content → Trail → ℕ → Content
 before_steps now t k = all_taken_back (steps_since t k) now
+
+-- the content with all steps that an undo took back put forward
+abbrev pub after_steps : Content → Trail → Ahead → Content
+after_steps now t last = all_put_forward (steps_ahead t last) now
 
 -- What a present content and its trail keep.
 pub record IsTraced (now : Content) (t : Trail) : Type 0 where

@@ -1,8 +1,9 @@
-ghost use Rattle.std.specs.Prelude.{◌≡◌, ℕ, true, ◌+◌, ◌≤◌, ◌<◌, ◌↔◌, Some, length, slice_get, IsOk, IsErr, IfOk, IfErr, OnOk, OnErr, IfSome, IsNone, IsErrOf};
+ghost use Rattle.std.specs.Prelude.{◌≡◌, ℕ, List, true, ◌+◌, ◌≤◌, ◌<◌, ◌↔◌, Some, length, slice_get, IsOk, IsErr, IfOk, IfErr, OnOk, OnErr, IfSome, IsNone, IsErrOf};
 ghost use Rattle.std.specs.Option.{option_map};
 ghost use Rattle.machine_defs.specs.Script.{is_name};
-ghost use Rattle.trail_laws.specs.Trails.{Book, empty_trail, standing_marks, mark_names, IsMark, HasMark, place_of, steps_since, noted, marked, back, IsOrdered};
+ghost use Rattle.trail_laws.specs.Trails.{Book, Ahead as Undo, empty_trail, standing_marks, mark_names, IsMark, HasMark, IsLastAhead, CanGoForth, place_of, steps_since, steps_ahead, noted, marked, back, forth, IsAhead, IsOrdered};
 
+use crate::ahead::Ahead;
 use crate::step::Step;
 use indexmap::IndexMap;
 use map_kind::{Refusal, Refused};
@@ -10,8 +11,8 @@ use std::alloc::{AllocError, Global};
 use std::marker::Model;
 
 /// The steps of a map since its first mark, and marks with places among them. What an undo took back stays stored
-/// behind the steps and marks that stand, until the next step or mark. It is seen as its trail, beside the number of
-/// steps that can be noted without further memory.
+/// behind the steps and marks that stand, until the next step or mark, and the undos that can be taken back are kept, the
+/// last one last. It is seen as its trail, beside the number of steps that can be noted without further memory.
 #[derive(Drop)]
 pub struct Journal {
     steps: Vec<Step>,
@@ -21,6 +22,8 @@ pub struct Journal {
     marks: IndexMap<String, usize>,
     // So many of the marks stand.
     standing: usize,
+    // The undos since the last step or mark that were not taken back.
+    undone: Vec<Ahead>,
 }
 
 impl Model for Journal {
@@ -30,13 +33,13 @@ impl Model for Journal {
 
     ghost Value = { Book };
 
-    ghost view = { λ j. record { trail = trail_of j.steps.items j.at j.marks.entries j.standing; room = vec_capacity j.steps - j.at } };
+    ghost view = { λ j. record { trail = trail_of j.steps.items j.at j.marks.entries j.standing j.undone.items; room = vec_capacity j.steps - j.at } };
 
-    ghost invariant = { λ j. IsOrdered (trail_of j.steps.items j.at j.marks.entries j.standing) };
+    ghost invariant = { λ j. IsOrdered (trail_of j.steps.items j.at j.marks.entries j.standing j.undone.items) };
 }
 
 impl Journal {
-    /// The journal without steps and marks. It takes no memory.
+    /// The journal without steps and marks, where no undo can be taken back. It takes no memory.
     pub fn new(alloc: Global) -> Journal
         ensures trail { result.trail ≡ empty_trail }
         ensures room { result.room ≡ 0 }
@@ -46,6 +49,7 @@ impl Journal {
             at: 0,
             marks: IndexMap::new(alloc),
             standing: 0,
+            undone: Vec::new(alloc),
         }
     }
 
@@ -92,8 +96,8 @@ impl Journal {
     }
 
     /// Sets a mark of this name behind the steps that stand. The name is one of the grammar of lines: 1 to 32 small letters, digits
-    /// and underscores. What was taken back is gone. `MarkTaken` comes exactly where a standing mark has the name. A refusal
-    /// leaves the journal as it was. It costs a look-up of the name, and what was taken back.
+    /// and underscores. What was taken back is gone, and no undo can be taken back. `MarkTaken` comes exactly where a standing
+    /// mark has the name. A refusal leaves the journal as it was. It costs a look-up of the name, and what was taken back.
     pub fn mark(&mut self, name: &str) -> Result<(), Refused>
         requires { is_name name.now ≡ true }
         ensures ok { OnOk result (self.new.trail ≡ marked self.old.trail name.now) }
@@ -110,6 +114,7 @@ impl Journal {
         let standing = self.standing;
         self.steps.truncate(at);
         self.marks.truncate(standing);
+        self.undone.clear();
         self.marks.insert(key, at).unwrap();
         self.standing = self.marks.len();
         Ok(())
@@ -129,8 +134,8 @@ impl Journal {
         self.steps.reserve(1)
     }
 
-    /// Notes a step behind those that stand. What was taken back is gone. It takes no memory: room was reserved. It
-    /// costs what was taken back.
+    /// Notes a step behind those that stand. What was taken back is gone, and no undo can be taken back. It takes no memory:
+    /// room was reserved. It costs what was taken back.
     pub fn note(&mut self, step: Step)
         requires { 1 ≤ self.old.room }
         ensures trail { self.new.trail ≡ noted self.old.trail step }
@@ -138,6 +143,7 @@ impl Journal {
     {
         self.steps.truncate(self.at);
         self.marks.truncate(self.standing);
+        self.undone.truncate(0);
         self.steps.push_reserved(step);
         self.at = self.steps.len();
     }
@@ -155,23 +161,85 @@ impl Journal {
         }
     }
 
-    /// Goes back to the mark of this name, which stays: the steps since it was set and the later marks stand no longer.
-    /// `NoMark` comes exactly where no standing mark has the name, and leaves the journal as it was. It takes no memory,
-    /// and costs a look-up of the name.
-    pub fn back_to(&mut self, name: &str) -> Result<(), Refusal>
+    /// Goes back to the mark of this name, which stays: the steps since it was set and the later marks stand no longer, and
+    /// the undo can be taken back. `NoMark` comes exactly where no standing mark has the name. Memory may be wanting for the
+    /// undo that is kept. A refusal leaves the journal as it was. It costs a look-up of the name.
+    pub fn back_to(&mut self, name: &str) -> Result<(), Refused>
         ensures back { OnOk result ((k : ℕ) × IsMark self.old.trail name.now k × (self.new.trail ≡ back self.old.trail k)) }
         ensures room { self.new.room + self.new.trail.at ≡ self.old.room + self.old.trail.at }
-        ensures unmarked { IsErr result ↔ (HasMark self.old.trail name.now → ⊥) }
-        ensures refused { IfErr result (λ r. r ≡ Refusal.NoMark) }
+        ensures refused { (r : Refusal) → IsErrOf result (Refused.Line r) ↔ ((r ≡ Refusal.NoMark) × (HasMark self.old.trail name.now → ⊥)) }
         ensures err { OnErr result (self.new ≡ self.old) }
     {
-        match self.standing_mark(name) {
-            Some(k) => {
-                self.at = self.place(k);
-                self.standing = k + 1;
+        let Some(k) = self.standing_mark(name) else {
+            return Err(Refused::Line(Refusal::NoMark));
+        };
+        let place = self.place(k);
+        let undo = Ahead {
+            mark: k,
+            at: self.at,
+            standing: self.standing,
+        };
+        self.undone.reserve(1)?;
+        self.undone.push_reserved(undo);
+        self.at = place;
+        self.standing = k + 1;
+        Ok(())
+    }
+
+    /// The last undo that can be taken back, where it went to a mark of this name; else none.
+    fn last_undo(&self, name: &str) -> Option<Ahead>
+        ensures last { IfSome result (λ last. (others : List Undo) × IsLastAhead self.now.trail name.now others last) }
+        ensures ahead { IfSome result (λ last. IsAhead self.now.trail.steps self.now.trail.at self.now.trail.marks last) }
+        ensures none { IsNone result ↔ (CanGoForth self.now.trail name.now → ⊥) }
+    {
+        let count = self.undone.len();
+        if count == 0 {
+            return None;
+        }
+        let last = self.undone[count - 1];
+        let (known, _place) = self.marks.get_index(last.mark)?;
+        if known.as_str() == name {
+            Some(last)
+        } else {
+            None
+        }
+    }
+
+    /// The steps that the last undo took back, oldest first, where it went to a mark of this name. `NoRedo` comes exactly
+    /// where no undo can be taken back, or the last one went to a mark of another name. It takes no memory, and costs the
+    /// length of the name.
+    pub fn steps_ahead(&self, name: &str) -> Result<&[Step], Refusal>
+        ensures ahead { IfOk result (λ steps. (others : List Undo) × (last : Undo) × IsLastAhead self.now.trail name.now others last
+            × (steps.now ≡ steps_ahead self.now.trail last)) }
+        ensures none { IsErr result ↔ (CanGoForth self.now.trail name.now → ⊥) }
+        ensures refused { IfErr result (λ r. r ≡ Refusal.NoRedo) }
+    {
+        match self.last_undo(name) {
+            Some(last) => Ok(&self.steps[self.at..last.at]),
+            None => Err(Refusal::NoRedo),
+        }
+    }
+
+    /// Takes the last undo back, where it went to a mark of this name: the steps and marks that it took back stand again, and
+    /// the undos before it can be taken back as before. `NoRedo` comes exactly where no undo can be taken back, or the last
+    /// one went to a mark of another name, and leaves the journal as it was. It takes no memory, and costs the length of the
+    /// name.
+    pub fn forward(&mut self, name: &str) -> Result<(), Refusal>
+        ensures forth { OnOk result ((others : List Undo) × (last : Undo) × IsLastAhead self.old.trail name.now others last
+            × (self.new.trail ≡ forth self.old.trail others last)) }
+        ensures room { self.new.room + self.new.trail.at ≡ self.old.room + self.old.trail.at }
+        ensures none { IsErr result ↔ (CanGoForth self.old.trail name.now → ⊥) }
+        ensures refused { IfErr result (λ r. r ≡ Refusal.NoRedo) }
+        ensures err { OnErr result (self.new ≡ self.old) }
+    {
+        match self.last_undo(name) {
+            Some(last) => {
+                self.at = last.at;
+                self.standing = last.standing;
+                self.undone.truncate(self.undone.len().saturating_sub(1));
                 Ok(())
             }
-            None => Err(Refusal::NoMark),
+            None => Err(Refusal::NoRedo),
         }
     }
 }

@@ -1,6 +1,7 @@
-//! The journal of a map: what each step changed, and the marks that an undo goes back to.
+//! The journal of a map: what each step changed, the marks that an undo goes back to, and the undos that can be taken back.
 #![tactic(auto)]
 
+mod ahead;
 mod journal;
 mod rule_change;
 mod step;

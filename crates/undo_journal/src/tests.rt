@@ -64,14 +64,67 @@ fn goes_back_and_on(rt: HostRuntime) -> Result<(), Fail> {
     note(rt.alloc(), &mut journal, 1)?;
     assert!(&rt; journal.mark("two").is_ok());
     note(rt.alloc(), &mut journal, 2)?;
-    assert_eq!(&rt; journal.back_to("three"), Err(Refusal::NoMark));
+    assert_eq!(&rt;
+        journal.back_to("three"),
+        Err(Refused::Line(Refusal::NoMark))
+    );
     assert_eq!(&rt; journal.back_to("one"), Ok(()));
     assert_eq!(&rt; names(&journal), (Some("one"), None, None));
-    assert_eq!(&rt; journal.back_to("two"), Err(Refusal::NoMark));
+    assert_eq!(&rt; journal.back_to("two"), Err(Refused::Line(Refusal::NoMark)));
     note(rt.alloc(), &mut journal, 3)?;
     assert!(&rt; journal.mark("two").is_ok());
     note(rt.alloc(), &mut journal, 4)?;
     assert_eq!(&rt; firsts(&journal, "one"), Ok((2, 3)));
     assert_eq!(&rt; firsts(&journal, "two"), Ok((1, 4)));
+    Ok(())
+}
+
+/// How many steps the last undo took back, and the number of the first new dart of the first.
+fn ahead(journal: &Journal, name: &str) -> Result<(usize, u32), Refusal> {
+    let steps = match journal.steps_ahead(name) {
+        Ok(steps) => steps,
+        Err(refusal) => return Err(refusal),
+    };
+    match steps.first() {
+        Some(step) => Ok((steps.len(), step.first)),
+        None => Ok((0, 0)),
+    }
+}
+
+#[test]
+fn takes_nested_undos_back_in_turn(rt: HostRuntime) -> Result<(), Fail> {
+    let mut journal = Journal::new(rt.alloc());
+    assert!(&rt; journal.mark("one").is_ok());
+    note(rt.alloc(), &mut journal, 1)?;
+    assert!(&rt; journal.mark("two").is_ok());
+    note(rt.alloc(), &mut journal, 2)?;
+    note(rt.alloc(), &mut journal, 3)?;
+    assert_eq!(&rt; journal.forward("two"), Err(Refusal::NoRedo));
+    assert_eq!(&rt; journal.back_to("two"), Ok(()));
+    assert_eq!(&rt; ahead(&journal, "two"), Ok((2, 2)));
+    assert_eq!(&rt; journal.back_to("one"), Ok(()));
+    assert_eq!(&rt; ahead(&journal, "one"), Ok((1, 1)));
+    assert_eq!(&rt; ahead(&journal, "two"), Err(Refusal::NoRedo));
+    assert_eq!(&rt; journal.forward("two"), Err(Refusal::NoRedo));
+    assert_eq!(&rt; journal.forward("one"), Ok(()));
+    assert_eq!(&rt; names(&journal), (Some("one"), Some("two"), None));
+    assert_eq!(&rt; firsts(&journal, "one"), Ok((1, 1)));
+    assert_eq!(&rt; journal.forward("two"), Ok(()));
+    assert_eq!(&rt; firsts(&journal, "one"), Ok((3, 1)));
+    assert_eq!(&rt; journal.forward("two"), Err(Refusal::NoRedo));
+    Ok(())
+}
+
+#[test]
+fn drops_undos_at_a_step(rt: HostRuntime) -> Result<(), Fail> {
+    let mut journal = Journal::new(rt.alloc());
+    assert!(&rt; journal.mark("one").is_ok());
+    note(rt.alloc(), &mut journal, 1)?;
+    assert_eq!(&rt; journal.back_to("one"), Ok(()));
+    note(rt.alloc(), &mut journal, 2)?;
+    assert_eq!(&rt; ahead(&journal, "one"), Err(Refusal::NoRedo));
+    assert_eq!(&rt; journal.back_to("one"), Ok(()));
+    assert!(&rt; journal.mark("two").is_ok());
+    assert_eq!(&rt; journal.forward("one"), Err(Refusal::NoRedo));
     Ok(())
 }

@@ -1,6 +1,7 @@
 pub mod Changing
 pub mod Placed
 pub mod Undoing
+pub mod Ways
 pub mod Made
 pub mod Told
 pub mod SameRules

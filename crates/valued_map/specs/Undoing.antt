@@ -1,15 +1,15 @@
--- What steps that led to a map tell of the map before them.
-use Rattle.std.specs.Prelude.{ℕ, ◌≡◌, ◌≢◌, ◌+◌, ◌≤◌, ◌<◌, ◌⊎◌, ◌&&◌, nat_eq, cond, List, [], ◌∷◌, length, drop, Option, Some, Contains, slice_index_or}
+-- What steps that led to a map, or lead on from it, tell of the map at their other end.
+use Rattle.std.specs.Prelude.{ℕ, ◌≡◌, ◌≢◌, ◌+◌, ◌≤◌, ◌<◌, ◌⊎◌, List, [], ◌∷◌, length, take, drop, Option, Some, Contains, slice_index_or, sum_by}
 use Rattle.map_defs.specs.Kind.{Kind}
 use Rattle.map_defs.specs.LinkWords.{LinkWord, IsCellWord, IsWithin}
 use Rattle.map_defs.specs.Rows.{Rows, links_of, live_count}
-use Rattle.map_defs.specs.Values.{Value, Rule}
-use Rattle.map_defs.specs.Edits.{Change, Edit, IsLed, before_edit}
+use Rattle.map_defs.specs.Values.{Value}
+use Rattle.map_defs.specs.Edits.{Change, IsLed, before_edit}
 use Rattle.machine_defs.specs.State.{Content}
-use Rattle.machine_defs.specs.Difference.{Difference, ValueChange, IsDifference, unruled}
+use Rattle.machine_defs.specs.Difference.{Difference, ValueChange, IsDifference}
 use Rattle.machine_defs.specs.Kept.{IsLawfulContent}
 use Rattle.store_defs.specs.Groups.{Group, group_at, least_of}
-use Rattle.journal_laws.specs.Following.{Follows, all_taken_back}
+use Rattle.journal_laws.specs.Following.{Follows, all_put_forward, all_taken_back}
 
 -- The steps lead to the content now: with those from number j on taken back the content is a lawful one, and step j leads
 -- from it to the content one step later. The default e stands for no step, since j is within the list.
@@ -18,6 +18,14 @@ pub record AreStepsTo (now : Content) (steps : List Difference) : Type 0 where
   pub follow : (j : ℕ) → j < length steps → Follows (all_taken_back (drop j steps) now) (all_taken_back (drop (j + 1) steps) now)
   pub differ : (j : ℕ) (e : Difference) → j < length steps
       → IsDifference (all_taken_back (drop j steps) now) (all_taken_back (drop (j + 1) steps) now) (slice_index_or steps j e)
+
+-- The steps lead on from the content c: with the first j put forward the content is a lawful one, and step j leads from it to
+-- the content one step later. The default e stands for no step, since j is within the list.
+pub record AreStepsFrom (c : Content) (steps : List Difference) : Type 0 where
+  pub kept : (j : ℕ) → j ≤ length steps → IsLawfulContent (all_put_forward (take j steps) c)
+  pub follow : (j : ℕ) → j < length steps → Follows (all_put_forward (take j steps) c) (all_put_forward (take (j + 1) steps) c)
+  pub differ : (j : ℕ) (e : Difference) → j < length steps
+      → IsDifference (all_put_forward (take j steps) c) (all_put_forward (take (j + 1) steps) c) (slice_index_or steps j e)
 
 -- the step that changes nothing
 abbrev pub no_step : Difference
@@ -41,20 +49,9 @@ pub record AreEditsTo (k : Kind) (n : ℕ) (rows : Rows) (steps : List Differenc
 abbrev pub HasRoomFor : Content → List Difference → ℕ → Type 0
 HasRoomFor now steps places = (j : ℕ) → j < length steps → live_count (all_taken_back (drop j steps) now).rows + (step_at steps j).edit.births ≤ places
 
--- the rules before steps, the last taken back first
-abbrev pub rules_before : List Difference → List (Option Rule) → List (Option Rule)
-rules_before [] rules = rules
-rules_before (s ∷ ss) rules = unruled s.rules (rules_before ss rules)
-
--- the old value of the last of these changes that is one of dart d in dimension i; where there is none, this value
-abbrev pub old_among : List ValueChange → ℕ → ℕ → Option Value → Option Value
-old_among [] i d value = value
-old_among (c ∷ cs) i d value = old_among cs i d (cond (nat_eq c.dim i && nat_eq c.dart d) c.old value)
-
--- the value before steps of dart d in dimension i, by the value that it has now
-abbrev pub value_before : List Difference → ℕ → ℕ → Option Value → Option Value
-value_before [] i d value = value
-value_before (s ∷ ss) i d value = old_among s.values i d (value_before ss i d value)
+-- how many darts the steps bear
+abbrev pub births_of : List Difference → ℕ
+births_of steps = sum_by (λ s. s.edit.births) steps
 
 -- one of these changes is of dart d in dimension i
 abbrev pub IsValueChanged : List ValueChange → ℕ → ℕ → Type 0
@@ -72,20 +69,9 @@ IsNearAlong rows w c x = ((w.first ≡ c.link) × (x ≡ c.dart)) ⊎ ((w.second
 abbrev pub IsNearChange : (LinkWord → Type 0) → Rows → Change → ℕ → Type 0
 IsNearChange Words rows c x = (w : LinkWord) × Words w × IsNearAlong rows w c x
 
--- the darts that an edit ended, and those near its changes
-abbrev pub IsNearEdit : (LinkWord → Type 0) → Rows → Edit → ℕ → Type 0
-IsNearEdit Words rows e x = Contains e.deaths x ⊎ ((c : Change) × Contains e.changes c × IsNearChange Words rows c x)
-
-abbrev pub IsNearStep : (LinkWord → Type 0) → Rows → List Difference → ℕ → Type 0
-IsNearStep Words rows steps x = (s : Difference) × Contains steps s × IsNearEdit Words rows s.edit x
-
 -- the words of the i-cells of a map of dimension n
 abbrev pub IsMapWord : Kind → ℕ → ℕ → LinkWord → Type 0
 IsMapWord k n i w = IsCellWord k i w × IsWithin n w
-
--- a dart that some step may have moved to another i-cell, or whose value in dimension i some step changed
-abbrev pub IsStepped : Kind → ℕ → Rows → List Difference → ℕ → ℕ → Type 0
-IsStepped k n rows steps i d = IsNearStep (IsMapWord k n i) rows steps d ⊎ IsRevalued steps i d
 
 -- The first m cells have the value of their least darts, and are else what they were.
 pub record AreGivenValues (value : ℕ → Option Value) (m : ℕ) (old new : List Group) : Type 0 where

@@ -2,7 +2,7 @@
 //! together.
 //!
 //! Nothing is known here of the lines of a script, nor of marks. A change answers what it changed where it is asked for, as
-//! the step that a log shows, and steps can be taken back.
+//! the step that a log shows, and steps can be taken back and put forward.
 #![tactic(auto)]
 
 mod carrying;
@@ -16,10 +16,12 @@ mod map;
 mod near;
 mod off;
 mod restore;
+mod restored_cells;
 mod rules;
 mod same;
 mod told;
 mod touched;
 mod value;
+mod way;
 
 pub use map::ValuedMap;

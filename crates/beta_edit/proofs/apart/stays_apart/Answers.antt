@@ -2,7 +2,7 @@ use Rattle.std.proofs.Common.{ℕ, refl, sym, ◌∙◌}
 use Rattle.std.proofs.lemmas.Bool.{false≢true}
 use Rattle.map_defs.specs.Rows.{links_of}
 use Rattle.beta_edit.specs.Crossing.{IsDrawnBack}
-use Rattle.beta_edit.proofs.Listed.{one-more, all-so}
+use Rattle.cell_edit.proofs.Listed.{one-more, all-so}
 use Rattle.beta_edit.proofs.StaysApart.{joins-none, drawn-back-none}
 use Rattle.beta_edit.proofs.apart.stays_apart.Goals as goal
 

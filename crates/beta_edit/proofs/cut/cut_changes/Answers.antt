@@ -3,7 +3,7 @@ use Rattle.map_defs.specs.Rows.{links_of}
 use Rattle.sewing.specs.Triples.{Triple, Lists}
 use Rattle.cell_edit.specs.Stars.{star_of}
 use Rattle.beta_edit.specs.Cutting.{IsCornerEntry, IsTurnEntry}
-use Rattle.beta_edit.proofs.Appending.{appends-none, appends-same, each-more}
+use Rattle.cell_edit.proofs.Appending.{appends-none, appends-same, each-more}
 use Rattle.beta_edit.proofs.CutEdit.{turns-apart}
 use Rattle.beta_edit.proofs.cut.cut_changes.Goals as goal
 

@@ -1,6 +1,6 @@
 use Rattle.map_defs.specs.Rows.{links_of}
 use Rattle.map_defs.specs.Removal.{IsFlatAt}
-use Rattle.beta_edit.proofs.Listed.{not-all, one-more, all-told}
+use Rattle.cell_edit.proofs.Listed.{not-all, one-more, all-told}
 use Rattle.beta_edit.proofs.flat.are_flat.Goals as goal
 
 pub returns-then-not-is_flat : goal.returns-then-not-is_flat

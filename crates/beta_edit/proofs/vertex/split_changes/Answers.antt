@@ -2,7 +2,7 @@ use Rattle.std.proofs.Common.{ℕ, ◌≡◌, ◌+◌, ◌<◌, List, get_or, le
 use Rattle.map_defs.specs.Rows.{links_of}
 use Rattle.cell_edit.specs.Stars.{star_of}
 use Rattle.beta_edit.specs.Splitting.{IsSplitEntry}
-use Rattle.beta_edit.proofs.Appending.{each-more}
+use Rattle.cell_edit.proofs.Appending.{each-more}
 use Rattle.beta_edit.proofs.SplitEdit.{splits-apart}
 use Rattle.beta_edit.proofs.vertex.split_changes.Goals as goal
 

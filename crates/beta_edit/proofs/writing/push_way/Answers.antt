@@ -2,7 +2,7 @@ use Rattle.std.proofs.Common.{arith}
 use Rattle.std.proofs.lemmas.Result.{on_ok_weaker}
 use Rattle.map_defs.specs.Rows.{links_of}
 use Rattle.beta_edit.specs.Ways.{IsOneEntry}
-use Rattle.beta_edit.proofs.Appending.{appends-then}
+use Rattle.cell_edit.proofs.Appending.{appends-then}
 use Rattle.beta_edit.proofs.writing.push_way.Goals as goal
 
 pub returns : goal.returns

@@ -1,6 +1,6 @@
 use Rattle.std.proofs.Common.{◌≢◌}
 use Rattle.map_defs.specs.Rows.{links_of}
-use Rattle.face_center.proofs.Listed.{not-all, one-more, all-told}
+use Rattle.cell_edit.proofs.Listed.{not-all, one-more, all-told}
 use Rattle.face_center.proofs.center.are_closed.Goals as goal
 
 pub returns-then-not-is_closed : goal.returns-then-not-is_closed

@@ -2,7 +2,7 @@ use Rattle.std.proofs.Common.{ℕ, ◌≡◌, ◌+◌, ◌<◌, List, get_or, le
 use Rattle.map_defs.specs.Rows.{links_of}
 use Rattle.cell_edit.specs.Stars.{star_of}
 use Rattle.face_center.specs.Hanging.{tip_of, IsHungEntry}
-use Rattle.face_center.proofs.Appending.{each-more}
+use Rattle.cell_edit.proofs.Appending.{each-more}
 use Rattle.face_center.proofs.HungPlaces.{keys-hung-apart}
 use Rattle.face_center.proofs.hanging.hung_changes.Goals as goal
 

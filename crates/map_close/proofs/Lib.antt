@@ -1,0 +1,7 @@
+mod ClosedLinks
+mod ClosingEntries
+mod NewLinkFacts
+mod OpenFacts
+mod OpenList
+mod Rounds
+mod WalkSteps

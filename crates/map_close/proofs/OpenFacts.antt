@@ -1,0 +1,77 @@
+-- The open darts at which a map is closed, and their new darts.
+use Rattle.std.proofs.Common.{ℕ, ◌≡◌, ◌≢◌, ◌+◌, ◌<◌, ◌≤◌, length, get_or, Contains, is_some, ap, ◌∙◌, inr, arith}
+use Rattle.std.specs.Prelude.{All}
+use Rattle.std.proofs.lemmas.List.Elements.{Contains-get_or}
+use Rattle.map_defs.specs.Kind.{Kind, inverse, IsDistant}
+use Rattle.map_defs.specs.Rows.{Rows, links_of, made, IsLive, IsSound}
+use Rattle.map_defs.specs.Births.{IsNumbered, IsFresh}
+use Rattle.map_defs.specs.Edits.{with_births}
+use Rattle.map_defs.specs.Closing.{IsAround}
+use Rattle.link_laws.proofs.Basics.{IsDistant-inverse_right}
+use Rattle.link_laws.proofs.RowFacts.{rows_made, rows_lead_to_live}
+use Rattle.edit_laws.proofs.RowWrites.{births-old, births-new, live-within}
+use Rattle.insert_laws.proofs.Numbers.{numbered_above, numbered_upto, numbered_fresh}
+use Rattle.insert_laws.proofs.Around.{around_free, around_live}
+use Rattle.insert_laws.proofs.Closed.{open_carried}
+use Rattle.cell_edit.specs.Stars.{Stars, star_of}
+use Rattle.cell_edit.proofs.StarNumbers.{stars-number}
+use Rattle.cell_edit.proofs.Beyond.{live-made}
+use Rattle.cell_edit.proofs.Premises.{live-dart}
+use Rattle.map_close.specs.NewLinks.{CanClose}
+use Rattle.map_close.proofs.Rounds.{around-found}
+
+module _ (k : Kind) (n : ℕ) (rows : Rows) (sound : IsSound k n rows) (i : ℕ) (stars : Stars) (can : CanClose k rows i stars) where
+  abbrev K : ℕ → Type 0
+  K = Contains stars.keys
+
+  pub key-live : (x : ℕ) → K x → IsLive rows x
+  key-live x has = ((can.members x).0 has).0
+
+  pub key-free : (x : ℕ) → K x → links_of rows i x ≡ 0
+  key-free x has = ((can.members x).0 has).1
+
+  pub key-made : (x : ℕ) → K x → x ≤ stars.made
+  key-made x has = let low : x ≤ made rows = live-made rows x (key-live x has) in omega (arith, can.made)
+
+  pub keys-made : All (λ (d : ℕ). d ≤ stars.made) stars.keys
+  keys-made p z h = key-made (get_or stars.keys p z) (Contains-get_or stars.keys p z h)
+
+  pub numbered : IsNumbered K stars.keys stars.made (star_of stars)
+  numbered = stars-number stars can.ascending (λ p z h. live-dart k n rows sound (get_or stars.keys p z) (key-live (get_or stars.keys p z) (Contains-get_or stars.keys p z h)))
+
+  pub star-none : star_of stars 0 ≡ 0
+  star-none = numbered.nothing
+
+  pub star-fresh : IsFresh (links_of rows) K (star_of stars)
+  star-fresh = numbered_fresh K stars.keys stars.made (star_of stars) numbered (links_of rows) key-made
+      (λ t x some. let low : x ≤ made rows = rows_made rows t x some in omega (arith, can.made))
+
+  pub star-above : (x : ℕ) → K x → stars.made < star_of stars x
+  star-above = numbered_above K stars.keys stars.made (star_of stars) numbered
+
+  -- the way around a boundary ends
+  pub rounds : (x : ℕ) → K x → (t : ℕ) → (y : ℕ) × IsAround k i t (links_of rows) x y
+  rounds x has t = around-found k (links_of rows) can.laws i can.own t (made rows) (rows_made rows) x (key-free x has)
+
+  -- distant links lead from open darts to open darts, and so does the way around a boundary
+  pub key-beside : (x t : ℕ) → K x → IsDistant k i t → links_of rows (inverse k t) x ≢ 0 → K (links_of rows (inverse k t) x)
+  key-beside x t has away some =
+      (can.members (links_of rows (inverse k t) x)).1
+      (open_carried k i can.own (IsLive rows) (links_of rows) can.laws (live-dart k n rows sound) (rows_lead_to_live k rows can.laws) (made rows) (rows_made rows)
+      x (inverse k t) ((can.members x).0 has) (inr (IsDistant-inverse_right k i t away)) some)
+
+  pub key-around : (x t y : ℕ) → IsAround k i t (links_of rows) x y → y ≢ 0 → K y
+  key-around x t y walk some =
+      (can.members y).1
+      (around_live k (links_of rows) can.laws i can.own t (IsLive rows) (rows_lead_to_live k rows can.laws) x y walk some, around_free k (links_of rows) can.laws i can.own t x y walk)
+
+  -- ---- after the births the live darts live on, and the new darts live
+  pub old-lives : (x : ℕ) → IsLive rows x → IsLive (with_births n (length stars.keys) rows) x
+  old-lives x live = ap is_some (births-old n (length stars.keys) rows x (live-within rows x live)) ∙ live
+
+  pub star-lives : (x : ℕ) → K x → IsLive (with_births n (length stars.keys) rows) (star_of stars x)
+  star-lives x has =
+      let some : x < length rows = live-within rows x (key-live x has) in
+      let above : stars.made < star_of stars x = star-above x has in
+      let high : star_of stars x ≤ stars.made + length stars.keys = numbered_upto K stars.keys stars.made (star_of stars) numbered x has in
+      ap is_some (births-new n (length stars.keys) rows (star_of stars x) (omega (arith, can.made)) (omega (arith, can.made)))

@@ -1,0 +1,9 @@
+use Rattle.map_defs.specs.Kind.{inverse}
+use Rattle.map_defs.specs.Rows.{links_of}
+use Rattle.map_close.proofs.WalkSteps.{IsAlong}
+use Rattle.map_close.proofs.Rounds.{IsCrossed, turn}
+use Rattle.map_close.proofs.boundary.next_open.Given as goal
+
+abbrev pub invariant-loop-turn : goal.invariant-loop-turn
+invariant-loop-turn g l =
+    IsAlong (IsCrossed (links_of l.links.rows) l.link) (turn g.K.Kind.kind l.link l.before (links_of l.links.rows)) (links_of l.links.rows (inverse g.K.Kind.kind l.before) l.fn.dart) l._turn l.at

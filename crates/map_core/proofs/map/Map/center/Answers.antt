@@ -1,0 +1,31 @@
+use Rattle.std.proofs.Common.{ℕ, sym, ap, subst, ◌∙◌, Result, Ok, Err}
+use Rattle.std.proofs.lemmas.Result.{err_from_is_err_and}
+use Rattle.map_kind.specs.declared.refusal.Refused.{Refused}
+use Rattle.map_kind.specs.declared.done.Done.{Done}
+use Rattle.map_defs.specs.Kind.{Kind}
+use Rattle.map_defs.specs.Rows.{Rows}
+use Rattle.machine_defs.specs.Script.{Center}
+use Rattle.face_center.specs.Planning.{PlansCentre}
+use Rattle.map_core.specs.Calls.{Does}
+use Rattle.map_core.proofs.HangingSteps.{centre-does, centre-refused}
+use Rattle.map_core.proofs.map.Map.center.Goals as goal
+
+pub returns-in_err-edit-clause-does : goal.returns-in_err-edit-clause-does
+returns-in_err-edit-clause-does g c =
+    let k : Kind = g.K.Kind.kind in
+    let n : ℕ = g.row.DIM in
+    let rows : Rows = c.links.result.now.rows in
+    let plan = subst (λ (d : ℕ). PlansCentre k n rows d (Err c.in_err-edit.field-0.0)) c.in_ok-dart.ensures.0 c.in_err-edit.ensures in
+    let p = err_from_is_err_and c.from_residual-in_err-edit.result c.from_residual-in_err-edit.ensures.1 in
+    subst (λ (r : Result Done Refused). Does (g.H.Hook.hook c.args.self.now.hook) c.args.self.now.state (Center c.args.dart) r c.args.self.now.state) (sym (p.1 ∙ ap Err p.2))
+    (centre-refused k n rows (g.H.Hook.hook c.args.self.now.hook) c.args.self.now.state c.links.ensures.kind c.links.ensures.dim c.links.ensures.rows c.links.ensures.kept
+    c.args.dart c.in_ok-dart.ensures.1 c.in_err-edit.field-0.0 plan)
+
+pub returns-clause-does : goal.returns-clause-does
+returns-clause-does g c =
+    let k : Kind = g.K.Kind.kind in
+    let n : ℕ = g.row.DIM in
+    let rows : Rows = c.links.result.now.rows in
+    let plan = subst (λ (d : ℕ). PlansCentre k n rows d (Ok c.in_ok-edit.edit)) c.in_ok-dart.ensures.0 c.in_ok-edit.ensures in
+    centre-does k n rows (g.H.Hook.hook c.args.self.now.hook) c.args.self.now.state c.links.ensures.kind c.links.ensures.dim c.links.ensures.rows c.links.ensures.kept
+    c.args.dart c.in_ok-dart.ensures.1 c.in_ok-edit.edit plan c.insert.result c.insert.new.self.state c.insert.ensures.grows

@@ -1,7 +1,0 @@
-use Rattle.std.proofs.Common.{take, [], Contains}
-use Rattle.valued_map.specs.Changing.{AreAdded}
-use Rattle.valued_map.specs.Undoing.{IsNearStep}
-use Rattle.valued_map.proofs.restore.stepped_darts.Given as goal
-
-abbrev pub invariant-loop-step : goal.invariant-loop-step
-invariant-loop-step g l = AreAdded l.links.rows (IsNearStep (Contains l.words) l.links.rows (take l.step-index l.steps)) [] l.darts.items
