@@ -1,6 +1,7 @@
 // The same scripts over CGAL's combinatorial and generalized maps: a mesh in OFF text with points as values of its vertices,
-// the lines polygon, sew, unsew, vertex, edge, remove, contract, dual and count. Only `count` is answered, in the same words.
-// Darts are named by the numbers that cellmap gives them; of the new darts of a vertex or an edge only the first is named.
+// the lines polygon, sew, unsew, vertex, edge, close, dangle, center, remove, contract, dual and count. Only `count` is answered, in
+// the same words. Darts are named by the numbers that cellmap gives them; of the new darts of a line only the first is named, and
+// none of a closing.
 #include <CGAL/Combinatorial_map.h>
 #include <CGAL/Generalized_map.h>
 
@@ -189,6 +190,12 @@ struct Machine {
     if (dim == 2) map.template contract_cell<2>(dart);
   }
 
+  void close(long long link) {
+    if (link == 2) map.template close<2>();
+    if constexpr (DIM >= 3)
+      if (link == 3) map.template close<3>();
+  }
+
   void count() {
     std::vector<unsigned> cells = map.count_all_cells();
     std::printf("count %zu", static_cast<std::size_t>(map.number_of_darts()));
@@ -220,6 +227,15 @@ struct Machine {
       } else if (word == "edge") {
         long long one = next_number(at), other = next_number(at);
         name_new(before, map.insert_cell_1_in_cell_2(darts[one], darts[other]));
+      } else if (word == "close") {
+        close(next_number(at));
+        name_new(before, nullptr);
+      } else if (word == "dangle") {
+        Dart dart = darts[next_number(at)];
+        name_new(before, map.insert_dangling_cell_1_in_cell_2(dart));
+      } else if (word == "center") {
+        Dart dart = darts[next_number(at)];
+        name_new(before, map.insert_cell_0_in_cell_2(dart));
       } else if (word == "remove") {
         long long dim = next_number(at), dart = next_number(at);
         remove(dim, darts[dart]);

@@ -235,7 +235,7 @@ ROWS = [
         ("example, tests", ["first_map", "map_rows", "map_calls"]),
         ("program", ["cellmap", "map_run", "script_text"]),
         ("the map", ["map_soak", "map_core", "valued_map", "undo_journal", "mesh_build"]),
-        ("plans", ["kind_edit", "alpha_edit", "beta_edit", "face_center"]),
+        ("plans", ["kind_edit", "alpha_edit", "beta_edit", "map_close", "face_center"]),
         ("and their parts", ["cell_edit", "sewing", "dual_map"]),
         ("text", ["list_text", "off_text"]),
         ("values", ["transport", "attr_pool", "hook_book", "attr_rules"]),
