@@ -232,24 +232,24 @@ def insertion():
 # The rows of the house, from above. A crate stands on crates of rows below, or of its own.
 ROWS = [
     ("code", [
-        ("example, tests", ["first_map", "map_rows", "map_calls"]),
+        ("laws, example, tests", ["map_laws", "first_map", "map_rows", "map_calls"]),
         ("program", ["cellmap", "map_run", "script_text"]),
         ("the map", ["map_soak", "map_core", "valued_map", "undo_journal", "mesh_build"]),
         ("plans", ["kind_edit", "alpha_edit", "beta_edit", "map_close", "face_center"]),
-        ("and their parts", ["cell_edit", "sewing", "dual_map"]),
+        ("and their parts", ["cell_edit", "sewing", "dual_map", "orient_half"]),
         ("text", ["list_text", "off_text"]),
         ("values", ["transport", "attr_pool", "hook_book", "attr_rules"]),
         ("words, lines", ["text_lines", "text_words", "map_io"]),
         ("rows", ["cell_walk", "link_rows", "dart_arena", "map_kind"]),
     ]),
     ("laws", [
-        ("texts", ["off_laws", "listing_laws"]),
+        ("texts, totals", ["off_laws", "listing_laws", "total_laws"]),
         ("the machine", ["answer_laws", "trail_laws", "label_laws", "machine_laws", "loading_laws", "journal_laws"]),
-        ("maps, meshes", ["back_laws", "center_laws", "dual_laws", "remove_laws", "insert_laws"]),
-        ("and values", ["value_laws", "reading_laws", "mesh_laws", "edit_laws", "link_laws"]),
+        ("maps, meshes", ["half_laws", "back_laws", "center_laws", "dual_laws", "remove_laws", "insert_laws"]),
+        ("and values", ["value_laws", "row_laws", "reading_laws", "mesh_laws", "edit_laws", "link_laws"]),
     ]),
     ("definitions", [
-        ("", ["machine_defs", "store_defs", "map_defs"]),
+        ("", ["machine_defs", "store_defs", "half_defs", "map_defs"]),
     ]),
 ]
 FILLS = {"code": ("#eaf1f8", "#cfe0ef"), "laws": ("#f6efe2", "#ecdfc4"), "definitions": ("#e6f2e8", "#c9e2ce")}
@@ -257,6 +257,7 @@ TESTS = ("map_rows", "map_calls")
 WORDS = {
     "machine_defs": "what the program does",
     "store_defs": "words between layers",
+    "half_defs": "halves and doubles",
     "map_defs": "what maps are",
 }
 

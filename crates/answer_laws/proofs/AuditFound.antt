@@ -51,12 +51,12 @@ module _ (text : List ℕ) where
     ])
   ])
 
-  read_found : (r : Result Told ListingFault) → told text ≡ r → NotNot (HasReading text)
+  pub read_found : (r : Result Told ListingFault) → told text ≡ r → NotNot (HasReading text)
   read_found (Err fault) e never = never (Err fault, unformed fault e refl)
   read_found (Ok t) e never = told_found t e never
 
 -- a bound of the darts that have rows
-abbrev Bound : List ListRow → Type 0
+abbrev pub Bound : List ListRow → Type 0
 Bound rows = (top : ℕ) × ((d : ℕ) → HasRow rows d → d < top)
 
 bound_more : (row : ListRow) (rows : List ListRow) → Bound rows → Bound (row ∷ rows)
@@ -66,7 +66,7 @@ bound_more row rows rest = (row.dart + 1 + rest.0, λ d h. here d (row.dart == d
     here d true e h = omega (arith, eqb-true row.dart d e)
     here d false e h = let low = rest.1 d (subst (λ (c : Bool). IsSome (cond c (Some row.links) (row_in rows d))) e h) in omega (arith, low)
 
-bound : (rows : List ListRow) → Bound rows
+pub bound : (rows : List ListRow) → Bound rows
 bound [] = (0, λ d h. absurd (cc (h)))
 bound (row ∷ rows) = bound_more row rows (bound rows)
 

@@ -1,5 +1,5 @@
 -- A vertex, an edge and a face that can be inserted are inserted, a map is closed, and edges are hung.
-use Rattle.std.proofs.Common.{◌≡◌, ◌≢◌, ℕ, ◌+◌, ◌<◌, ◌≤◌, List, length, All, Contains, arith}
+use Rattle.std.proofs.Common.{◌≡◌, ◌≢◌, ℕ, ◌+◌, ◌≤◌, List, length, All, Contains, arith}
 use Rattle.map_defs.specs.Kind.{Kind, alpha, beta, inverse}
 use Rattle.map_defs.specs.Links.{Links}
 use Rattle.map_defs.specs.Laws.{Laws}

@@ -24,5 +24,6 @@ pub mod GrownFound
 pub mod EffectFound
 pub mod RunFound
 pub mod AuditFound
+pub mod HalfFound
 pub mod SoakFound
 pub mod ProgramFound

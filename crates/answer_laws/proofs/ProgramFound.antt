@@ -12,7 +12,7 @@ use Rattle.machine_defs.specs.Script.{lines_of}
 use Rattle.machine_defs.specs.Text.{replies_text, any_refused}
 use Rattle.machine_defs.specs.Loading.{IsLoaded, first_state, refusal_line, text_fault_line, map_fault_line}
 use Rattle.machine_defs.specs.Outside.{Files, held}
-use Rattle.machine_defs.specs.Program.{Command, RunScript, Audit, Soak, IsOffered, TellsCommand, FileAnswer, ScriptAnswer, MeshAnswer, CommandAnswer, untold, told, Starts, usage, cannot_read, too_long, file_limit, run_status}
+use Rattle.machine_defs.specs.Program.{Command, RunScript, Audit, Half, Soak, IsOffered, TellsCommand, FileAnswer, ScriptAnswer, MeshAnswer, CommandAnswer, untold, told, Starts, usage, cannot_read, too_long, file_limit, run_status}
 use Rattle.loading_laws.proofs.MeshContent.{has-map}
 use Rattle.machine_laws.specs.Tracing.{AreTraced}
 use Rattle.machine_laws.proofs.Traced.{first-traced}
@@ -21,7 +21,9 @@ use Rattle.machine_laws.proofs.Programs.{loaded-kept, front-one}
 use Rattle.answer_laws.specs.Answering.{NotNot, HasAnswer, HasWhole}
 use Rattle.answer_laws.proofs.Choosing.{either_way}
 use Rattle.machine_defs.specs.Auditing.{AuditAnswer}
+use Rattle.machine_defs.specs.Halving.{HalfAnswer}
 use Rattle.answer_laws.proofs.AuditFound.{audit_found}
+use Rattle.answer_laws.proofs.HalfFound.{half_answer_found}
 use Rattle.answer_laws.proofs.SoakFound.{soak_found}
 use Rattle.answer_laws.proofs.RunFound.{run_found}
 
@@ -61,6 +63,7 @@ command_found hook files (RunScript k n (Some name) script) offered =
     file_found (held files name) (λ mesh. FileAnswer (held files script) (MeshAnswer hook k n mesh))
     (λ mesh. file_found (held files script) (MeshAnswer hook k n mesh) (λ bytes. read_found hook k n offered.0 mesh bytes (mesh_of mesh) refl))
 command_found hook files (Audit listing) offered = file_found (held files listing) AuditAnswer audit_found
+command_found hook files (Half listing) offered = file_found (held files listing) HalfAnswer half_answer_found
 command_found hook files (Soak kind seed count) offered = soak_found hook kind seed count
 
 pub answer_found : (hook : Hook) (words : List (List ℕ)) (files : Files) → NotNot (HasAnswer hook words files)

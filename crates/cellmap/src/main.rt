@@ -1,4 +1,5 @@
-//! The program `cellmap`: it obeys a script over a map and writes the replies to standard output.
+//! The program `cellmap`: it obeys a script over a map, or audits, halves or doubles the map of a listing, and writes what answers
+//! that to standard output.
 //!
 //! All that it does is the call of `map_run::run`, over the files of the system and the standard output, with the rules that
 //! it hands in: `host` is two closures, and `xor` and `span` are boxed. The exit status is the one that this call answers.

@@ -44,7 +44,7 @@ fn main(rt: HostRuntime) -> Result<(), Fault> {
 fn glue_squares(alloc: Global, surface: &mut Surface) -> Result<(), Refused> {
     let left = surface.polygon(alloc, 4)?;
     let right = surface.polygon(alloc, 4)?;
-    surface.sew(alloc, 2, u64::from(left.first), u64::from(right.first))?;
+    surface.sew(alloc, 2, left.first_dart(), right.first_dart())?;
     Ok(())
 }
 
@@ -73,7 +73,7 @@ fn show_cut(rt: &impl Print, alloc: Global, surface: &mut Surface) -> Result<(),
     surface.mark("whole")?;
     let edge = cut_left(alloc, surface)?;
     print_surface(rt, alloc, surface)?;
-    print_vertex(rt, alloc, surface, u64::from(edge.first))?;
+    print_vertex(rt, alloc, surface, edge.first_dart())?;
     surface.undo(alloc, "whole")?;
     Ok(())
 }
@@ -85,7 +85,7 @@ fn cut_left(alloc: Global, surface: &mut Surface) -> Result<Done, Refused>
 {
     let begin = surface.vertex(alloc, 1)?;
     let end = surface.vertex(alloc, 3)?;
-    surface.edge(alloc, u64::from(begin.first), u64::from(end.first))
+    surface.edge(alloc, begin.first_dart(), end.first_dart())
 }
 
 /// The next side of a face: the dart at link 1 of a dart, and none exactly where that link is free.

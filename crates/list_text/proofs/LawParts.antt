@@ -7,8 +7,8 @@ use Rattle.std.proofs.lemmas.Bool.{cases_lt}
 use Rattle.map_defs.specs.Kind.{Kind, IsDistant}
 use Rattle.machine_defs.specs.Listing.{ListRow}
 use Rattle.machine_defs.specs.ListingFaults.{links_in, KeepsLaws, IsLawful, IsFirstWithout}
-use Rattle.list_text.specs.Rows.{IsRow, LeadsBack, IsClosedAt, AreClosed}
-use Rattle.list_text.proofs.RowsAt.{link-above}
+use Rattle.row_laws.specs.Rows.{IsRow, LeadsBack, IsClosedAt, AreClosed}
+use Rattle.row_laws.proofs.RowsAt.{link-above}
 
 pub keeps-from : (k : Kind) (rows : List ListRow) (i d e : ℕ) → LeadsBack k rows i d e → AreClosed k rows i d e → KeepsLaws k rows i d e
 keeps-from k rows i d e b c = record { live = b.0; back = b.1; apart = b.2; free_alike = λ j x y. (c j x y).0; square = λ j x y. (c j x y).1 }

@@ -15,8 +15,9 @@ use Rattle.machine_defs.specs.Script.{◌>>=◌, numeral, integer, name, value}
 use Rattle.machine_defs.specs.Listing.{ListRow, ListRule, ListValue}
 use Rattle.machine_defs.specs.ListingLines.{Header, is_colon, words_between, numeral_within, kind_named, header_of, entries, entries_behind, row_of, rule_of, value_of}
 use Rattle.machine_defs.specs.Text.{spaced, spaced_signed, header_line, row_text, rule_text, value_text}
-use Rattle.list_text.proofs.RowsRead.{some, some_is, went_on_some, row_with}
-use Rattle.list_text.proofs.SpelledWords.{numeral-is, integer-is, name-is, listed-merge-is, listed-split-is, two-is, same-bytes, behind_spaces, join-first}
+use Rattle.row_laws.proofs.RowsRead.{some, some_is, went_on_some, row_with}
+use Rattle.row_laws.proofs.ToldParts.{header_with, told_live, told_made, told_dim, told_kind}
+use Rattle.row_laws.proofs.SpelledWords.{numeral-is, integer-is, name-is, listed-merge-is, listed-split-is, two-is, same-bytes, behind_spaces, join-first}
 
 within-is : (low high : ℕ) (word : List ℕ) (n : ℕ) → numeral_within low high word ≡ Some n → word ≡ decimal n
 within-is low high word n h =
@@ -38,21 +39,6 @@ kind-is word k h = at (bytes_eq word (codes "g")) (bytes_eq word (codes "c")) re
 -- the text that words make
 abbrev joined : List (List ℕ) → List ℕ
 joined words = join_with_byte 32 words
-
-abbrev header_with : ℕ → Kind → ℕ → ℕ → ℕ → Header
-header_with v k n m l = record { version = v; kind = k; dim = n; made = m; live = l }
-
-abbrev told_live : List ℕ → ℕ → Kind → ℕ → ℕ → Option Header
-told_live live v k n m = numeral_within 0 m live >>= λ l. some (header_with v k n m l)
-
-abbrev told_made : List ℕ → List ℕ → ℕ → Kind → ℕ → Option Header
-told_made made live v k n = numeral_within 0 made_max made >>= λ m. told_live live v k n m
-
-abbrev told_dim : List ℕ → List ℕ → List ℕ → ℕ → Kind → Option Header
-told_dim dim made live v k = numeral_within 2 4 dim >>= λ n. told_made made live v k n
-
-abbrev told_kind : List ℕ → List ℕ → List ℕ → List ℕ → ℕ → Option Header
-told_kind kind dim made live v = kind_named kind >>= λ k. told_dim dim made live v k
 
 header-text : (first version kind dim made live : List ℕ) (k : Kind) (n m l : ℕ) → first ≡ codes "cellmap" → version ≡ codes "2" → kind ≡ letter k ∷ [] → dim ≡ decimal n → made ≡ decimal m → live ≡ decimal l
     → joined (first ∷ version ∷ kind ∷ dim ∷ made ∷ live ∷ []) ++ 10 ∷ [] ≡ header_line (letter k) n m l

@@ -9,10 +9,10 @@ use Rattle.map_defs.specs.Rows.{Rows, row_at, links_of, IsLive, live_count}
 use Rattle.map_defs.specs.Counts.{HasCount, AreCounts, AreCountsAmong}
 use Rattle.machine_defs.specs.Listing.{ListRow}
 use Rattle.machine_defs.specs.ListingFaults.{row_in, HasRow, links_in, IsLawful}
-use Rattle.list_text.specs.Rows.{darts_of, AreRows}
+use Rattle.row_laws.specs.Rows.{darts_of, AreRows}
 use Rattle.list_text.specs.Ranks.{AreRanked}
 use Rattle.list_text.proofs.Ranking.{old, old-next, old-rises, names, names-component}
-use Rattle.list_text.proofs.ValuesMeant.{has-row}
+use Rattle.row_laws.proofs.RowPlaces.{has-row, place-of}
 
 -- where all are there, a filter keeps them
 filter-all : {A : Type 0} (xs : List (Option A)) → ((q : ℕ) → q < length xs → IsSome (get_or xs q None)) → length (filter is_some xs) ≡ length xs
@@ -26,16 +26,6 @@ live-all [] m long nothing live = absurd (omega arith)
 live-all (Some row ∷ R) m long nothing live = absurd cc
 live-all (None ∷ R) m long nothing live =
     filter-all R (λ q h. let e : q + 1 ≡ suc q = omega arith in rw e at (live q (omega (arith, long)))) ∙ omega (arith, long)
-
--- a dart with a row stands at a place
-place-of : (rows : List ListRow) (d : ℕ) → HasRow rows d → (p : ℕ) × (p < length rows) × (slice_index (darts_of rows) p ≡ d)
-place-of [] d has = absurd (false≢true has)
-place-of (row ∷ rows) d has = at (row.dart == d) refl has (place-of rows d)
-  where
-    at : (b : Bool) → row.dart == d ≡ b → IsSome (cond b (Some row.links) (row_in rows d)) → (HasRow rows d → (p : ℕ) × (p < length rows) × (slice_index (darts_of rows) p ≡ d))
-        → (p : ℕ) × (p < suc (length rows)) × (slice_index (darts_of (row ∷ rows)) p ≡ d)
-    at true e has later = (0, omega arith, eqb-true row.dart d e)
-    at false e has later = let place = later has in (suc place.0, omega (arith, place.1), place.2)
 
 module _ (k : Kind) (n : ℕ) (rows : List ListRow) (R : Rows) (are : AreRows n rows) (lawful : (p : ℕ) → p < length rows → IsLawful k rows (slice_index (darts_of rows) p)) (ranked : AreRanked n rows R) where
   -- a live number is that of a place

@@ -13,10 +13,10 @@ use Rattle.edit_laws.proofs.RowWrites.{row-same, links-untouched, live-entry, wi
 use Rattle.edit_laws.proofs.EditSound.{length-births}
 use Rattle.machine_defs.specs.Listing.{ListRow}
 use Rattle.machine_defs.specs.ListingFaults.{links_in, IsLawful}
-use Rattle.list_text.specs.Rows.{darts_of, IsRow, AreRows}
+use Rattle.row_laws.specs.Rows.{darts_of, IsRow, AreRows}
 use Rattle.list_text.specs.Ranks.{IsRank, AreSetUpTo, AreRanked, AreLeast, items_of, lists_of}
-use Rattle.list_text.proofs.RowsRead.{good, some, some_is}
-use Rattle.list_text.proofs.RowsAt.{row-found}
+use Rattle.row_laws.proofs.RowsRead.{good, some, some_is}
+use Rattle.row_laws.proofs.RowsAt.{row-found}
 use Rattle.list_text.proofs.Ranking.{names}
 
 pub set-none : (n : ℕ) (rows : List ListRow) → AreSetUpTo n rows 0 0 (with_births n (length rows) (None ∷ []))

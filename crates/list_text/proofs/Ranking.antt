@@ -9,10 +9,10 @@ use Rattle.map_defs.specs.Cells.{InOrbit, here, onward, Leads, IsLinked, NamesCe
 use Rattle.map_defs.specs.Rows.{Rows, row_at, links_of, entry_of, IsLive, IsSound}
 use Rattle.machine_defs.specs.Listing.{ListRow}
 use Rattle.machine_defs.specs.ListingFaults.{row_in, HasRow, links_in, IsLawful}
-use Rattle.list_text.specs.Rows.{darts_of, IsRow, AreRows}
+use Rattle.row_laws.specs.Rows.{darts_of, IsRow, AreRows}
 use Rattle.list_text.specs.Ranks.{IsRank, AreRanked}
-use Rattle.list_text.proofs.RowsRead.{darts-long}
-use Rattle.list_text.proofs.RowsAt.{rises, link-above, row-missing}
+use Rattle.row_laws.proofs.RowsRead.{darts-long}
+use Rattle.row_laws.proofs.RowsAt.{rises, link-above, row-missing}
 
 -- the old number of a new one
 abbrev pub old : List ListRow → ℕ → ℕ
@@ -27,7 +27,7 @@ past [] i h = refl
 past (x ∷ xs) zero h = absurd (omega arith)
 past (x ∷ xs) (suc i) h = past xs i (omega arith)
 
-dart-some : (n p : ℕ) (rows : List ListRow) → All (IsRow n) rows → p < length rows → 0 < slice_index (darts_of rows) p
+pub dart-some : (n p : ℕ) (rows : List ListRow) → All (IsRow n) rows → p < length rows → 0 < slice_index (darts_of rows) p
 dart-some n p [] each h = absurd (omega arith)
 dart-some n zero (row ∷ rows) each h = (each 0 row (omega arith)).0
 dart-some n (suc p) (row ∷ rows) each h = dart-some n p rows (λ q r g. each (suc q) r (omega arith)) (omega arith)

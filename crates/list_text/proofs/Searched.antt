@@ -5,7 +5,7 @@ use Rattle.std.specs.List.Sorted.{IsStrictlyIncreasing, IsBinarySearchResult}
 use Rattle.std.proofs.lemmas.Bool.{cases_lt, false≢true}
 use Rattle.std.proofs.lemmas.List.{get_or_default}
 use Rattle.std.proofs.lemmas.List.Sorted.{searched}
-use Rattle.list_text.proofs.RowsAt.{not_below}
+use Rattle.row_laws.proofs.RowsAt.{not_below}
 
 pub found-contained : (ds : List ℕ) (x : ℕ) (r : Result ℕ ℕ) → IsStrictlyIncreasing ds → IsBinarySearchResult (λ y. nat_cmp y x) ds r → IsTrue (is_ok r) ↔ Contains ds x
 found-contained ds x (Ok i) up h =

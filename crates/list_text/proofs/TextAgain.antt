@@ -14,8 +14,9 @@ use Rattle.machine_defs.specs.ListingFaults.{unformed, unlawful, unruled, unvalu
 use Rattle.machine_defs.specs.Text as written
 use Rattle.machine_defs.specs.Text.{header_line, row_text, rule_text, value_text, mark_text, listing_text}
 use Rattle.list_text.specs.Again.{IsWrittenAgain}
-use Rattle.list_text.proofs.RowsRead.{ok_is, went_on, formed-is, on_line-is}
-use Rattle.list_text.proofs.SpelledWords.{same-bytes, name-is, begins-so}
+use Rattle.row_laws.proofs.RowsRead.{ok_is, went_on, formed-is, on_line-is}
+use Rattle.row_laws.proofs.SpelledWords.{same-bytes, name-is, begins-so}
+use Rattle.row_laws.proofs.ToldParts.{given, after_marks, after_values, after_rules, after_rows, after_header}
 use Rattle.list_text.proofs.LinesAgain.{header-line, row-line, rule-line, value-line}
 
 -- what is left, as a text
@@ -184,25 +185,6 @@ ended-written left u h =
         → text_left left ≡ written.ended (codes "end")
     at line true is h text = text ∙ (ap (λ (xs : List ℕ). xs ++ 10 ∷ text_left line.1) (same-bytes line.0 (codes "end") is) ∙ ap (λ (xs : List ℕ). codes "end" ++ 10 ∷ xs) (closed-is line.1.line line.1.pieces u h))
     at line false is h text = absurd cc
-
--- what goes on behind each part
-abbrev given : Told → Result Told ListingFault
-given t = Ok t
-
-abbrev after_marks : Header → List ListRow → List ListRule → List ListValue → List (List ℕ) × Unread → Result Told ListingFault
-after_marks h rows rules values marks = ended marks.1 >>= λ done. given (listing_told h rows rules values marks.0)
-
-abbrev after_values : Header → List ListRow → List ListRule → List ListValue × Unread → Result Told ListingFault
-after_values h rows rules values = marks_read h.version values.1 >>= after_marks h rows rules values.0
-
-abbrev after_rules : Header → List ListRow → List ListRule × Unread → Result Told ListingFault
-after_rules h rows rules = values_read rules.1 >>= after_values h rows rules.0
-
-abbrev after_rows : Header → List ListRow × Unread → Result Told ListingFault
-after_rows h rows = rules_read h.version rows.1 >>= after_rules h rows.0
-
-abbrev after_header : Header × Unread → Result Told ListingFault
-after_header h = rows_read h.0.dim h.0.made h.0.live [] h.1 >>= after_rows h.0
 
 together : (text a b c d e f t1 t2 t3 t4 t5 : List ℕ) → text ≡ a ++ t1 → t1 ≡ b ++ t2 → t2 ≡ c ++ t3 → t3 ≡ d ++ t4 → t4 ≡ e ++ t5 → t5 ≡ f → text ≡ a ++ b ++ c ++ d ++ e ++ f
 together text a b c d e f t1 t2 t3 t4 t5 h1 h2 h3 h4 h5 h6 = rw (h1, h2, h3, h4, h5, h6) (simp append_assoc refl)

@@ -9,11 +9,12 @@ use Rattle.std.proofs.lemmas.List.Elements.{filter-append}
 use Rattle.map_defs.specs.Kind.{Kind, alpha, beta, letter}
 use Rattle.machine_defs.specs.Listing.{ListRow, ListRule, ListValue}
 use Rattle.machine_defs.specs.ListingFaults.{row_in, HasRow, IsLawful, first_copy}
-use Rattle.list_text.specs.Rows.{darts_of}
+use Rattle.row_laws.specs.Rows.{darts_of}
 use Rattle.list_text.specs.Letters.{kind_named}
-use Rattle.list_text.proofs.RowsAt.{row-missing}
+use Rattle.row_laws.proofs.RowsAt.{row-missing}
+use Rattle.row_laws.proofs.RowPlaces.{lawful-at}
 
-range-suc : (a n j : ℕ) → a + n ≡ j → range_with_len a (suc n) ≡ range_with_len a n ++ j ∷ []
+pub range-suc : (a n j : ℕ) → a + n ≡ j → range_with_len a (suc n) ≡ range_with_len a n ++ j ∷ []
 range-suc a zero j e = let same : a ≡ j = omega arith in ap (λ (i : ℕ). i ∷ []) same
 range-suc a (suc n) j e = ap (λ (is : List ℕ). a ∷ is) (range-suc (a + 1) n j (omega arith))
 
@@ -37,23 +38,11 @@ rules-more dim values =
     one true e = rw e refl
     one false e = rw e refl
 
-dart-at : (rows : List ListRow) (p : ℕ) → p < length rows → (row : ListRow) × (get_or rows p row ≡ row) × (slice_index (darts_of rows) p ≡ row.dart)
-dart-at [] p h = absurd (omega arith)
-dart-at (row ∷ rows) zero h = (row, refl, refl)
-dart-at (row ∷ rows) (suc p) h = dart-at rows p (omega arith)
-
 -- a byte that is not the letter of generalized maps
 pub named-beta : (byte : ℕ) → byte ≢ letter alpha → kind_named byte ≡ beta
 named-beta byte other = let no : byte == letter alpha ≡ false = grind (arith, nat_tests) in rw no refl
 
--- the laws at the darts of all rows, told by their places
-lawful-at : (k : Kind) (rows all : List ListRow) → All (λ (row : ListRow). IsLawful k all row.dart) rows → (p : ℕ) → p < length rows → IsLawful k all (slice_index (darts_of rows) p)
-lawful-at k rows all lawful p h =
-    let at = dart-at rows p h in
-    let here : IsLawful k all at.0.dart = subst (λ (row : ListRow). IsLawful k all row.dart) at.1 (lawful p at.0 h) in
-    rw at.2 here
-
--- the same, where the kind and the rows are told in another way
+-- the laws at the darts of all rows, where the kind and the rows are told in another way
 pub lawful-of : (kind k : Kind) (rows listed : List ListRow) → kind ≡ k → rows ≡ listed → All (λ (row : ListRow). IsLawful kind listed row.dart) listed
     → (p : ℕ) → p < length rows → IsLawful k rows (slice_index (darts_of rows) p)
 lawful-of kind k rows listed named is lawful p h =
@@ -63,13 +52,3 @@ lawful-of kind k rows listed named is lawful p h =
 -- where no place is the dart's, it has no row
 pub no-row : (rows listed : List ListRow) (d : ℕ) → rows ≡ listed → ((p : ℕ) → p < length rows → slice_index (darts_of rows) p ≢ d) → HasRow listed d → ⊥
 no-row rows listed d is none has = let missing = row-missing listed d (rw is at none) in false≢true (rw missing at has)
-
--- the dart at a place has a row
-pub has-row : (rows : List ListRow) (p : ℕ) → p < length rows → HasRow rows (slice_index (darts_of rows) p)
-has-row [] p h = absurd (omega arith)
-has-row (row ∷ rows) zero h = let same : row.dart == row.dart ≡ true = grind (arith, nat_tests) in rw same refl
-has-row (row ∷ rows) (suc p) h = at (row.dart == slice_index (darts_of rows) p) (has-row rows p (omega arith))
-  where
-    at : (b : Bool) → HasRow rows (slice_index (darts_of rows) p) → IsSome (cond b (Some row.links) (row_in rows (slice_index (darts_of rows) p)))
-    at true later = refl
-    at false later = later

@@ -7,7 +7,7 @@ use Rattle.map_defs.specs.Rows.{Rows, row_at, links_of, IsLive, AreWide}
 use Rattle.map_defs.specs.Cells.{NamesCell}
 use Rattle.machine_defs.specs.Listing.{ListRow}
 use Rattle.machine_defs.specs.ListingFaults.{HasRow, links_in}
-use Rattle.list_text.specs.Rows.{darts_of}
+use Rattle.row_laws.specs.Rows.{darts_of}
 
 -- the new number of dart d is r; it is 0 if d has no row
 abbrev pub IsRank : List ListRow → ℕ → ℕ → Type 0

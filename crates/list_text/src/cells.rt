@@ -5,7 +5,7 @@ ghost use Rattle.map_defs.specs.Kind.{Kind as MapKind};
 ghost use Rattle.map_defs.specs.Cells.{NamesCell};
 ghost use Rattle.machine_defs.specs.Listing.{ListRow as Listed};
 ghost use Rattle.machine_defs.specs.ListingFaults.{links_in, IsLawful};
-ghost use Rattle.list_text.specs.Rows.{darts_of, AreRows};
+ghost use Rattle.row_laws.specs.Rows.{darts_of, AreRows};
 ghost use Rattle.list_text.specs.Ranks.{IsRank, AreSetUpTo, AreRanked, AreLeast, lists_of};
 
 use crate::ListRow;

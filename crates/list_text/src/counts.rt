@@ -4,7 +4,7 @@ ghost use Rattle.map_defs.specs.Counts.{AreCountsAmong};
 ghost use Rattle.machine_defs.specs.ListingFaults.{HasRow, links_in, IsLawful};
 ghost use Rattle.machine_defs.specs.Auditing.{AreListingCounts};
 ghost use Rattle.list_text.specs.Judging.{IsSoundListing};
-ghost use Rattle.list_text.specs.Rows.{darts_of, AreRows};
+ghost use Rattle.row_laws.specs.Rows.{darts_of, AreRows};
 
 use crate::cells::ranked_links;
 use crate::table::RowTable;

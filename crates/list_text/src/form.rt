@@ -1,6 +1,7 @@
 //! The lines of a listing, each by itself.
 ghost use Rattle.std.specs.Prelude.{◌≡◌, ◌≤◌, IfSome, IfOk};
 ghost use Rattle.std.specs.Option.{option_map};
+ghost use Rattle.map_defs.specs.Rows.{made_max};
 ghost use Rattle.machine_defs.specs.Script.{value};
 ghost use Rattle.machine_defs.specs.ListingLines.{numeral_within, kind_named, header_of, entries, entries_behind, row_of, rule_of, value_of};
 ghost use Rattle.list_text.specs.Letters.{kind_named as kind_of, IsLetter};
@@ -71,6 +72,7 @@ pub(crate) fn header_of(words: Words) -> Option<Header>
     ensures letter { IfSome result (λ header. IsLetter header.letter) }
     ensures low { IfSome result (λ header. 2 ≤ header.dim) }
     ensures dim { IfSome result (λ header. header.dim ≤ 4) }
+    ensures made { IfSome result (λ header. header.made ≤ made_max) }
 {
     let (first, words) = words.take()?;
     let (version, words) = words.take()?;

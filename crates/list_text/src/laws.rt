@@ -2,7 +2,7 @@
 ghost use Rattle.std.specs.Prelude.{◌≡◌, ◌≢◌, ◌≤◌, ◌↔◌, All, IsTrue, IfSome, IfNone};
 ghost use Rattle.machine_defs.specs.ListingFaults.{links_in, KeepsLaws, IsLawful, IsFirstWithout};
 ghost use Rattle.map_defs.specs.Kind.{IsDistant};
-ghost use Rattle.list_text.specs.Rows.{IsRow, LeadsBack, IsClosedAt, AreClosed};
+ghost use Rattle.row_laws.specs.Rows.{IsRow, LeadsBack, IsClosedAt, AreClosed};
 
 use crate::ListRow;
 use crate::table::RowTable;

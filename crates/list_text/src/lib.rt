@@ -14,10 +14,14 @@ mod judge;
 mod laws;
 mod line;
 mod lines;
+mod links;
+#[cfg(test)]
+mod links_tests;
 mod listing;
 mod name;
 mod names;
 mod read;
+mod rows;
 mod table;
 #[cfg(test)]
 mod tests;
@@ -30,7 +34,9 @@ pub use again::written_again;
 pub use counts::listing_counts;
 pub use fault::{ListFault, ListWhat};
 pub use line::ListLine;
+pub use links::listing_links;
 pub use listing::{ListRow, ListRule, ListValue, Listing};
 pub use name::MarkName;
 pub use read::{LISTING_MAX, read_listing};
+pub use rows::list_rows;
 pub use write::{put_listing, write_listing};

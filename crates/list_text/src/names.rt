@@ -5,27 +5,30 @@ ghost use Rattle.machine_defs.specs.Script.{is_name};
 
 use crate::{ListFault, MarkName};
 use std::alloc::Global;
-use std::collections::HashSet;
+use std::collections::BTreeSet;
 use std::marker::Model;
 
-/// Names of marks, of which no two are the same. They are seen as the list of the names.
+/// Names of marks, of which no two are the same. Whether a name is one of them is looked up in a search tree and not by a
+/// hash, so that no choice of names makes it slow. They are seen as the list of the names.
 #[derive(Drop)]
 pub(crate) struct Names<'a> {
     names: Vec<MarkName>,
-    seen: HashSet<&'a str>,
+    seen: BTreeSet<&'a str>,
 }
 
 impl<'a> Model for Names<'a> {
     ghost use Rattle.std.specs.Prelude.{ℕ, List, ◌≡◌};
     ghost use Rattle.std.specs.List.{list_any};
     ghost use Rattle.std.specs.Str.{bytes_eq};
-    ghost use Rattle.std.specs.HashSet.{contains_by};
+    ghost use Rattle.std.specs.Ordering.{nat_cmp};
+    ghost use Rattle.std.specs.Cmp.Lexicographic.{slice_cmp};
+    ghost use Rattle.std.specs.BTreeSet.{contains_by};
 
     ghost Value = { List (List ℕ) };
 
     ghost view = { λ n. n.names.items };
 
-    ghost invariant = { λ n. (q : List ℕ) → contains_by (λ k. bytes_eq q k.now) n.seen ≡ list_any (bytes_eq q) n.names.items };
+    ghost invariant = { λ n. (q : List ℕ) → contains_by (λ k. slice_cmp nat_cmp q k.now) n.seen ≡ list_any (bytes_eq q) n.names.items };
 }
 
 impl<'a> Names<'a> {
@@ -35,7 +38,7 @@ impl<'a> Names<'a> {
     {
         Names {
             names: Vec::new(alloc),
-            seen: HashSet::new(alloc),
+            seen: BTreeSet::new(alloc),
         }
     }
 

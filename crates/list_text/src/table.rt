@@ -1,6 +1,6 @@
 ghost use Rattle.std.specs.Prelude.{◌≡◌, ◌≢◌, ℕ, ◌<◌, ◌↔◌, length, slice_index, IfOk, IfSome, IfNone, IsTrue, option_map};
 ghost use Rattle.machine_defs.specs.ListingFaults.{row_in, links_in, HasRow};
-ghost use Rattle.list_text.specs.Rows.{darts_of, Ascend};
+ghost use Rattle.row_laws.specs.Rows.{darts_of, Ascend};
 
 use crate::ListRow;
 use std::alloc::{AllocError, Global};
@@ -17,7 +17,7 @@ pub(crate) struct RowTable<'a> {
 impl<'a> Model for RowTable<'a> {
     ghost use Rattle.std.specs.Prelude.{List, ◌≡◌};
     ghost use Rattle.machine_defs.specs.Listing.{ListRow as Listed};
-    ghost use Rattle.list_text.specs.Rows.{darts_of, Ascend};
+    ghost use Rattle.row_laws.specs.Rows.{darts_of, Ascend};
 
     ghost Value = { List Listed };
 

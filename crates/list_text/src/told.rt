@@ -1,9 +1,10 @@
 //! What the lines of a text tell, one after the other, up to the first fault of form or order.
-ghost use Rattle.std.specs.Prelude.{◌≡◌, ◌+◌, ◌-◌, ◌≤◌, ◌<◌, ◌^◌, [], drop, length, IfOk, option_copied};
+ghost use Rattle.std.specs.Prelude.{◌≡◌, ◌+◌, ◌-◌, ◌≤◌, ◌<◌, ◌^◌, [], drop, length, All, IfOk, option_copied};
+ghost use Rattle.map_defs.specs.Rows.{made_max};
 ghost use Rattle.machine_defs.specs.ListingForm.{taken, row_taken, rule_taken, value_taken, mark_taken, rows_read, rules_read, values_read, marks_read, header_read, ended, rises, is_row_below, is_rule_below, is_value_below, told_left};
 ghost use Rattle.list_text.specs.Meanings.{Gives};
 ghost use Rattle.list_text.specs.Letters.{IsLetter};
-ghost use Rattle.list_text.specs.Rows.{AreRows};
+ghost use Rattle.row_laws.specs.Rows.{IsMadeRow, AreRows};
 ghost use Rattle.list_text.specs.Views.{cursor_view, header_view, told_view};
 
 use crate::cursor::Cursor;
@@ -33,6 +34,8 @@ pub(crate) fn read_told(alloc: Global, cursor: Cursor) -> Result<Told, ListFault
     ensures rows { IfOk result (λ told. AreRows told.header.dim told.rows.items) }
     ensures low { IfOk result (λ told. 2 ≤ told.header.dim) }
     ensures dim { IfOk result (λ told. told.header.dim ≤ 4) }
+    ensures made { IfOk result (λ told. told.header.made ≤ made_max) }
+    ensures within { IfOk result (λ told. All (IsMadeRow told.header.made) told.rows.items) }
     // There are fewer lines than 32 bits count.
     ensures few { IfOk result (λ told. length told.rows.items + length told.rules.items + length told.values.items < 2 ^ 32 - 2) }
 {
@@ -57,6 +60,7 @@ fn read_header(cursor: Cursor) -> Result<(Header, Cursor), ListFault>
     ensures letter { IfOk result (λ x. IsLetter x.0.letter) }
     ensures low { IfOk result (λ x. 2 ≤ x.0.dim) }
     ensures dim { IfOk result (λ x. x.0.dim ≤ 4) }
+    ensures made { IfOk result (λ x. x.0.made ≤ made_max) }
 {
     let (text, left) = next_line(cursor)?;
     match header_of(Words::of(text)) {
@@ -74,6 +78,7 @@ fn read_rows<'a>(
     ensures read { Gives (λ x. (x.0.items, cursor_view x.1)) result
         (rows_read header.dim header.made header.live [] (cursor_view cursor.entry)) }
     ensures rows { IfOk result (λ x. AreRows header.dim x.0.items) }
+    ensures within { IfOk result (λ x. All (IsMadeRow header.made) x.0.items) }
     ensures counted { IfOk result (λ x. x.1.line ≡ cursor.entry.line + length x.0.items) }
 {
     let mut rows = Vec::new(alloc);

@@ -6,11 +6,8 @@ use Rattle.machine_defs.specs.ListingLines.{Header}
 use Rattle.machine_defs.specs.ListingForm.{ListingFault, Unread, unread, Told, told, told_left, listing_told, header_read, rows_read, rules_read, values_read, marks_read, ended}
 use Rattle.machine_defs.specs.ListingFaults.{Reads, unformed, unlawful, unruled, unvalued, read, listing_meant, rules_of_values}
 use Rattle.machine_defs.specs.Script.{lines_of}
-
--- what went on from a value went on from one that there is
-went_on : {A B E : Type 0} (r : Result A E) (f : A → Result B E) (y : B) → (r >>= f) ≡ Ok y → (x : A) × (r ≡ Ok x) × (f x ≡ Ok y)
-went_on (Ok x) f y h = (x, refl, h)
-went_on (Err e) f y h = absurd (cc (h))
+use Rattle.row_laws.proofs.RowsRead.{went_on}
+use Rattle.row_laws.proofs.ToldParts.{given, after_marks, after_values, after_rules, after_rows, after_header}
 
 abbrev ok : {A : Type 0} → A → Result A ListingFault
 ok x = Ok x
@@ -23,24 +20,6 @@ no-marks : (left : Unread) (x : List (List ℕ) × Unread) (version : ℕ) → v
 no-marks left x version one h =
     let same : Ok ([], left) ≡ Ok x = subst (λ (v : ℕ). marks_read v left ≡ Ok x) one h in
     ap (λ (p : List (List ℕ) × Unread). p.0) (sym (ok-one ([], left) x same))
-
-abbrev given : Told → Result Told ListingFault
-given t = Ok t
-
-abbrev after_marks : Header → List ListRow → List ListRule → List ListValue → List (List ℕ) × Unread → Result Told ListingFault
-after_marks h rows rules values marks = ended marks.1 >>= λ done. given (listing_told h rows rules values marks.0)
-
-abbrev after_values : Header → List ListRow → List ListRule → List ListValue × Unread → Result Told ListingFault
-after_values h rows rules values = marks_read h.version values.1 >>= after_marks h rows rules values.0
-
-abbrev after_rules : Header → List ListRow → List ListRule × Unread → Result Told ListingFault
-after_rules h rows rules = values_read rules.1 >>= after_values h rows rules.0
-
-abbrev after_rows : Header → List ListRow × Unread → Result Told ListingFault
-after_rows h rows = rules_read h.version rows.1 >>= after_rules h rows.0
-
-abbrev after_header : Header × Unread → Result Told ListingFault
-after_header h = rows_read h.0.dim h.0.made h.0.live [] h.1 >>= after_rows h.0
 
 unmarked : (left : Unread) (t : Told) → told_left left ≡ Ok t → t.version ≡ 1 → t.listing.marks ≡ []
 unfolding told_left

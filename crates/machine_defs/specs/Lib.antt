@@ -18,5 +18,6 @@ pub mod Machine
 pub mod Outside
 pub mod Dualling
 pub mod Auditing
+pub mod Halving
 pub mod Soaking
 pub mod Program

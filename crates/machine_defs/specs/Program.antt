@@ -12,24 +12,28 @@ use Rattle.map_defs.specs.Off.{mesh_of}
 use Rattle.machine_defs.specs.Loading.{IsLoaded, refusal_line}
 use Rattle.machine_defs.specs.Outside.{Files, held, IsFront}
 use Rattle.machine_defs.specs.Auditing.{AuditAnswer}
+use Rattle.machine_defs.specs.Halving.{HalfAnswer}
 use Rattle.machine_defs.specs.Soaking.{SoakAnswer}
 
 -- a command: run a script over a map of a kind and a dimension, the empty one or that of a mesh in a file; or audit the
--- listing in a file; or obey the lines for so many squares that a generator makes from a number
+-- listing in a file; or tell the half, or the double, of the listing in a file; or obey the lines for so many squares that a
+-- generator makes from a number
 pub data Command : Type 0 where
   RunScript : Kind → ℕ → Option (List ℕ) → List ℕ → Command
   Audit : List ℕ → Command
+  Half : List ℕ → Command
   Soak : Kind → ℕ → ℕ → Command
 
 -- the word for the empty map
 abbrev pub no_mesh : List ℕ
 no_mesh = codes "-"
 
--- the commands that the program offers: scripts over maps of both kinds of dimension 2, 3 or 4, audits, and up to 100,000
--- squares from a number below 2^31
+-- the commands that the program offers: scripts over maps of both kinds of dimension 2, 3 or 4, audits, halves, and up to
+-- 100,000 squares from a number below 2^31
 abbrev pub IsOffered : Command → Type 0
 IsOffered (RunScript kind dim mesh script) = (2 ≤ dim) × (dim ≤ 4) × (mesh ≢ Some no_mesh)
 IsOffered (Audit listing) = Unit {0}
+IsOffered (Half listing) = Unit {0}
 IsOffered (Soak kind seed count) = (seed < 2147483648) × (1 ≤ count) × (count ≤ 100000)
 
 abbrev pub mesh_word : Option (List ℕ) → List ℕ
@@ -40,6 +44,7 @@ mesh_word (Some name) = name
 abbrev pub words_for : Command → List (List ℕ)
 words_for (RunScript kind dim mesh script) = codes "run" ∷ (letter kind ∷ []) ∷ decimal dim ∷ mesh_word mesh ∷ script ∷ []
 words_for (Audit listing) = codes "audit" ∷ listing ∷ []
+words_for (Half listing) = codes "half" ∷ listing ∷ []
 words_for (Soak kind seed count) = codes "soak" ∷ (letter kind ∷ []) ∷ decimal seed ∷ decimal count ∷ []
 
 -- the words tell this command
@@ -53,6 +58,7 @@ IsNoCommand words = (command : Command) → TellsCommand words command → ⊥
 abbrev pub IsNeededBy : Command → List ℕ → Type 0
 IsNeededBy (RunScript kind dim mesh script) name = (mesh ≡ Some name) ⊎ (name ≡ script)
 IsNeededBy (Audit listing) name = name ≡ listing
+IsNeededBy (Half listing) name = name ≡ listing
 IsNeededBy (Soak kind seed count) name = ⊥
 
 abbrev pub NeedsFile : List (List ℕ) → List ℕ → Type 0
@@ -94,6 +100,7 @@ CommandAnswer hook files (RunScript kind dim None script) = FileAnswer (held fil
 CommandAnswer hook files (RunScript kind dim (Some name) script) =
     FileAnswer (held files name) (λ mesh. FileAnswer (held files script) (MeshAnswer hook kind dim mesh))
 CommandAnswer hook files (Audit listing) = FileAnswer (held files listing) AuditAnswer
+CommandAnswer hook files (Half listing) = FileAnswer (held files listing) HalfAnswer
 CommandAnswer hook files (Soak kind seed count) = SoakAnswer hook kind seed count
 
 -- The program's whole text and its status.
@@ -120,11 +127,12 @@ abbrev pub StartsFrom : Files → Kind → ℕ → Option (List ℕ) → State �
 StartsFrom files kind dim None start = start ≡ empty_state kind dim
 StartsFrom files kind dim (Some name) start = (mesh : List ℕ) × IsFile files name mesh × IsLoaded kind dim mesh start
 
--- The replies to a script begin so. An audit, or a soak, that has no whole text yet has written nothing.
+-- The replies to a script begin so. An audit, a half, or a soak, that has no whole text yet has written nothing.
 abbrev pub CommandBegins : Hook → Files → Command → List ℕ → Type 0
 CommandBegins hook files (RunScript kind dim mesh script) front =
     (start : State) × (bytes : List ℕ) × StartsFrom files kind dim mesh start × IsFile files script bytes × Begins hook start (lines_of bytes) front
 CommandBegins hook files (Audit listing) front = front ≡ []
+CommandBegins hook files (Half listing) front = front ≡ []
 CommandBegins hook files (Soak kind seed count) front = front ≡ []
 
 -- The program's text begins so: as a front of a whole text, or as a front of what the machine answers to the first lines.

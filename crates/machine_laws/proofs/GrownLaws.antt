@@ -9,7 +9,7 @@ use Rattle.map_defs.specs.Rows.{Rows, made, made_max, IsLive, links_of}
 use Rattle.map_defs.specs.LinkWords.{through}
 use Rattle.map_defs.specs.Cells.{InOrbit, here, onward, InCell}
 use Rattle.map_defs.specs.Births.{IsNumbered, IsFresh}
-use Rattle.map_defs.specs.Insertion.{NoPairs, IsLinkedBy, InAlphaCorner, InBetaCorner, AlphaEdgeDarts, AlphaEdgePairs, BetaEdgeLeads, FaceDarts}
+use Rattle.map_defs.specs.Insertion.{NoPairs, IsLinkedBy, InAlphaCorner, AlphaEdgeDarts, AlphaEdgePairs, BetaEdgeLeads, FaceDarts}
 use Rattle.map_defs.specs.Inserting.{VertexDarts, IsVertex, InCorner, EdgeDarts, AreEdgePaired, IsEdge}
 use Rattle.machine_defs.specs.Relinking.{IsTooMany, IsTooManyTwice, IsGrown, IsHungWith, NoDart}
 use Rattle.map_defs.specs.Closing.{IsOpen, IsClosed, IsDangled, CanDangle, IsCentred}

@@ -9,9 +9,8 @@ use Rattle.link_laws.proofs.Basics.{same_or_not}
 use Rattle.map_defs.specs.Values.{Merge, First, Last, Sum, Min, Max, Mid, Split, Copied, Keep, Share, Host, Named, Rule, Hook, is_among}
 use Rattle.map_defs.specs.RuleNames.{table_merge, table_split, known_name, named_merge, named_split, KnowsMerge, KnowsSplit, KnowsRule}
 use Rattle.map_defs.specs.Kind.{Kind}
-use Rattle.map_defs.specs.Off.{Mesh}
 use Rattle.machine_defs.specs.State.{State, Content, Mark, Undone, rule_at, kept_past, steps_to, empty_content, empty_state}
-use Rattle.machine_defs.specs.Loading.{IsMeshContent, IsLoaded, first_copy, first_state}
+use Rattle.machine_defs.specs.Loading.{IsLoaded, first_copy, first_state}
 use Rattle.machine_defs.specs.Kept.{AreRulesKnown, KnowsRules}
 use Rattle.machine_defs.specs.Marking.{IsMark, with_mark, undone_to, back_to, forth_to}
 use Rattle.machine_defs.specs.Script as says

@@ -22,6 +22,7 @@ pub mod Logs
 pub mod Redone
 pub mod Runs
 pub mod Audits
+pub mod HalfAnswers
 pub mod Soaks
 pub mod Programs
 pub mod OneStep

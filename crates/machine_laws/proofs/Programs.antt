@@ -12,9 +12,11 @@ use Rattle.machine_defs.specs.Machine.{Run}
 use Rattle.machine_defs.specs.Outside.{Files, held, IsFront}
 use Rattle.map_defs.specs.Off.{Mesh, mesh_of}
 use Rattle.machine_defs.specs.Loading.{IsLoaded, IsMeshContent, first_state, refusal_line}
-use Rattle.machine_defs.specs.Program.{Command, IsOffered, RunScript, Audit, Soak, TellsCommand, no_mesh, mesh_word, FileAnswer, ScriptAnswer, MeshAnswer, CommandAnswer, StartsFrom, ProgramAnswer, untold, told, Begins, Starts, whole, lines, file_limit, run_status}
+use Rattle.machine_defs.specs.Program.{Command, IsOffered, RunScript, Audit, Half, Soak, TellsCommand, no_mesh, mesh_word, FileAnswer, ScriptAnswer, MeshAnswer, CommandAnswer, StartsFrom, ProgramAnswer, untold, told, Begins, Starts, whole, lines, file_limit, run_status}
 use Rattle.machine_defs.specs.Auditing.{AuditAnswer}
+use Rattle.machine_defs.specs.Halving.{HalfAnswer}
 use Rattle.machine_laws.proofs.Audits.{audit-one}
+use Rattle.machine_laws.proofs.HalfAnswers.{half-answer-one}
 use Rattle.machine_laws.proofs.Soaks.{soak-one}
 use Rattle.machine_laws.proofs.Runs.{run-one, run-front}
 use Rattle.machine_laws.proofs.Begun.{empty-kept, first-kept}
@@ -47,6 +49,13 @@ told-one words (RunScript k n mesh script) (RunScript k' n' mesh' script') t t' 
 told-one words (RunScript k n mesh script) (Audit listing) t t' = absurd (let same = ap length (sym t.1 ∙ t'.1) in omega arith)
 told-one words (Audit listing) (RunScript k n mesh script) t t' = absurd (let same = ap length (sym t.1 ∙ t'.1) in omega arith)
 told-one words (Audit listing) (Audit listing') t t' = let same = sym t.1 ∙ t'.1 in cc
+told-one words (Half listing) (Half listing') t t' = let same = sym t.1 ∙ t'.1 in cc
+told-one words (Audit listing) (Half listing') t t' = absurd (let same = sym t.1 ∙ t'.1 in cc)
+told-one words (Half listing) (Audit listing') t t' = absurd (let same = sym t.1 ∙ t'.1 in cc)
+told-one words (RunScript k n mesh script) (Half listing) t t' = absurd (let same = ap length (sym t.1 ∙ t'.1) in omega arith)
+told-one words (Half listing) (RunScript k n mesh script) t t' = absurd (let same = ap length (sym t.1 ∙ t'.1) in omega arith)
+told-one words (Half listing) (Soak k seed count) t t' = absurd (let same = ap length (sym t.1 ∙ t'.1) in omega arith)
+told-one words (Soak k seed count) (Half listing) t t' = absurd (let same = ap length (sym t.1 ∙ t'.1) in omega arith)
 told-one words (RunScript k n mesh script) (Soak k' seed count) t t' = absurd (let same = ap length (sym t.1 ∙ t'.1) in omega arith)
 told-one words (Soak k seed count) (RunScript k' n mesh script) t t' = absurd (let same = ap length (sym t.1 ∙ t'.1) in omega arith)
 told-one words (Audit listing) (Soak k seed count) t t' = absurd (let same = ap length (sym t.1 ∙ t'.1) in omega arith)
@@ -105,6 +114,8 @@ command-one hook files (RunScript k n (Some name) script) one other status statu
     (λ bytes v w. mesh-answer-one hook k n mesh bytes one other status status' offered.0 v w) x y) a b
 command-one hook files (Audit listing) one other status status' offered a b =
     file-one (held files listing) AuditAnswer one other status status' (λ bytes x y. audit-one bytes one other status status' x y) a b
+command-one hook files (Half listing) one other status status' offered a b =
+    file-one (held files listing) HalfAnswer one other status status' (λ bytes x y. half-answer-one bytes one other status status' x y) a b
 command-one hook files (Soak k seed count) one other status status' offered a b = soak-one hook k seed count one other status status' a b
 
 pub answer-one : (hook : Hook) (words : List (List ℕ)) (files : Files) (one other : List ℕ) (status status' : ℕ) → ProgramAnswer hook words files one status → ProgramAnswer hook words files other status' → (one ≡ other) × (status ≡ status')
@@ -152,4 +163,5 @@ front-one hook words files front text status (lines (RunScript k n mesh script) 
     (command-run hook files k n mesh script f.0 f.1 text status f.2 f.3.0 f.3.1
     (subst (λ (d : Command). CommandAnswer hook files d text status) (told-one words c' (RunScript k n mesh script) tells' tells) a))
 front-one hook words files front text status (lines (Audit listing) tells f) (told c' tells' a) = (text, rw f refl)
+front-one hook words files front text status (lines (Half listing) tells f) (told c' tells' a) = (text, rw f refl)
 front-one hook words files front text status (lines (Soak k seed count) tells f) (told c' tells' a) = (text, rw f refl)

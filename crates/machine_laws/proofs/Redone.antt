@@ -1,8 +1,8 @@
 -- A redo gives back what the undo before it took.
-use Rattle.std.proofs.Common.{◌≡◌, List, [], ◌∷◌, ◌++◌, ℕ, refl, sym, ap, ◌∙◌, inl, inr}
+use Rattle.std.proofs.Common.{◌≡◌, List, ℕ, sym, ap, ◌∙◌, inl, inr}
 use Rattle.map_defs.specs.Values.{Hook}
 use Rattle.machine_defs.specs.State.{State, Undone}
-use Rattle.machine_defs.specs.Marking.{IsLastUndone, undone_to, forth_to}
+use Rattle.machine_defs.specs.Marking.{undone_to, forth_to}
 use Rattle.machine_defs.specs.Script as says
 use Rattle.machine_defs.specs.Text.{Reply, Done}
 use Rattle.machine_defs.specs.Machine.{Step}

@@ -1,9 +1,9 @@
 //! Rows of darts that ended are used again, and darts that come back have rows: a map is driven over that point within
-//! marks, and taken back.
+//! marks, taken back, and forth again until others have the rows.
 use crate::lines::{Line, Name, Wanted, check_lines};
 use attr_rules::OrCopy;
 use map_core::Map;
-use map_kind::{Alpha, Value};
+use map_kind::{Alpha, Refusal, Value};
 use std::alloc::{AllocError, Global};
 use std::process::Abort;
 use std::test::Fail;
@@ -39,6 +39,15 @@ const AGAIN: [(Line, Wanted); 5] = [
 
 const BACK: [(Line, Wanted); 1] = [(Line::Undo { name: Name::Small }, Wanted::Done)];
 
+const FORTH: [(Line, Wanted); 1] = [(Line::Redo { name: Name::Small }, Wanted::Done)];
+
+/// Numbers and rows of darts that were taken back serve others, and after that nothing brings the former ones back.
+#[rattlefmt::skip]
+const OTHERS: [(Line, Wanted); 2] = [
+    (Line::Polygon { sides: 2_100 }, Wanted::Made { first: 7, count: 4_200 }),
+    (Line::Redo { name: Name::Small }, Wanted::No(Refusal::NoRedo)),
+];
+
 /// All darts, links, rules and values, and the names of the marks, as a text.
 fn whole(alloc: Global, map: &Map<'_, Alpha, OrCopy, 2>) -> Result<String, AllocError> {
     let listing = map.listing(alloc)?;
@@ -72,6 +81,10 @@ fn check_returns(
     // The second time the darts come back to rows that others had.
     check_whole(rt, alloc, map, &AGAIN, &large)?;
     check_whole(rt, alloc, map, &AGAIN, &large)?;
+    check_whole(rt, alloc, map, &BACK, &small)?;
+    check_whole(rt, alloc, map, &FORTH, &large)?;
+    check_whole(rt, alloc, map, &BACK, &small)?;
+    check_lines(rt, alloc, map, &OTHERS);
     check_whole(rt, alloc, map, &BACK, &small)?;
     Ok(())
 }

@@ -5,3 +5,4 @@ mod OpenFacts
 mod OpenList
 mod Rounds
 mod WalkSteps
+mod StarNumbers

@@ -1,18 +1,15 @@
 -- The open darts at which a map is closed, and their new darts.
-use Rattle.std.proofs.Common.{ℕ, ◌≡◌, ◌≢◌, ◌+◌, ◌<◌, ◌≤◌, length, get_or, Contains, is_some, ap, ◌∙◌, inr, arith}
+use Rattle.std.proofs.Common.{ℕ, ◌≡◌, ◌+◌, ◌<◌, ◌≤◌, length, get_or, Contains, is_some, ap, ◌∙◌, arith}
 use Rattle.std.specs.Prelude.{All}
 use Rattle.std.proofs.lemmas.List.Elements.{Contains-get_or}
-use Rattle.map_defs.specs.Kind.{Kind, inverse, IsDistant}
+use Rattle.map_defs.specs.Kind.{Kind}
 use Rattle.map_defs.specs.Rows.{Rows, links_of, made, IsLive, IsSound}
 use Rattle.map_defs.specs.Births.{IsNumbered, IsFresh}
 use Rattle.map_defs.specs.Edits.{with_births}
 use Rattle.map_defs.specs.Closing.{IsAround}
-use Rattle.link_laws.proofs.Basics.{IsDistant-inverse_right}
-use Rattle.link_laws.proofs.RowFacts.{rows_made, rows_lead_to_live}
+use Rattle.link_laws.proofs.RowFacts.{rows_made}
 use Rattle.edit_laws.proofs.RowWrites.{births-old, births-new, live-within}
 use Rattle.insert_laws.proofs.Numbers.{numbered_above, numbered_upto, numbered_fresh}
-use Rattle.insert_laws.proofs.Around.{around_free, around_live}
-use Rattle.insert_laws.proofs.Closed.{open_carried}
 use Rattle.cell_edit.specs.Stars.{Stars, star_of}
 use Rattle.cell_edit.proofs.StarNumbers.{stars-number}
 use Rattle.cell_edit.proofs.Beyond.{live-made}
@@ -52,18 +49,6 @@ module _ (k : Kind) (n : ℕ) (rows : Rows) (sound : IsSound k n rows) (i : ℕ)
   -- the way around a boundary ends
   pub rounds : (x : ℕ) → K x → (t : ℕ) → (y : ℕ) × IsAround k i t (links_of rows) x y
   rounds x has t = around-found k (links_of rows) can.laws i can.own t (made rows) (rows_made rows) x (key-free x has)
-
-  -- distant links lead from open darts to open darts, and so does the way around a boundary
-  pub key-beside : (x t : ℕ) → K x → IsDistant k i t → links_of rows (inverse k t) x ≢ 0 → K (links_of rows (inverse k t) x)
-  key-beside x t has away some =
-      (can.members (links_of rows (inverse k t) x)).1
-      (open_carried k i can.own (IsLive rows) (links_of rows) can.laws (live-dart k n rows sound) (rows_lead_to_live k rows can.laws) (made rows) (rows_made rows)
-      x (inverse k t) ((can.members x).0 has) (inr (IsDistant-inverse_right k i t away)) some)
-
-  pub key-around : (x t y : ℕ) → IsAround k i t (links_of rows) x y → y ≢ 0 → K y
-  key-around x t y walk some =
-      (can.members y).1
-      (around_live k (links_of rows) can.laws i can.own t (IsLive rows) (rows_lead_to_live k rows can.laws) x y walk some, around_free k (links_of rows) can.laws i can.own t x y walk)
 
   -- ---- after the births the live darts live on, and the new darts live
   pub old-lives : (x : ℕ) → IsLive rows x → IsLive (with_births n (length stars.keys) rows) x

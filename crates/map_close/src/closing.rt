@@ -8,15 +8,15 @@ ghost use Rattle.map_close.specs.Planning.{PlansClosing};
 ghost use Rattle.map_close.specs.NewLinks.{IsNewLink, IsLinkEntry, IsNewEntry, IsOpenEntry, AreClosingEntries, CanClose};
 
 use crate::boundary::{next_open, open_darts};
-use cell_edit::{Stars, room_for_changes};
+use crate::star_table::StarTable;
+use cell_edit::room_for_changes;
 use link_rows::{Change, Edit, Links};
 use map_kind::{Dart, Kind};
 use std::alloc::{AllocError, Global};
 
 /// The edit that closes a map at a link that is its own inverse.
 ///
-/// It costs a step for each dart that was made, and the walks around the boundary and its darts, for each link of the map,
-/// times a logarithm.
+/// It costs a step for each dart that was made, and the walks around the boundary and its darts, for each link of the map.
 pub(crate) fn closing_edit<K: Kind, const DIM: usize>(
     alloc: Global,
     links: &Links<K, DIM>,
@@ -28,7 +28,7 @@ pub(crate) fn closing_edit<K: Kind, const DIM: usize>(
     ensures { IfOk result (PlansClosing K.kind DIM links.now.rows link) }
 {
     let darts = open_darts(alloc, links, link)?;
-    let stars = Stars::new(darts, links.made());
+    let stars = StarTable::new(alloc, darts, links.made())?;
     let changes = closing_changes(alloc, links, link, &stars)?;
     Ok(Edit {
         births: stars.births(),
@@ -42,7 +42,7 @@ fn closing_changes<K: Kind, const DIM: usize>(
     alloc: Global,
     links: &Links<K, DIM>,
     link: usize,
-    stars: &Stars,
+    stars: &StarTable,
 ) -> Result<Vec<Change>, AllocError>
     requires link { link ≤ DIM }
     requires can { CanClose K.kind links.now.rows link stars.now }
@@ -60,7 +60,7 @@ fn closing_changes<K: Kind, const DIM: usize>(
 fn push_dart<K: Kind, const DIM: usize>(
     links: &Links<K, DIM>,
     link: usize,
-    stars: &Stars,
+    stars: &StarTable,
     dart: Dart,
     changes: &mut Vec<Change>,
 ) -> Result<(), AllocError>
@@ -78,7 +78,7 @@ fn push_dart<K: Kind, const DIM: usize>(
 fn push_links<K: Kind, const DIM: usize>(
     links: &Links<K, DIM>,
     link: usize,
-    stars: &Stars,
+    stars: &StarTable,
     dart: Dart,
     changes: &mut Vec<Change>,
 ) -> Result<(), AllocError>
@@ -123,7 +123,7 @@ fn push_link<K: Kind, const DIM: usize>(
 fn new_link<K: Kind, const DIM: usize>(
     links: &Links<K, DIM>,
     link: usize,
-    stars: &Stars,
+    stars: &StarTable,
     dart: Dart,
     at: usize,
 ) -> u32
@@ -139,22 +139,10 @@ fn new_link<K: Kind, const DIM: usize>(
         return dart.number();
     }
     if K::distant(link, at) {
-        return star_number(stars, links.number_at(dart, K::inverse(at)));
+        return stars.number(links.number_at(dart, K::inverse(at)));
     }
     if at < link {
-        return star_number(stars, next_open(links, link, at, dart));
+        return stars.number(next_open(links, link, at, dart));
     }
     0
-}
-
-/// The number of the new dart of the dart of this number; 0 for 0.
-fn star_number(stars: &Stars, number: u32) -> u32
-    requires nothing { star_of stars.now 0 ≡ 0 }
-    requires key { number ≢ 0 → Contains stars.now.keys number }
-    ensures { result ≡ star_of stars.now number }
-{
-    match Dart::new(number) {
-        Some(dart) => stars.star(dart).number(),
-        None => 0,
-    }
 }

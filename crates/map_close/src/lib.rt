@@ -9,6 +9,7 @@ pub mod alpha;
 pub mod beta;
 mod boundary;
 mod closing;
+mod star_table;
 #[cfg(test)]
 mod test_maps;
 #[cfg(test)]

@@ -38,6 +38,10 @@ impl<'h, K: Edits<DIM>, H: Hook, const DIM: usize> Map<'h, K, H, DIM> {
     /// of the face that lie between them, and the cells of the corners' darts where a dimension has a rule, times a
     /// logarithm.
     ///
+    /// In a generalized map the edge parts the face where the way round it from `dart`, along link 0 and then link 1 and so on,
+    /// comes to `other` along link 0. With the other dart of that corner in its place the edge is twisted, and the face stays
+    /// one.
+    ///
     /// Refused as `NoDart` exactly where no live dart has one of the numbers; then as `OtherCell` exactly where the darts do
     /// not lie on one side of one face; then as `SameCorner` exactly where they lie in one corner; then as `Unpaired`
     /// exactly where the darts of the corners cannot be paired; and then as `Full` exactly where more than 4,194,304 darts

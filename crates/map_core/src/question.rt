@@ -1,5 +1,6 @@
 //! The questions, which change nothing.
-ghost use Rattle.std.specs.Prelude.{IfOk};
+ghost use Rattle.std.specs.Prelude.{◌≡◌, ◌↔◌, is_none, IfOk, IfSome, IsNone};
+ghost use Rattle.map_defs.specs.Rows.{links_of};
 ghost use Rattle.machine_defs.specs.Script.{Cell, Same, Free, Count};
 ghost use Rattle.machine_defs.specs.Machine.{Step};
 ghost use Rattle.machine_defs.specs.Text.{Darts, Truth, Counts};
@@ -47,6 +48,23 @@ impl<'h, K: Kind, H: Hook, const DIM: usize> Map<'h, K, H, DIM> {
         let link = self.dimension(link)?;
         let dart = self.live_dart(dart)?;
         Ok(self.links().is_free(dart, link))
+    }
+
+    /// The number of the dart to which a link of a dart leads; none exactly where the link is free. It takes no memory.
+    ///
+    /// Refused as [`Map::free`] is: as `BadDim` exactly where the link is above the map's dimension, and then as `NoDart`
+    /// exactly where no live dart has the number.
+    pub fn link(&self, link: u64, dart: u64) -> Result<Option<u64>, Refusal>
+        ensures refused { AnswersAtOnce (H.hook self.now.hook) self.now.state (Free link dart) (λ other. Truth (is_none other)) result }
+        ensures free { IfOk result (λ other. IsNone other ↔ (links_of self.now.state.present.rows link dart ≡ 0)) }
+        ensures linked { IfOk result (λ other. IfSome other (λ number. number ≡ links_of self.now.state.present.rows link dart)) }
+    {
+        let index = self.dimension(link)?;
+        let dart = self.live_dart(dart)?;
+        match self.links().link(dart, index) {
+            Some(other) => Ok(Some(u64::from(other.number()))),
+            None => Ok(None),
+        }
     }
 
     /// How many live darts, cells of dimensions 0 to `DIM`, and components there are, in this order.

@@ -1,3 +1,4 @@
 mod HeldFiles
 mod ReadWhole
 mod Handed
+mod FailingCalls

@@ -7,6 +7,7 @@
 
 mod device;
 pub mod file_shelf;
+pub mod memory;
 pub mod shelf;
 pub mod sink;
 pub mod sure;
@@ -15,6 +16,7 @@ mod tests;
 pub mod writer_sink;
 
 pub use file_shelf::FileShelf;
+pub use memory::{MemShelf, MemSink, SinkFail};
 pub use shelf::{FetchFault, Shelf};
 pub use sink::{PutFault, Sink};
 pub use sure::{Held, SureShelf, SureSink};

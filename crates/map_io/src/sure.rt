@@ -1,5 +1,5 @@
 //! A shelf and a sink in memory, without faults.
-ghost use Rattle.std.specs.Prelude.{◌≡◌, ℕ, ◌↔◌, ◌-◌, ◌^◌, ◌<◌, List, [], Option, Some, IsSome, option_map};
+ghost use Rattle.std.specs.Prelude.{◌≡◌, ◌≢◌, ℕ, ◌↔◌, ◌-◌, ◌^◌, ◌<◌, ◌≤◌, List, [], Option, Some, IsSome, IfOk, IsErrOf, length, option_map};
 ghost use Rattle.machine_defs.specs.Outside.{Files, held};
 ghost use Rattle.map_io.specs.Held.{files_of};
 
@@ -44,16 +44,26 @@ impl Shelf for SureShelf {
         let Some(bytes) = find(self.files.as_slice(), name) else {
             unreachable!()
         };
-        let length = bytes.len() as u64;
-        if length > limit {
-            return Err(FetchFault::TooLong { seen: length });
-        }
-        bytes.to_vec(alloc).map_err(|_| FetchFault::NoMemory)
+        copy_up_to(alloc, bytes, limit)
     }
 }
 
+/// A copy of these bytes, if there are at most `limit` of them.
+pub(crate) fn copy_up_to(alloc: Global, bytes: &[u8], limit: u64) -> Result<Vec<u8>, FetchFault>
+    ensures ok { IfOk result (λ copy. (copy.items ≡ bytes.now) × (length bytes.now ≤ limit)) }
+    ensures too_long { (seen : ℕ) → IsErrOf result (FetchFault.TooLong seen) →
+        (seen ≡ length bytes.now) × (limit < seen) }
+    ensures sound { result ≢ Err FetchFault.Failed }
+{
+    let length = bytes.len() as u64;
+    if length > limit {
+        return Err(FetchFault::TooLong { seen: length });
+    }
+    bytes.to_vec(alloc).map_err(|_| FetchFault::NoMemory)
+}
+
 /// The bytes of the first file of this name, if there is one.
-fn find<'a>(files: &'a [Held], name: &str) -> Option<&'a [u8]>
+pub(crate) fn find<'a>(files: &'a [Held], name: &str) -> Option<&'a [u8]>
     ensures { option_map (λ bytes. bytes.now) result ≡ held (files_of files.now) name.now }
 {
     for file in files {

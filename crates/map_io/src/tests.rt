@@ -4,7 +4,8 @@ ghost use Rattle.map_io.specs.Held.{file_of};
 
 use crate::device::Source;
 use crate::{
-    FetchFault, FileShelf, Held, PutFault, Shelf, Sink, StdSink, SureShelf, SureSink, WriterSink,
+    FetchFault, FileShelf, Held, MemShelf, MemSink, PutFault, Shelf, Sink, SinkFail, StdSink,
+    SureShelf, SureSink, WriterSink,
 };
 use std::alloc::{AllocError, Global};
 use std::fs;
@@ -45,6 +46,46 @@ fn a_sure_sink_tells_what_was_written(rt: HostRuntime) -> Result<(), Fail> {
     assert_eq!(rt; sink.put(b"1\n"), Ok(()));
     assert_eq!(rt; sink.flush(), Ok(()));
     assert_eq!(rt; sink.written(), b"ok 1\n".as_slice());
+    Ok(())
+}
+
+#[test]
+fn a_shelf_fails_where_it_is_told(rt: HostRuntime) -> Result<(), Fail> {
+    let alloc = rt.alloc();
+    let mut files = Vec::new(alloc);
+    files.push(held(alloc, "a", b"first")?)?;
+    files.push(held(alloc, "a", b"second")?)?;
+    let mut fail = Vec::new(alloc);
+    fail.push(2)?;
+    let mut shelf = MemShelf::new(files, fail);
+    let first = shelf.fetch(alloc, "a", 5);
+    let second = shelf.fetch(alloc, "a", 5);
+    let third = shelf.fetch(alloc, "a", 4);
+    let fourth = shelf.fetch(alloc, "b", 5);
+    assert_eq!(rt;
+        first.ok().ok_or("no file")?.as_slice(),
+        b"first".as_slice()
+    );
+    assert_eq!(rt; second.err(), Some(FetchFault::Failed));
+    assert_eq!(rt; third.err(), Some(FetchFault::TooLong { seen: 5 }));
+    assert_eq!(rt; fourth.err(), Some(FetchFault::Failed));
+    Ok(())
+}
+
+#[test]
+fn a_sink_takes_of_a_piece_what_it_is_told(rt: HostRuntime) -> Result<(), Fail> {
+    let alloc = rt.alloc();
+    let mut fail = Vec::new(alloc);
+    fail.push(SinkFail { call: 2, taken: 2 })?;
+    fail.push(SinkFail { call: 2, taken: 0 })?;
+    fail.push(SinkFail { call: 3, taken: 9 })?;
+    let mut sink = MemSink::new(alloc, fail);
+    assert_eq!(rt; sink.put(b"ok 1 6\n"), Ok(()));
+    assert_eq!(rt; sink.put(b"ok\n"), Err(PutFault::Failed));
+    assert_eq!(rt; sink.put(b"no"), Err(PutFault::Failed));
+    assert_eq!(rt; sink.flush(), Ok(()));
+    assert_eq!(rt; sink.put(b"\n"), Ok(()));
+    assert_eq!(rt; sink.written(), b"ok 1 6\nokno\n".as_slice());
     Ok(())
 }
 

@@ -9,10 +9,13 @@ struct Audit {
     status: u8,
 }
 
-const AUDITS: [Audit; 17] = [
-    // a triangle in version 1
+/// A triangle, in version 1.
+pub const TRIANGLE_LISTING: &str =
+    "cellmap 1 g 2 6 6\n1: 2 6 0\n2: 1 3 0\n3: 4 2 0\n4: 3 5 0\n5: 6 4 0\n6: 5 1 0\nend\n";
+
+const AUDITS: [Audit; 18] = [
     Audit {
-        listing: "cellmap 1 g 2 6 6\n1: 2 6 0\n2: 1 3 0\n3: 4 2 0\n4: 3 5 0\n5: 6 4 0\n6: 5 1 0\nend\n",
+        listing: TRIANGLE_LISTING,
         text: "cellmap 2 g 2 6 6\n1: 2 6 0\n2: 1 3 0\n3: 4 2 0\n4: 3 5 0\n5: 6 4 0\n6: 5 1 0\nend\ncount 6 3 3 1 1\n",
         status: 0,
     },
@@ -61,6 +64,11 @@ const AUDITS: [Audit; 17] = [
     // more rows than there are
     Audit {
         listing: "cellmap 2 g 2 4194304 4194304\nend\n",
+        text: "listing line 2 Form\n",
+        status: 3,
+    },
+    Audit {
+        listing: "cellmap 1 g 2 4194304 4194304\nend\n",
         text: "listing line 2 Form\n",
         status: 3,
     },

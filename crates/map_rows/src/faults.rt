@@ -1,74 +1,12 @@
 //! Words that are no command, and what fails outside.
 ghost use Rattle.std.specs.Prelude.{◌≡◌, ℕ, ◌+◌, ◌-◌, ◌^◌, [], None, min};
 
+use crate::audits::TRIANGLE_LISTING;
+use crate::harness::run_failing;
+use crate::meshes::TRIANGLE;
 use attr_rules::OrCopy;
-use map_io::{FetchFault, PutFault, Shelf, Sink};
-use std::alloc::{AllocError, Global};
-use std::process::Abort;
-
-/// A shelf whose one file is of this text, under every name; or none, where the text is left out.
-#[derive(Drop)]
-struct OneFile {
-    text: Option<&'static [u8]>,
-    faults: u64,
-}
-
-impl Shelf for OneFile {
-    ghost holds = { λ _. None };
-
-    ghost faults = { λ shelf. shelf.faults };
-
-    ghost may_ask = { λ _ _. Unit {0} };
-
-    fn fetch(&mut self, alloc: Global, _name: &str, limit: u64) -> Result<Vec<u8>, FetchFault> {
-        match self.text {
-            Some(text) if text.len() as u64 <= limit => {
-                text.to_vec(alloc).map_err(|_| FetchFault::NoMemory)
-            }
-            _ => {
-                self.faults = self.faults.saturating_add(1);
-                Err(FetchFault::Failed)
-            }
-        }
-    }
-}
-
-/// A sink that takes so many pieces, and then fails; at a flush it fails if it is told to.
-#[derive(Drop)]
-struct Narrow {
-    text: Vec<u8>,
-    room: u64,
-    flushes: bool,
-    faults: u64,
-}
-
-impl Sink for Narrow {
-    ghost written = { λ _. None };
-
-    ghost kept_back = { λ _. [] };
-
-    ghost faults = { λ sink. sink.faults };
-
-    fn put(&mut self, piece: &[u8]) -> Result<(), PutFault> {
-        if self.room == 0 {
-            self.faults = self.faults.saturating_add(1);
-            return Err(PutFault::Failed);
-        }
-        self.room -= 1;
-        match self.text.extend_from_slice(piece) {
-            Ok(()) => Ok(()),
-            Err(_) => Err(PutFault::NoMemory),
-        }
-    }
-
-    fn flush(&mut self) -> Result<(), PutFault> {
-        if self.flushes {
-            return Ok(());
-        }
-        self.faults = self.faults.saturating_add(1);
-        Err(PutFault::Failed)
-    }
-}
+use map_io::{Held, MemShelf, PutFault, Sink, SinkFail};
+use std::alloc::AllocError;
 
 /// Words that are no command: none, an unknown one, one too few, one too many, an unknown kind, dimensions below and above
 /// those offered, and a dimension with a leading zero; an audit of nothing, and of two listings.
@@ -86,141 +24,207 @@ const NO_COMMANDS: [&[&str]; 11] = [
     &["run", "g", "02", "-", "s"],
 ];
 
-/// A sink or a shelf that fails, what is written nevertheless, and the status.
-#[derive(Drop)]
-struct Fault {
-    file: Option<&'static [u8]>,
-    room: u64,
-    flushes: bool,
+#[test]
+fn words_that_are_no_command(rt: HostRuntime) -> Result<(), AllocError> {
+    for words in &NO_COMMANDS {
+        let answer = run_failing(rt.alloc(), words, &[], &[], &[])?;
+        assert_eq!(rt; answer.text.as_slice(), b"usage\n".as_slice());
+        assert_eq!(rt; answer.status, 2);
+    }
+    Ok(())
+}
+
+/// The fetches and the puts that fail, what is written nevertheless, and the status.
+struct Failure {
+    words: &'static [&'static str],
+    fetches: &'static [u64],
+    puts: &'static [SinkFail],
     text: &'static str,
     status: u8,
 }
 
-const NO_FILE: Fault = Fault {
-    file: None,
-    room: 9,
-    flushes: true,
-    text: "cannot read\n",
-    status: 5,
-};
-
-const NO_ROOM: Fault = Fault {
-    file: None,
-    room: 0,
-    flushes: true,
-    text: "",
-    status: 6,
-};
-
-const CUT_SHORT: Fault = Fault {
-    file: Some(b"polygon 3\nshow\n"),
-    room: 3,
-    flushes: true,
-    text: "ok 1 6\ncellmap 2 g 2 6 6\n1: 2 6 0\n",
-    status: 6,
-};
-
-const ROOM_ENOUGH: Fault = Fault {
-    file: Some(b"polygon 3\n"),
-    room: 1,
-    flushes: true,
-    text: "ok 1 6\n",
-    status: 0,
-};
-
-const NO_FLUSH: Fault = Fault {
-    file: Some(b"polygon 3\n"),
-    room: 1,
-    flushes: false,
-    text: "ok 1 6\n",
-    status: 6,
-};
-
-/// Runs the program on these words, over a shelf with this file and a sink with this room, and compares.
-fn check(rt: &impl Abort, alloc: Global, words: &[&str], fault: &Fault) -> Result<(), AllocError> {
-    let mut owned = Vec::new(alloc);
-    for word in words {
-        owned.push(word.to_string(alloc)?)?;
-    }
-    let mut shelf = OneFile {
-        text: fault.file,
-        faults: 0,
-    };
-    let mut out = Narrow {
-        text: Vec::new(alloc),
-        room: fault.room,
-        flushes: fault.flushes,
-        faults: 0,
-    };
-    let status = map_run::run(alloc, owned.as_slice(), &mut shelf, &mut out, &OrCopy);
-    assert_eq!(rt; out.text.as_slice(), fault.text.as_bytes());
-    assert_eq!(rt; status, fault.status);
-    Ok(())
-}
-
-#[test]
-fn words_that_are_no_command(rt: HostRuntime) -> Result<(), AllocError> {
-    let usage = Fault {
-        text: "usage\n",
-        status: 2,
-        ..ROOM_ENOUGH
-    };
-    for words in &NO_COMMANDS {
-        check(&rt, rt.alloc(), words, &usage)?;
-    }
-    Ok(())
-}
+const FAILURES: [Failure; 15] = [
+    // a reply that is not taken, not even its first byte
+    Failure {
+        words: &["run", "g", "2", "-", "s"],
+        fetches: &[],
+        puts: &[SinkFail { call: 3, taken: 0 }],
+        text: "ok 1 6\nok 7 1\n",
+        status: 6,
+    },
+    // all of a reply but its line feed
+    Failure {
+        words: &["run", "g", "2", "-", "s"],
+        fetches: &[],
+        puts: &[SinkFail { call: 3, taken: 2 }],
+        text: "ok 1 6\nok 7 1\nok",
+        status: 6,
+    },
+    // a put that does not come
+    Failure {
+        words: &["run", "g", "2", "-", "s"],
+        fetches: &[],
+        puts: &[SinkFail { call: 5, taken: 0 }],
+        text: "ok 1 6\nok 7 1\nok 8 1\nok 9 1\n",
+        status: 0,
+    },
+    // the mesh, the script, and a mesh that is not there
+    Failure {
+        words: &["run", "g", "2", "tri.off", "s"],
+        fetches: &[1],
+        puts: &[],
+        text: "cannot read\n",
+        status: 5,
+    },
+    Failure {
+        words: &["run", "g", "2", "tri.off", "s"],
+        fetches: &[2],
+        puts: &[],
+        text: "cannot read\n",
+        status: 5,
+    },
+    Failure {
+        words: &["run", "g", "2", "absent", "s"],
+        fetches: &[],
+        puts: &[],
+        text: "cannot read\n",
+        status: 5,
+    },
+    // a listing, and then what says so
+    Failure {
+        words: &["audit", "tri.lst"],
+        fetches: &[1],
+        puts: &[SinkFail { call: 1, taken: 3 }],
+        text: "can",
+        status: 6,
+    },
+    // what says that the words are no command
+    Failure {
+        words: &["fly"],
+        fetches: &[],
+        puts: &[SinkFail { call: 1, taken: 0 }],
+        text: "",
+        status: 6,
+    },
+    // a script, and then what says so
+    Failure {
+        words: &["run", "g", "2", "-", "absent"],
+        fetches: &[],
+        puts: &[SinkFail { call: 1, taken: 0 }],
+        text: "",
+        status: 6,
+    },
+    // a listing of the map within its second line
+    Failure {
+        words: &["run", "g", "2", "-", "show"],
+        fetches: &[],
+        puts: &[SinkFail { call: 3, taken: 4 }],
+        text: "ok 1 6\ncellmap 2 g 2 6 6\n1: 2",
+        status: 6,
+    },
+    // a fetch that does not come
+    Failure {
+        words: &["run", "g", "2", "-", "show"],
+        fetches: &[2],
+        puts: &[SinkFail { call: 10, taken: 0 }],
+        text: "ok 1 6\ncellmap 2 g 2 6 6\n1: 2 6 0\n2: 1 3 0\n3: 4 2 0\n4: 3 5 0\n5: 6 4 0\n6: 5 1 0\nend\n",
+        status: 0,
+    },
+    // a listing that is not there, one that is refused, and one whose counts cannot be written
+    Failure {
+        words: &["audit", "absent"],
+        fetches: &[],
+        puts: &[],
+        text: "cannot read\n",
+        status: 5,
+    },
+    Failure {
+        words: &["audit", "s"],
+        fetches: &[],
+        puts: &[],
+        text: "listing line 1 Form\n",
+        status: 3,
+    },
+    Failure {
+        words: &["audit", "dart.lst"],
+        fetches: &[],
+        puts: &[SinkFail { call: 4, taken: 0 }],
+        text: "cellmap 2 g 2 1 1\n1: 0 0 0\nend\n",
+        status: 6,
+    },
+    // a mesh that is refused, which cannot be said
+    Failure {
+        words: &["run", "g", "2", "s", "s"],
+        fetches: &[],
+        puts: &[SinkFail { call: 1, taken: 0 }],
+        text: "",
+        status: 6,
+    },
+];
 
 #[test]
 fn what_fails_outside(rt: HostRuntime) -> Result<(), AllocError> {
-    for fault in &[NO_FILE, NO_ROOM, CUT_SHORT, ROOM_ENOUGH, NO_FLUSH] {
-        check(&rt, rt.alloc(), &["run", "g", "2", "-", "s"], fault)?;
+    let files = [
+        ("s", b"polygon 3\ndart\ndart\ndart\n".as_slice()),
+        ("show", b"polygon 3\nshow\n".as_slice()),
+        ("tri.off", TRIANGLE.as_bytes()),
+        ("tri.lst", TRIANGLE_LISTING.as_bytes()),
+        ("dart.lst", b"cellmap 1 g 2 1 1\n1: 0 0 0\nend\n".as_slice()),
+    ];
+    for row in &FAILURES {
+        let answer = run_failing(rt.alloc(), row.words, &files, row.fetches, row.puts)?;
+        assert_eq!(rt; answer.text.as_slice(), row.text.as_bytes());
+        assert_eq!(rt; answer.status, row.status, "{}", row.text);
     }
     Ok(())
 }
 
-const NO_MESH: Fault = Fault {
-    file: Some(b"polygon 3\n"),
-    room: 1,
-    flushes: true,
-    text: "off line 1 NoHeader\n",
-    status: 3,
-};
-
-const NO_ROOM_FOR_IT: Fault = Fault {
-    room: 0,
-    text: "",
-    status: 6,
-    ..NO_MESH
-};
-
-const NO_LISTING: Fault = Fault {
-    text: "listing line 1 Form\n",
-    ..NO_MESH
-};
-
-const LISTING_CUT_SHORT: Fault = Fault {
-    file: Some(b"cellmap 1 g 2 1 1\n1: 0 0 0\nend\n"),
-    room: 3,
-    flushes: true,
-    text: "cellmap 2 g 2 1 1\n1: 0 0 0\nend\n",
-    status: 6,
-};
-
-/// A listing that cannot be fetched, one that is refused, and one whose counts cannot be written.
-#[test]
-fn what_fails_with_a_listing(rt: HostRuntime) -> Result<(), AllocError> {
-    for fault in &[NO_FILE, NO_LISTING, LISTING_CUT_SHORT] {
-        check(&rt, rt.alloc(), &["audit", "x"], fault)?;
-    }
-    Ok(())
+/// A sink that takes what is put, and fails at each flush.
+#[derive(Drop)]
+struct Unflushed {
+    text: Vec<u8>,
+    faults: u64,
 }
 
-/// A mesh that cannot be fetched, one that is refused, and one whose refusal cannot be written.
-#[test]
-fn what_fails_with_a_mesh(rt: HostRuntime) -> Result<(), AllocError> {
-    for fault in &[NO_FILE, NO_MESH, NO_ROOM_FOR_IT] {
-        check(&rt, rt.alloc(), &["run", "g", "2", "m", "s"], fault)?;
+impl Sink for Unflushed {
+    ghost written = { λ _. None };
+
+    ghost kept_back = { λ _. [] };
+
+    ghost faults = { λ sink. sink.faults };
+
+    fn put(&mut self, piece: &[u8]) -> Result<(), PutFault> {
+        match self.text.extend_from_slice(piece) {
+            Ok(()) => Ok(()),
+            Err(_) => Err(PutFault::NoMemory),
+        }
     }
+
+    fn flush(&mut self) -> Result<(), PutFault> {
+        self.faults = self.faults.saturating_add(1);
+        Err(PutFault::Failed)
+    }
+}
+
+#[test]
+fn what_is_not_handed_on(rt: HostRuntime) -> Result<(), AllocError> {
+    let alloc = rt.alloc();
+    let mut words = Vec::new(alloc);
+    for word in ["run", "g", "2", "-", "s"] {
+        words.push(word.to_string(alloc)?)?;
+    }
+    let mut files = Vec::new(alloc);
+    files.push(Held {
+        name: "s".to_string(alloc)?,
+        bytes: b"polygon 3\n".to_vec(alloc)?,
+    })?;
+    let mut shelf = MemShelf::new(files, Vec::new(alloc));
+    let mut out = Unflushed {
+        text: Vec::new(alloc),
+        faults: 0,
+    };
+    let status = map_run::run(alloc, words.as_slice(), &mut shelf, &mut out, &OrCopy);
+    assert_eq!(rt; out.text.as_slice(), b"ok 1 6\n".as_slice());
+    assert_eq!(rt; status, 6);
     Ok(())
 }

@@ -6,7 +6,7 @@ ghost use Rattle.map_io.specs.Held.{files_of};
 
 use attr_rules::OrCopy;
 use hook_book::{Book, Named, Span, Xor};
-use map_io::{Held, SureShelf, SureSink};
+use map_io::{Held, MemShelf, MemSink, SinkFail, SureShelf, SureSink};
 use std::alloc::{AllocError, Global};
 use std::process::Abort;
 
@@ -42,6 +42,32 @@ pub fn run_over(alloc: Global, words: &[String], files: Vec<Held>) -> Result<Ans
     Ok(Answer { text, status })
 }
 
+/// Runs the program on words, over files of these names and bytes, where the fetches of these numbers fail, and these puts.
+pub fn run_failing(
+    alloc: Global,
+    words: &[&str],
+    files: &[(&str, &[u8])],
+    fetches: &[u64],
+    puts: &[SinkFail],
+) -> Result<Answer, AllocError> {
+    let mut owned = Vec::new(alloc);
+    for word in words {
+        owned.push(word.to_string(alloc)?)?;
+    }
+    let mut held = Vec::new(alloc);
+    for (name, bytes) in files {
+        held.push(Held {
+            name: name.to_string(alloc)?,
+            bytes: bytes.to_vec(alloc)?,
+        })?;
+    }
+    let mut shelf = MemShelf::new(held, fetches.to_vec(alloc)?);
+    let mut out = MemSink::new(alloc, puts.to_vec(alloc)?);
+    let status = map_run::run(alloc, owned.as_slice(), &mut shelf, &mut out, &OrCopy);
+    let text = out.written().to_vec(alloc)?;
+    Ok(Answer { text, status })
+}
+
 fn text(alloc: Global, word: &str) -> Result<String, AllocError>
     ensures { IfOk result (λ text. string_bytes text ≡ word.now) }
 {
@@ -66,8 +92,18 @@ pub fn obey(alloc: Global, kind: &str, dim: &str, script: Vec<u8>) -> Result<Ans
 
 /// Runs `audit x`, where the file `x` has these bytes.
 pub fn audit(alloc: Global, listing: Vec<u8>) -> Result<Answer, AllocError> {
+    run_listing(alloc, "audit", listing)
+}
+
+/// Runs `half x`, where the file `x` has these bytes.
+pub fn half(alloc: Global, listing: Vec<u8>) -> Result<Answer, AllocError> {
+    run_listing(alloc, "half", listing)
+}
+
+/// Runs a command of one file `x`, which has these bytes.
+fn run_listing(alloc: Global, command: &str, listing: Vec<u8>) -> Result<Answer, AllocError> {
     let mut words = Vec::new(alloc);
-    words.push(text(alloc, "audit")?)?;
+    words.push(text(alloc, command)?)?;
     words.push(text(alloc, "x")?)?;
     let mut files = Vec::new(alloc);
     files.push(Held {

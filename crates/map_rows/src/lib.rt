@@ -10,6 +10,8 @@ mod combinatorial;
 #[cfg(test)]
 mod faults;
 #[cfg(test)]
+mod halves;
+#[cfg(test)]
 mod harness;
 #[cfg(test)]
 mod insertions;
@@ -23,6 +25,8 @@ mod meshes;
 mod off;
 #[cfg(test)]
 mod polygons;
+#[cfg(test)]
+mod prefixes;
 #[cfg(test)]
 mod removals;
 #[cfg(test)]

@@ -1,8 +1,5 @@
 //! Scripts over meshes, and meshes that are refused.
-ghost use Rattle.std.specs.Prelude.{None};
-
-use attr_rules::OrCopy;
-use map_io::{FetchFault, Shelf, SureSink};
+use crate::harness::run_failing;
 use std::alloc::{AllocError, Global};
 use std::process::Abort;
 
@@ -14,31 +11,6 @@ pub struct MeshRow {
     pub status: u8,
 }
 
-/// The files `m` and `s`.
-#[derive(Drop)]
-struct TwoFiles {
-    mesh: &'static str,
-    script: &'static str,
-    faults: u64,
-}
-
-impl Shelf for TwoFiles {
-    ghost holds = { λ _. None };
-
-    ghost faults = { λ shelf. shelf.faults };
-
-    ghost may_ask = { λ _ _. Unit {0} };
-
-    fn fetch(&mut self, alloc: Global, name: &str, limit: u64) -> Result<Vec<u8>, FetchFault> {
-        let text = if name == "m" { self.mesh } else { self.script };
-        if text.len() as u64 > limit {
-            self.faults = self.faults.saturating_add(1);
-            return Err(FetchFault::Failed);
-        }
-        Vec::from_slice(alloc, text.as_bytes()).map_err(|_| FetchFault::NoMemory)
-    }
-}
-
 /// Runs each row over a map of a kind and a dimension, and compares the text and the status.
 pub fn check_meshes(
     rt: &impl Abort,
@@ -48,28 +20,23 @@ pub fn check_meshes(
     rows: &[MeshRow],
 ) -> Result<(), AllocError> {
     for row in rows {
-        let mut words = Vec::new(alloc);
-        for word in ["run", kind, dim, "m", "s"] {
-            words.push(String::from_str(alloc, word)?)?;
-        }
-        let mut shelf = TwoFiles {
-            mesh: row.mesh,
-            script: row.script,
-            faults: 0,
-        };
-        let mut out = SureSink::new(alloc);
-        let status = map_run::run(alloc, words.as_slice(), &mut shelf, &mut out, &OrCopy);
-        assert_eq!(rt; out.written(), row.text.as_bytes(), "{}", row.mesh);
-        assert_eq!(rt; status, row.status, "{}", row.mesh);
+        let words = ["run", kind, dim, "m", "s"];
+        let files = [("m", row.mesh.as_bytes()), ("s", row.script.as_bytes())];
+        let answer = run_failing(alloc, &words, &files, &[], &[])?;
+        assert_eq!(rt; answer.text.as_slice(), row.text.as_bytes(), "{}", row.mesh);
+        assert_eq!(rt; answer.status, row.status, "{}", row.mesh);
     }
     Ok(())
 }
+
+/// A triangle.
+pub const TRIANGLE: &str = "OFF\n3 1 0\n0 0 0\n4 0 0\n0 3 0\n3 0 1 2\n";
 
 /// A cube, with a point that no face has.
 pub const CUBE: &str =
     "OFF  # a cube of side two\n9 6 0\n\n0 0 0\n2.000 0 0\n2 2 0\n0 2.0 0\n0 0 2\n2 0 2\n2 2 2\n0 2 2\n9 9 9   # used by no face\n4  0 3 2 1  255 0 0\n4  4 5 6 7  0 255 0\n4  0 1 5 4\n4  1 2 6 5\n4  2 3 7 6\n4  3 0 4 7\n";
 
-const MESHES: [MeshRow; 14] = [
+const MESHES: [MeshRow; 15] = [
     MeshRow {
         mesh: CUBE,
         script: "count\ncell 0 1\nvalue 0 1\n",
@@ -120,6 +87,13 @@ const MESHES: [MeshRow; 14] = [
         mesh: "OFF\n3 1\n0 0 0\n4 0 0\n0 3 0\n3 0 1 2\n",
         script: "",
         text: "off line 2 BadCounts\n",
+        status: 3,
+    },
+    // far fewer points than are promised
+    MeshRow {
+        mesh: "OFF\n4294967295 1 0\n",
+        script: "",
+        text: "off line 3 Short\n",
         status: 3,
     },
     // points

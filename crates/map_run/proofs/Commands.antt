@@ -2,7 +2,7 @@
 use Rattle.std.proofs.Common.{◌≡◌, ◌≢◌, ◌≤◌, ◌<◌, ℕ, List, [], ◌∷◌, length, get_or, Option, Some, refl, ap, arith, codes}
 use Rattle.std.specs.Fmt.{decimal}
 use Rattle.map_defs.specs.Kind.{Kind, letter}
-use Rattle.machine_defs.specs.Program.{RunScript, Audit, Soak, TellsCommand, IsNoCommand, mesh_word, no_mesh}
+use Rattle.machine_defs.specs.Program.{RunScript, Audit, Half, Soak, TellsCommand, IsNoCommand, mesh_word, no_mesh}
 
 -- a list of five elements
 pub five : {X : Type 0} (xs : List X) (a b c d e : X) → length xs ≡ 5 → a ≡ get_or xs 0 a → b ≡ get_or xs 1 b → c ≡ get_or xs 2 c
@@ -27,6 +27,7 @@ no_run : (run kind dim mesh script : List ℕ) → ((k : Kind) (n : ℕ) (other 
     → run ∷ kind ∷ dim ∷ mesh ∷ script ∷ [] ≡ codes "run" ∷ (letter k ∷ []) ∷ decimal n ∷ other ∷ file ∷ [] → ⊥) → IsNoCommand (run ∷ kind ∷ dim ∷ mesh ∷ script ∷ [])
 no_run run kind dim mesh script differ (RunScript k n name file) t = differ k n (mesh_word name) file t.0.0 t.0.1 t.1
 no_run run kind dim mesh script differ (Audit listing) t = absurd (let same = ap length t.1 in omega arith)
+no_run run kind dim mesh script differ (Half listing) t = absurd (let same = ap length t.1 in omega arith)
 no_run run kind dim mesh script differ (Soak k seed count) t = absurd (let same = ap length t.1 in omega arith)
 
 -- these words are those of the command
@@ -44,11 +45,12 @@ not_lettered run kind dim mesh script differ = no_run run kind dim mesh script (
 pub not_numbered : (run kind dim mesh script : List ℕ) → ((n : ℕ) → 2 ≤ n → n ≤ 4 → dim ≡ decimal n → ⊥) → IsNoCommand (run ∷ kind ∷ dim ∷ mesh ∷ script ∷ [])
 not_numbered run kind dim mesh script differ = no_run run kind dim mesh script (λ k n other file low high e. differ n low high (cc))
 
--- two words are a command where the first names the audit of a listing
-pub not_audit : (audit listing : List ℕ) → audit ≢ codes "audit" → IsNoCommand (audit ∷ listing ∷ [])
-not_audit audit listing differ (RunScript k n name file) t = absurd (let same = ap length t.1 in omega arith)
-not_audit audit listing differ (Audit other) t = differ (let same = t.1 in cc)
-not_audit audit listing differ (Soak k seed count) t = absurd (let same = ap length t.1 in omega arith)
+-- two words are a command where the first names what is made of a listing
+pub not_of_listing : (word listing : List ℕ) → word ≢ codes "audit" → word ≢ codes "half" → IsNoCommand (word ∷ listing ∷ [])
+not_of_listing word listing differ differ' (RunScript k n name file) t = absurd (let same = ap length t.1 in omega arith)
+not_of_listing word listing differ differ' (Audit other) t = differ (let same = t.1 in cc)
+not_of_listing word listing differ differ' (Half other) t = differ' (let same = t.1 in cc)
+not_of_listing word listing differ differ' (Soak k seed count) t = absurd (let same = ap length t.1 in omega arith)
 
 -- a list of four elements
 pub four : {X : Type 0} (xs : List X) (a b c d : X) → length xs ≡ 4 → a ≡ get_or xs 0 a → b ≡ get_or xs 1 b → c ≡ get_or xs 2 c → d ≡ get_or xs 3 d → xs ≡ a ∷ b ∷ c ∷ d ∷ []
@@ -64,6 +66,7 @@ no_soak : (soak kind seed count : List ℕ) → ((k : Kind) (from squares : ℕ)
     → soak ∷ kind ∷ seed ∷ count ∷ [] ≡ codes "soak" ∷ (letter k ∷ []) ∷ decimal from ∷ decimal squares ∷ [] → ⊥) → IsNoCommand (soak ∷ kind ∷ seed ∷ count ∷ [])
 no_soak soak kind seed count differ (RunScript k n name file) t = absurd (let same = ap length t.1 in omega arith)
 no_soak soak kind seed count differ (Audit listing) t = absurd (let same = ap length t.1 in omega arith)
+no_soak soak kind seed count differ (Half listing) t = absurd (let same = ap length t.1 in omega arith)
 no_soak soak kind seed count differ (Soak k from squares) t = differ k from squares t.0.0 t.0.1 t.0.2 t.1
 
 -- these words are those of a soak
@@ -87,4 +90,5 @@ soak_uncounted soak kind seed count differ = no_soak soak kind seed count (λ k 
 pub not_counted : (words : List (List ℕ)) → length words ≢ 5 → length words ≢ 2 → length words ≢ 4 → IsNoCommand words
 not_counted words five two four (RunScript k n name file) t = five (ap length t.1)
 not_counted words five two four (Audit listing) t = two (ap length t.1)
+not_counted words five two four (Half listing) t = two (ap length t.1)
 not_counted words five two four (Soak k seed count) t = four (ap length t.1)

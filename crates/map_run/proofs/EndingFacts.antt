@@ -12,12 +12,10 @@ use Rattle.machine_defs.specs.Outside.{Files, held, Appended}
 use Rattle.machine_defs.specs.State.{State, empty_state}
 use Rattle.map_defs.specs.Off.{mesh_of}
 use Rattle.machine_defs.specs.Loading.{refusal_line}
-use Rattle.machine_defs.specs.Program.{Command, RunScript, Audit, TellsCommand, ProgramAnswer, told, ScriptAnswer, FileAnswer, MeshAnswer, CommandAnswer, IsFile, StartsFrom, Starts, whole, lines, Outcome, answered, unread, unwritten, no_memory, cannot_read, too_long}
+use Rattle.machine_defs.specs.Program.{Command, RunScript, TellsCommand, ProgramAnswer, told, ScriptAnswer, FileAnswer, MeshAnswer, CommandAnswer, IsFile, StartsFrom, Starts, whole, lines, Outcome, answered, unread, unwritten, no_memory, cannot_read, too_long}
 use Rattle.map_run.specs.Going.{IsObeyed}
 use Rattle.map_run.specs.Texts.{IsUnfetched, IsMeshOf, IsFirst, TextsEnd, refused, starved, obeyed, EndsTexts}
-use Rattle.machine_defs.specs.Auditing.{AuditAnswer}
-use Rattle.map_run.specs.Ending.{IsLast, WritesLast, EndsAnswer, EndsCall, EndsWhole, status_of}
-use Rattle.map_run.proofs.AnswerFacts.{Ends-answer}
+use Rattle.map_run.specs.Ending.{IsLast, WritesLast, EndsCall, EndsWhole, status_of}
 use Rattle.map_run.proofs.StartFacts.{starts-nothing}
 use Rattle.text_lines.proofs.WritingFacts.{Appended-nothing, Appended-then, IsFront-all, IsFront-nothing}
 
@@ -155,12 +153,6 @@ Ends-texts hook k n mesh script words files before after shelf_rose sink_rose st
   appended = e.appended;
   outcome = texts-outcome hook words files shelf_rose sink_rose k n mesh script tells bytes text are.0 are.1 status e.piece e.end;
 }
-
-pub Ends-audit : (hook : Hook) (name bytes : List ℕ) (words : List (List ℕ)) (files : Files) (before after : Option (List ℕ)) (shelf_rose sink_rose : Type 0) (status : ℕ)
-    → TellsCommand words (Audit name) → IsFile files name bytes → EndsAnswer (AuditAnswer bytes) sink_rose before after status → EndsCall hook before after words files shelf_rose sink_rose status
-Ends-audit hook name bytes words files before after shelf_rose sink_rose status tells is e =
-    Ends-answer hook words files shelf_rose sink_rose (Audit name) tells refl (AuditAnswer bytes)
-    (λ text status answer. subst (λ (o : Option (List ℕ)). FileAnswer o AuditAnswer text status) (sym is.0) (inr (is.1, answer))) before after status e
 
 pub Ends-flushed : (hook : Hook) (before middle after : Option (List ℕ)) (words : List (List ℕ)) (files : Files) (shelf_rose sink_rose sink_rose' : Type 0) (status : ℕ)
     → (sink_rose → sink_rose') → EndsCall hook before middle words files shelf_rose sink_rose status → Appended middle after []

@@ -10,4 +10,6 @@ pub mod AnswerFacts
 pub mod SoakFacts
 pub mod EndingFacts
 pub mod MeshFacts
+pub mod ListingFacts
 pub mod AuditFacts
+pub mod HalfFacts

@@ -55,4 +55,5 @@ soak_of soak = told.Soak (kind_of soak.kind) soak.seed soak.count
 abbrev pub command_of : Command → told.Command
 command_of (command.Run run) = run_of run
 command_of (command.Audit listing) = told.Audit listing.now
+command_of (command.Half listing) = told.Half listing.now
 command_of (command.Soak soak) = soak_of soak

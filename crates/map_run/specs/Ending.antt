@@ -25,6 +25,11 @@ last_of fetch.Failed = Some (cannot_read, 5)
 last_of (fetch.TooLong seen) = Some (too_long, 4)
 last_of fetch.NoMemory = None
 
+-- the one line that ends the program with status 3 was written so; where there is none, for want of memory, nothing was
+abbrev pub IsRefused : Option (List ℕ) → Option (List ℕ) → Type 0 → Option (List ℕ) → ℕ → Type 0
+IsRefused before after rose None result = (result ≡ 7) × (after ≡ before)
+IsRefused before after rose (Some line) result = WritesLast before after rose line 3 result
+
 -- the status of a script that was obeyed, or cut short
 abbrev pub status_of : Result Bool PutFault → ℕ
 status_of (Ok false) = 0

@@ -6,5 +6,6 @@ pub mod Ending
 pub mod Loads
 pub mod Texts
 pub mod Audits
+pub mod Halves
 pub use Rattle.machine_defs.specs.Program
 pub use Rattle.machine_defs.specs.Outside

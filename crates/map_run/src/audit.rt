@@ -1,5 +1,5 @@
 //! The audit of a listing: it is read and written again, with the counts of its map.
-ghost use Rattle.std.specs.Prelude.{◌≡◌, ◌≢◌, ◌≤◌, ℕ, List, Some, Result, length, IfOk, IsErrOf};
+ghost use Rattle.std.specs.Prelude.{◌≡◌, ◌≢◌, ◌≤◌, ℕ, List, Some, length, IsErrOf};
 ghost use Rattle.machine_defs.specs.Auditing.{AuditAnswer};
 ghost use Rattle.machine_defs.specs.Outside.{Files, Rose};
 ghost use Rattle.machine_defs.specs.Program.{TellsCommand, Audit};
@@ -8,16 +8,15 @@ ghost use Rattle.map_defs.specs.Values.{Hook};
 ghost use Rattle.map_io.specs.Cause.{HasCause};
 ghost use Rattle.text_lines.specs.Writing.{WritesText};
 ghost use Rattle.map_run.specs.Ending.{EndsCall, EndsAnswer};
-ghost use Rattle.map_run.specs.Audits.{line_of, shows, IsCounted};
+ghost use Rattle.map_run.specs.Audits.{shows, IsCounted};
 
-use crate::last::{put_status, write_last, write_unfetched};
-use list_text::{
-    LISTING_MAX, ListFault, ListWhat, Listing, listing_counts, put_listing, read_listing,
-};
+use crate::last::{put_status, write_unfetched};
+use crate::refused::refuse_listing;
+use list_text::{LISTING_MAX, ListFault, Listing, listing_counts, put_listing, read_listing};
 use map_io::{PutFault, Shelf, Sink};
 use script_text::Reply;
-use std::alloc::{AllocError, Global};
-use text_lines::{append_spaced, put_line};
+use std::alloc::Global;
+use text_lines::put_line;
 
 /// Fetches a listing and writes it again with the counts of its map; or writes the line that says why it was not fetched, or
 /// what its first fault is. Answers the status.
@@ -77,34 +76,4 @@ fn put_audit<S: Sink>(
 {
     put_listing(alloc, out, listing)?;
     put_line(alloc, out, &Reply::Count(counts))
-}
-
-/// Writes the line that says what the first fault of a listing is, and answers the status.
-fn refuse_listing<S: Sink>(alloc: Global, out: &mut S, fault: ListFault) -> u8
-    ensures ends { (bytes : List ℕ) → IsCounted bytes (Result.Err fault) →
-        EndsAnswer (AuditAnswer bytes) (Rose (S.faults out.old) (S.faults out.new)) (S.written out.old) (S.written out.new) result }
-    ensures unwritten { result ≡ 6 → Rose (S.faults out.old) (S.faults out.new) }
-    ensures later { S.faults out.old ≤ S.faults out.new }
-    ensures range { (3 ≤ result) × (result ≤ 7) }
-    ensures unread { result ≢ 5 }
-{
-    match fault_text(alloc, fault) {
-        Ok(line) => write_last(out, line.as_slice(), 3),
-        Err(_) => 7,
-    }
-}
-
-/// The line of a fault, with its line feed. Want of memory has none.
-fn fault_text(alloc: Global, fault: ListFault) -> Result<Vec<u8>, AllocError>
-    ensures { IfOk result (λ line. line_of fault ≡ Some line.items) }
-{
-    let ListFault::Bad { line, what } = fault else {
-        return Err(AllocError);
-    };
-    let mut text = Vec::from_slice(alloc, b"listing line")?;
-    append_spaced(&mut text, line)?;
-    text.push(b' ')?;
-    text.extend_from_slice(what.name().as_bytes())?;
-    text.push(b'\n')?;
-    Ok(text)
 }

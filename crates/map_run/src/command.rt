@@ -28,6 +28,8 @@ pub enum Command<'a> {
     Run(RunScript<'a>),
     /// `audit FILE`: read the listing of this name, and write it again with the counts of its map.
     Audit(&'a str),
+    /// `half FILE`: read the listing of this name, and write that of its half or of its double.
+    Half(&'a str),
     /// `soak KIND SEED COUNT`.
     Soak(SoakSquares),
 }
@@ -62,7 +64,7 @@ pub fn read_command(words: &[String]) -> Option<Command<'_>>
     ensures told { IfSome result (λ command. TellsCommand (map string_bytes words.now) (command_of command)) }
 {
     match words {
-        [audit, listing] => read_audit(audit.as_str(), listing.as_str()),
+        [word, listing] => read_of_listing(word.as_str(), listing.as_str()),
         [soak, kind, seed, count] => read_soak(
             soak.as_str(),
             kind.as_str(),
@@ -80,13 +82,15 @@ pub fn read_command(words: &[String]) -> Option<Command<'_>>
     }
 }
 
-/// The command of two words, of which the first names it.
-fn read_audit<'a>(audit: &str, listing: &'a str) -> Option<Command<'a>>
-    ensures none { IsNone result ↔ IsNoCommand (audit.now ∷ listing.now ∷ []) }
-    ensures told { IfSome result (λ command. TellsCommand (audit.now ∷ listing.now ∷ []) (command_of command)) }
+/// The command of two words, of which the first names it, and the second a listing.
+fn read_of_listing<'a>(word: &str, listing: &'a str) -> Option<Command<'a>>
+    ensures none { IsNone result ↔ IsNoCommand (word.now ∷ listing.now ∷ []) }
+    ensures told { IfSome result (λ command. TellsCommand (word.now ∷ listing.now ∷ []) (command_of command)) }
 {
-    if audit == "audit" {
+    if word == "audit" {
         Some(Command::Audit(listing))
+    } else if word == "half" {
+        Some(Command::Half(listing))
     } else {
         None
     }

@@ -8,6 +8,7 @@ ghost use Rattle.map_run.specs.Ending.{EndsCall, EndsWhole};
 use crate::audit::audit;
 use crate::command::{Command, RunScript, read_command};
 use crate::files::fetch_texts;
+use crate::half::half;
 use crate::last::{write_last, write_unfetched};
 use crate::obey::obey_in_kind;
 use crate::soak::soak;
@@ -71,6 +72,7 @@ fn answer<F: Shelf, S: Sink, H: Hook>(
     match read_command(words) {
         Some(Command::Run(command)) => run_script(alloc, command, shelf, out, hook),
         Some(Command::Audit(name)) => audit(alloc, name, shelf, out),
+        Some(Command::Half(name)) => half(alloc, name, shelf, out),
         Some(Command::Soak(command)) => soak(alloc, command, out, hook),
         None => write_last(out, b"usage\n", 2),
     }
@@ -109,17 +111,19 @@ fn serve<F: Shelf, S: Sink, H: Hook>(
 /// The words are `run KIND DIM MESH SCRIPT`, where KIND is `g` for a generalized map or `c` for a combinatorial map, DIM is
 /// 2, 3 or 4, MESH is the name of a mesh in OFF text, or `-` for the empty map, and SCRIPT is the name of a script, which is
 /// obeyed from that map. Both files are fetched, the mesh first, before the mesh is read. Or the words are `audit FILE`: the
-/// listing in FILE is read, and written again with the counts of its map. Or the words are `soak KIND SEED COUNT`, where SEED is
+/// listing in FILE is read, and written again with the counts of its map. Or the words are `half FILE`: the listing in FILE is
+/// read, and the listing of the oriented half of its map is written, or of its double where it is a combinatorial map, and
+/// then, behind `from`, the darts that the new ones stand for. Or the words are `soak KIND SEED COUNT`, where SEED is
 /// a number below 2^31 and COUNT one from 1 to 100,000: COUNT squares are made, sewn to each other, valued and changed by lines
 /// that a generator draws from SEED, and their summary is written, with the counts of the map; no file is needed. Other words
 /// are answered by `usage`.
 ///
 /// | status | when | text |
 /// |---|---|---|
-/// | 0 | every line was accepted, or the listing was read | the replies, the listing and its counts, or the summary and the counts |
+/// | 0 | every line was accepted, or the listing was read | the replies, the listing and its counts, the half or the double and its origins, or the summary and the counts |
 /// | 1 | some line was refused | the replies, or the summary and the counts |
 /// | 2 | the words are no command | `usage` |
-/// | 3 | the mesh or the listing is refused | `off line N WHAT`, `off face N WHAT` or `off Full`; `listing line N WHAT` |
+/// | 3 | the mesh or the listing is refused, or the map of the listing has no half | `off line N WHAT`, `off face N WHAT` or `off Full`; `listing line N WHAT`; `half Boundary`, `half Folded D I` or `half odd D` |
 /// | 4 | a file has more than 16,777,216 bytes | `too long` |
 /// | 5 | the shelf has no such file, or could not read it | `cannot read` |
 /// | 6 | the sink could not take the text | a front of the text, or of `cannot read` where the shelf had a fault |

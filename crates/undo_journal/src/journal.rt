@@ -4,22 +4,23 @@ ghost use Rattle.machine_defs.specs.Script.{is_name};
 ghost use Rattle.trail_laws.specs.Trails.{Book, Ahead as Undo, empty_trail, standing_marks, mark_names, IsMark, HasMark, IsLastAhead, CanGoForth, place_of, steps_since, steps_ahead, noted, marked, back, forth, IsAhead, IsOrdered};
 
 use crate::ahead::Ahead;
+use crate::marks::Marks;
 use crate::step::Step;
-use indexmap::IndexMap;
 use map_kind::{Refusal, Refused};
 use std::alloc::{AllocError, Global};
 use std::marker::Model;
 
 /// The steps of a map since its first mark, and marks with places among them. What an undo took back stays stored
 /// behind the steps and marks that stand, until the next step or mark, and the undos that can be taken back are kept, the
-/// last one last. It is seen as its trail, beside the number of steps that can be noted without further memory.
+/// last one last. It is seen as its trail, beside the number of steps that can be noted without further memory. A look-up of
+/// a name costs the logarithm of the number of marks, whatever the names are.
 #[derive(Drop)]
 pub struct Journal {
     steps: Vec<Step>,
     // So many of the steps stand.
     at: usize,
-    // For each mark its place: how many steps stood when it was set.
-    marks: IndexMap<String, usize>,
+    // The place of a mark is how many steps stood when it was set.
+    marks: Marks,
     // So many of the marks stand.
     standing: usize,
     // The undos since the last step or mark that were not taken back.
@@ -33,9 +34,9 @@ impl Model for Journal {
 
     ghost Value = { Book };
 
-    ghost view = { λ j. record { trail = trail_of j.steps.items j.at j.marks.entries j.standing j.undone.items; room = vec_capacity j.steps - j.at } };
+    ghost view = { λ j. record { trail = trail_of j.steps.items j.at j.marks j.standing j.undone.items; room = vec_capacity j.steps - j.at } };
 
-    ghost invariant = { λ j. IsOrdered (trail_of j.steps.items j.at j.marks.entries j.standing j.undone.items) };
+    ghost invariant = { λ j. IsOrdered (trail_of j.steps.items j.at j.marks j.standing j.undone.items) };
 }
 
 impl Journal {
@@ -47,7 +48,7 @@ impl Journal {
         Journal {
             steps: Vec::new(alloc),
             at: 0,
-            marks: IndexMap::new(alloc),
+            marks: Marks::new(alloc),
             standing: 0,
             undone: Vec::new(alloc),
         }
@@ -71,8 +72,7 @@ impl Journal {
         if place >= self.standing {
             return None;
         }
-        let (name, _place) = self.marks.get_index(place)?;
-        Some(name.as_str())
+        self.marks.name_of(place)
     }
 
     /// The number of the standing mark of this name; none exactly where no standing mark has it.
@@ -81,7 +81,7 @@ impl Journal {
         ensures within { IfSome result (λ k. k < self.now.trail.standing) }
         ensures none { IsNone result ↔ (HasMark self.now.trail name.now → ⊥) }
     {
-        let k = self.marks.get_index_of(name)?;
+        let k = self.marks.number_of(name)?;
         if k < self.standing { Some(k) } else { None }
     }
 
@@ -92,7 +92,7 @@ impl Journal {
         ensures within { result ≤ self.now.trail.at }
         ensures ordered { IsOrdered self.now.trail }
     {
-        self.marks[mark]
+        self.marks.place_of(mark)
     }
 
     /// Sets a mark of this name behind the steps that stand. The name is one of the grammar of lines: 1 to 32 small letters, digits
@@ -108,14 +108,10 @@ impl Journal {
         if self.standing_mark(name).is_some() {
             return Err(Refused::Line(Refusal::MarkTaken));
         }
-        let key = String::from_str(*self.marks.allocator(), name)?;
-        self.marks.reserve(1)?;
         let at = self.at;
-        let standing = self.standing;
+        self.marks.replace_behind(self.standing, name, at)?;
         self.steps.truncate(at);
-        self.marks.truncate(standing);
         self.undone.clear();
-        self.marks.insert(key, at).unwrap();
         self.standing = self.marks.len();
         Ok(())
     }
@@ -197,12 +193,8 @@ impl Journal {
             return None;
         }
         let last = self.undone[count - 1];
-        let (known, _place) = self.marks.get_index(last.mark)?;
-        if known.as_str() == name {
-            Some(last)
-        } else {
-            None
-        }
+        let known = self.marks.name_of(last.mark)?;
+        if known == name { Some(last) } else { None }
     }
 
     /// The steps that the last undo took back, oldest first, where it went to a mark of this name. `NoRedo` comes exactly

@@ -3,6 +3,7 @@
 
 mod ahead;
 mod journal;
+mod marks;
 mod rule_change;
 mod step;
 #[cfg(test)]

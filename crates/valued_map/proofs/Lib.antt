@@ -1,4 +1,4 @@
-pub mod ListingRows
+pub mod ListingRules
 pub mod LiveDarts
 pub mod PlacedGroups
 pub mod Labelling
@@ -30,4 +30,3 @@ pub mod Revalued
 pub mod Dualled
 pub mod Loaded
 pub mod MeshPoints
-pub mod KindNames

@@ -9,13 +9,13 @@ ghost use Rattle.map_defs.specs.OffOfMap.{AreOffRows, HasOffText, LacksOffText};
 ghost use Rattle.off_text.specs.MapViews.{off_view, IfLine};
 
 use crate::ids::stored_value;
-use crate::list::{list_dimension, list_rows, list_rules, list_values};
+use crate::list::{list_dimension, list_rules, list_values};
 use crate::off::points;
 use crate::rules::rule_of;
 use attr_pool::{Labels, Pool};
 use attr_rules::TableRule;
 use link_rows::Links;
-use list_text::{ListValue, Listing, MarkName};
+use list_text::{ListValue, Listing, MarkName, list_rows};
 use map_kind::{Dart, Kind, Refused, Value};
 use off_text::{OffRows, off_of};
 use std::alloc::{AllocError, Global};

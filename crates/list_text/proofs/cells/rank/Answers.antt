@@ -1,8 +1,8 @@
 use Rattle.std.proofs.Common.{◌≢◌, ℕ, ◌<◌, length, refl, inl}
 use Rattle.std.specs.Prelude.{slice_index}
 use Rattle.std.proofs.lemmas.Bool.{false≢true}
-use Rattle.list_text.specs.Rows.{darts_of}
-use Rattle.list_text.proofs.RowsAt.{row-missing}
+use Rattle.row_laws.specs.Rows.{darts_of}
+use Rattle.row_laws.proofs.RowsAt.{row-missing}
 use Rattle.list_text.proofs.cells.rank.Goals as goal
 
 pub returns-in-None : goal.returns-in-None

@@ -1,6 +1,6 @@
 use Rattle.std.proofs.Common.{ℕ, ◌<◌}
 use Rattle.map_defs.specs.Kind.{IsDistant}
-use Rattle.list_text.specs.Rows.{IsClosedAt}
+use Rattle.row_laws.specs.Rows.{IsClosedAt}
 use Rattle.list_text.proofs.laws.are_closed.Given as goal
 
 abbrev pub invariant-loop-other : goal.invariant-loop-other

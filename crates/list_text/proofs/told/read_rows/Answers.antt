@@ -1,8 +1,8 @@
 use Rattle.list_text.specs.Views.{cursor_view}
 use Rattle.std.proofs.Common.{[], arith}
 use Rattle.list_text.proofs.Sections.{rows-on, rows-end, rows-done}
-use Rattle.list_text.proofs.RowsRead.{rows_read-are, no_rows}
-use Rattle.list_text.proofs.LinesRead.{rows-counted}
+use Rattle.row_laws.proofs.RowsRead.{rows_read-are, rows_read-made, no_rows}
+use Rattle.row_laws.proofs.LinesRead.{rows-counted}
 use Rattle.list_text.proofs.told.read_rows.Goals as goal
 
 pub returns-in-Err-clause-read : goal.returns-in-Err-clause-read
@@ -18,6 +18,11 @@ loop-preserved c =
 pub returns-clause-rows : goal.returns-clause-rows
 returns-clause-rows c =
     rows_read-are c.args.header.dim c.args.header.made c.args.header.live [] (cursor_view c.args.cursor) (c.loop.rows.items, cursor_view c.loop.left) (no_rows c.args.header.dim)
+    (rows-done c.args.header.dim c.args.header.made c.args.header.live c.loop.counter c.loop.rows.items (cursor_view c.loop.left) _ c.loop-test.false c.loop.invariant)
+
+pub returns-clause-within : goal.returns-clause-within
+returns-clause-within c =
+    rows_read-made c.args.header.dim c.args.header.made c.args.header.live [] (cursor_view c.args.cursor) (c.loop.rows.items, cursor_view c.loop.left) (λ k d h. absurd (omega arith))
     (rows-done c.args.header.dim c.args.header.made c.args.header.live c.loop.counter c.loop.rows.items (cursor_view c.loop.left) _ c.loop-test.false c.loop.invariant)
 
 pub returns-clause-counted : goal.returns-clause-counted

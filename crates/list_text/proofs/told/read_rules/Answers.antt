@@ -1,5 +1,5 @@
 use Rattle.std.proofs.Common.{[], refl, sym, ◌∙◌, codes, arith}
-use Rattle.list_text.proofs.LinesRead.{section-counted, rule-adds}
+use Rattle.row_laws.proofs.LinesRead.{section-counted, rule-adds}
 use Rattle.machine_defs.specs.ListingForm.{rule_taken}
 use Rattle.list_text.specs.Views.{cursor_view}
 use Rattle.list_text.proofs.Sections.{section-on, section-done}

@@ -1,6 +1,6 @@
 use Rattle.std.proofs.Common.{arith}
 use Rattle.list_text.specs.Views.{cursor_view, header_view}
-use Rattle.list_text.proofs.LinesRead.{header-counted}
+use Rattle.row_laws.proofs.LinesRead.{header-counted}
 use Rattle.list_text.proofs.told.read_told.Goals as goal
 
 pub returns-clause-few : goal.returns-clause-few

@@ -3,8 +3,9 @@ use Rattle.std.specs.Prelude.{slice_index}
 use Rattle.std.proofs.lemmas.Bool.{false≢true}
 use Rattle.machine_defs.specs.Listing.{ListValue}
 use Rattle.list_text.specs.Letters.{kind_named}
-use Rattle.list_text.specs.Rows.{darts_of}
-use Rattle.list_text.proofs.ValuesMeant.{no-row, has-row}
+use Rattle.row_laws.specs.Rows.{darts_of}
+use Rattle.list_text.proofs.ValuesMeant.{no-row}
+use Rattle.row_laws.proofs.RowPlaces.{has-row}
 use Rattle.list_text.proofs.values.value_meant.Goals as goal
 
 pub returns-in_err-place-clause-none : goal.returns-in_err-place-clause-none

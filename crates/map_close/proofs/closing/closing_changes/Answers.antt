@@ -14,8 +14,8 @@ loop-dart-preserved g c =
     let rows = c.args.links.now.rows in
     let stars = c.args.stars.now in
     let keys : List ℕ = stars.keys in
-    let low : c.loop-dart.dart-index < length keys = rw c.darts-dart-items.ensures.darts at c.loop-dart-test.true in
-    let at : c.dart-item.result ≡ get_or keys c.loop-dart.dart-index c.dart-item.result = rw c.darts-dart-items.ensures.darts at c.dart-item.is in
+    let low : c.loop-dart.dart-index < length keys = rw c.darts-dart-items.ensures at c.loop-dart-test.true in
+    let at : c.dart-item.result ≡ get_or keys c.loop-dart.dart-index c.dart-item.result = rw c.darts-dart-items.ensures at c.dart-item.is in
     each-more (links_of rows) (IsOpenEntry k c.args.link (links_of rows) (star_of stars) (g.row.DIM + 1)) keys c.loop-dart.dart-index c.dart-item.result c.loop-dart.changes.items c.push_dart.new.changes.items low at
     (λ u has d t y z. entries-apart k c.args.link (links_of rows) (star_of stars) (g.row.DIM + 1) u c.dart-item.result d t y z
     (keys-apart stars c.loop-dart.dart-index c.dart-item.result u c.requires.can.ascending

@@ -1,6 +1,6 @@
 use Rattle.std.proofs.Common.{◌≡◌, Some, None, sym, ap, ◌∙◌, arith}
 use Rattle.machine_defs.specs.Script.{numeral}
-use Rattle.list_text.proofs.SpelledWords.{numeral-is}
+use Rattle.row_laws.proofs.SpelledWords.{numeral-is}
 use Rattle.map_run.proofs.WrittenNumbers.{numeral-none, numeral-one}
 use Rattle.map_run.proofs.command.read_number.Goals as goal
 use Rattle.map_run.proofs.command.read_number.Goals.{else-from-number-via-then-from-number+else-number-from, else-from-number-via-else-from-number}

@@ -1,6 +1,6 @@
 use Rattle.std.proofs.Common.{map, string_bytes, refl, subst, inl, inr, lit≤}
 use Rattle.machine_defs.specs.Outside.{Rose}
-use Rattle.machine_defs.specs.Program.{Audit, TellsCommand, untold, usage}
+use Rattle.machine_defs.specs.Program.{Audit, Half, TellsCommand, untold, usage}
 use Rattle.machine_defs.specs.Soaking.{SoakAnswer}
 use Rattle.map_run.specs.Commands.{kind_of, run_of, soak_of, command_of}
 use Rattle.map_run.specs.declared.command.Command.{Command}
@@ -23,6 +23,12 @@ pub returns-in-Some-Audit-clause-outcome : goal.returns-in-Some-Audit-clause-out
 returns-in-Some-Audit-clause-outcome g c = λ files known. elim known [
   | inl holds ↦ c.audit.ensures.outcome (g.H.Hook.hook c.args.hook.now) (map string_bytes c.args.words.now) files (subst (λ (d : Command). TellsCommand (map string_bytes c.args.words.now) (command_of d)) c.in-Some-Audit.field-0-is c.in-Some-Audit.ensures.told) holds
   | inr needless ↦ absurd (needless c.in-Some-Audit.name.now (Audit c.in-Some-Audit.name.now, (subst (λ (d : Command). TellsCommand (map string_bytes c.args.words.now) (command_of d)) c.in-Some-Audit.field-0-is c.in-Some-Audit.ensures.told), refl))
+]
+
+pub returns-in-Some-Half-clause-outcome : goal.returns-in-Some-Half-clause-outcome
+returns-in-Some-Half-clause-outcome g c = λ files known. elim known [
+  | inl holds ↦ c.half.ensures.outcome (g.H.Hook.hook c.args.hook.now) (map string_bytes c.args.words.now) files (subst (λ (d : Command). TellsCommand (map string_bytes c.args.words.now) (command_of d)) c.in-Some-Half.field-0-is c.in-Some-Half.ensures.told) holds
+  | inr needless ↦ absurd (needless c.in-Some-Half.name.now (Half c.in-Some-Half.name.now, (subst (λ (d : Command). TellsCommand (map string_bytes c.args.words.now) (command_of d)) c.in-Some-Half.field-0-is c.in-Some-Half.ensures.told), refl))
 ]
 
 pub soak-requires-clause-count : goal.soak-requires-clause-count

@@ -1,7 +1,7 @@
 use Rattle.std.proofs.Common.{◌≡◌, ◌∙◌, ℕ, ◌<◌, List, Option, None, get_or, length, refl, arith}
 use Rattle.std.proofs.lemmas.List.{get_or_default}
 use Rattle.map_defs.specs.Values.{Rule}
-use Rattle.valued_map.proofs.ListingRows.{rules-more}
+use Rattle.valued_map.proofs.ListingRules.{rules-more}
 use Rattle.valued_map.proofs.list.list_rules.Goals as goal
 
 pub loop-dim-preserved : goal.loop-dim-preserved

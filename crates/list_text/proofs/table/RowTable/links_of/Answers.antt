@@ -1,7 +1,7 @@
 use Rattle.std.proofs.Common.{sym, ap, ◌∙◌, Some, rules}
 use Rattle.machine_defs.specs.Listing.{ListRow}
-use Rattle.list_text.specs.Rows.{Ascend}
-use Rattle.list_text.proofs.RowsAt.{row-found, row-missing}
+use Rattle.row_laws.specs.Rows.{Ascend}
+use Rattle.row_laws.proofs.RowsAt.{row-found, row-missing}
 use Rattle.list_text.proofs.table.RowTable.links_of.Goals as goal
 
 pub returns-in_err-place : goal.returns-in_err-place

@@ -1,6 +1,6 @@
 use Rattle.std.proofs.Common.{◌≡◌, ◌∙◌}
-use Rattle.list_text.specs.Rows.{darts_of, Ascend}
-use Rattle.list_text.proofs.RowsAt.{no-place}
+use Rattle.row_laws.specs.Rows.{darts_of, Ascend}
+use Rattle.row_laws.proofs.RowsAt.{no-place}
 use Rattle.list_text.proofs.table.RowTable.place_of.Goals as goal
 
 pub returns-in-Err-clause-none : goal.returns-in-Err-clause-none

@@ -7,7 +7,7 @@ use Rattle.undo_journal.proofs.journal.Journal.entries_since.Goals as goal
 pub returns-in-Some-clause-since : goal.returns-in-Some-clause-since
 returns-in-Some-clause-since c =
     let inside = c.self.inside in
-    let t = trail_of inside.steps.items inside.at inside.marks.entries inside.standing inside.undone.items in
+    let t = trail_of inside.steps.items inside.at inside.marks inside.standing inside.undone.items in
     let within : c.place.result ≤ inside.at = rw (← c.self.view_is) at c.place.ensures.within in
     let here : c.place.result ≡ place_of t c.in-Some.k = rw (← c.self.view_is) at c.place.ensures.place in
     let shown : take (inside.at - c.place.result) (drop c.place.result c.deref.result.now) ≡ steps_since t c.in-Some.k = rw (c.deref.ensures.value, ← here) (taken_since inside.steps.items c.place.result inside.at within) in

@@ -7,7 +7,7 @@ use Rattle.undo_journal.proofs.journal.Journal.steps_ahead.Goals as goal
 pub returns-in-Some-clause-ahead : goal.returns-in-Some-clause-ahead
 returns-in-Some-clause-ahead c =
     let inside = c.self.inside in
-    let t = trail_of inside.steps.items inside.at inside.marks.entries inside.standing inside.undone.items in
+    let t = trail_of inside.steps.items inside.at inside.marks inside.standing inside.undone.items in
     let last = c.in-Some.last in
     let one = c.in-Some.ensures.last in
     let more : inside.at ≤ last.at = subst (λ (b : Book). b.trail.at ≤ last.at) (sym c.self.view_is) c.in-Some.ensures.ahead.more in

@@ -4,8 +4,8 @@ use Rattle.map_defs.specs.Rows.{Rows, made}
 use Rattle.machine_defs.specs.Listing.{Listing, live_rows_from, rules_from}
 use Rattle.label_laws.specs.Contents.{all_rules}
 use Rattle.label_laws.proofs.ListedValues.{lists-values}
-use Rattle.valued_map.proofs.KindNames.{letter-names}
-use Rattle.valued_map.proofs.ListingRows.{rules-all}
+use Rattle.list_text.proofs.KindNames.{letter-names}
+use Rattle.valued_map.proofs.ListingRules.{rules-all}
 use Rattle.valued_map.proofs.map.ValuedMap.listing.Goals as goal
 
 pub returns : goal.returns

@@ -1,0 +1,2 @@
+pub mod Orientation
+pub mod Halves

@@ -1,0 +1,12 @@
+pub mod Steps
+pub mod SewnTwice
+pub mod DualTwice
+pub mod TakenOut
+pub mod InsertedOut
+pub mod BetaOut
+pub mod DangledOut
+pub mod BetaDangledOut
+pub mod InsertTwice
+pub mod Outcomes
+pub mod CalledTotals
+pub mod TotalFacts

@@ -1,0 +1,4 @@
+pub mod Both
+pub mod Back
+pub mod Insertions
+pub mod Totals

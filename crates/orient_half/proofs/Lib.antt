@@ -1,0 +1,17 @@
+mod SetEntries
+mod RankFacts
+mod SignFacts
+mod HalfLinks
+mod DoubleLinks
+mod LiveDartSteps
+mod ReadNumbers
+mod EvenWalks
+mod FaultFacts
+mod Grown
+mod LeastStarts
+mod MarkFacts
+mod Spreading
+mod Surveyed
+mod WaysBack
+mod WholeLinks
+mod ReachedSigns

@@ -1,0 +1,10 @@
+pub mod RowsRead
+pub mod LinesRead
+pub mod RowsAt
+pub mod RowPlaces
+pub mod SpelledWords
+pub mod ToldParts
+pub mod RowBytes
+pub mod LiveRowCount
+pub mod LawfulRows
+pub mod ListedMaps

@@ -1,0 +1,5 @@
+pub mod Places
+pub mod Dimension
+pub mod Leading
+pub mod Stepping
+pub mod Running

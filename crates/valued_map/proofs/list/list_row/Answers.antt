@@ -1,8 +1,0 @@
-use Rattle.std.proofs.Common.{refl}
-use Rattle.valued_map.proofs.ListingRows.{live_row-links}
-use Rattle.valued_map.proofs.list.list_row.Goals as goal
-
-pub returns : goal.returns
-returns g c =
-    let row = live_row-links g.row.DIM c.args.links.now.rows c.args.dart c.is_live.ensures.sound.wide (c.if-not-is_live.ensures.live.0 refl) in
-    rw (c.in_ok-push.ensures.items, c.in_ok-links.ensures, ← row) refl
