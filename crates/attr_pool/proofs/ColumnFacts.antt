@@ -165,3 +165,7 @@ opened_long cs made n col a within keeps (inr l) = record { all = length-set cs 
 
     bare : (i d : ℕ) → made < d → id_at (at (set cs n col) i) d ≡ None
     bare i d h = elim (at_set cs n i col within) [ inl p ↦ rw p.1 (keeps.ids d ∙ a.bare n d h) | inr p ↦ rw p.1 (a.bare i d h) ]
+
+-- a column that is written as it was
+pub places_same : (cs : List (List ℕ)) (n : ℕ) (col : List ℕ) → col ≡ at cs n → (i : ℕ) → (0 < length (at (set cs n col) i)) ↔ (0 < length (at cs i))
+places_same cs n col e i = rw (e, set-get_or) (λ h. h, λ h. h)

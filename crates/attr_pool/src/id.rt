@@ -31,7 +31,7 @@ impl AttrId {
     }
 
     /// The id's number, which is never 0.
-    pub(crate) fn number(self) -> u32
+    pub fn number(self) -> u32
         ensures same { result ≡ self }
         ensures some { 0 < result }
     {

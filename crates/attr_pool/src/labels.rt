@@ -59,6 +59,7 @@ impl<const DIM: usize> Labels<DIM> {
         ensures places { OnOk result (HasPlaces self.new dim) }
         ensures places_stay { HasPlaces self.old dim → HasPlaces self.new dim }
         ensures others { (i : ℕ) → i ≢ dim → HasPlaces self.new i ↔ HasPlaces self.old i }
+        ensures err { OnErr result (KeepsPlaces self.old self.new) }
     {
         let made = self.made;
         self.columns[dim].open(made)

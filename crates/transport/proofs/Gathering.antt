@@ -30,7 +30,6 @@ module _ (label : ℕ → Option ℕ) (cells : List Group) where
     last = λ id e. absurd (let f = none id in cc);
     known = λ k h. absurd (let e = ap length empty in omega arith);
     low = λ k h. absurd (let e = ap length empty in omega arith);
-    bounded = λ id m e. absurd (let f = none id in cc);
     apart = λ j k l h. absurd (let e = ap length empty in omega arith);
   }
 
@@ -56,7 +55,6 @@ module _ (label : ℕ → Option ℕ) (cells : List Group) where
       last = λ id e. g.last id (sym (same id) ∙ e);
       known = λ k h e. same (piece_at old k).id ∙ g.known k h e;
       low = g.low;
-      bounded = λ id m e. g.bounded id m (sym (same id) ∙ e);
       apart = g.apart;
     })
 
@@ -74,9 +72,6 @@ module _ (label : ℕ → Option ℕ) (cells : List Group) where
         | inr p ↦ (let f : after other ≡ met other = rw p.1 at (meets.is other) in inr (sym f ∙ e))
       ]
 
-      at_most : (other m : ℕ) (old : List Piece) → AreGathered label cells n t met old → after other ≡ Some m → m ≤ n
-      at_most other m old g e = elim (met_case other m e) [ inl p ↦ (let f = p.1 in omega arith) | inr f ↦ g.bounded other m f ]
-
       -- its id was met last in its cell
       added_again : (old new : List Piece) → AreGathered label cells n t met old → met id ≡ Some n → new ≡ old → AreGathered label cells n (t + 1) after new
       added_again old new g again kept = subst (AreGathered label cells n (t + 1) after) (sym kept) (record {
@@ -85,7 +80,6 @@ module _ (label : ℕ → Option ℕ) (cells : List Group) where
         last = λ o e. elim (met_case o n e) [ inl p ↦ subst (HasPiece old n) p.0 (g.last id again) | inr f ↦ g.last o f ];
         known = λ k h e. met_still (piece_at old k).id (g.known k h e);
         low = g.low;
-        bounded = λ o m e. at_most o m old g e;
         apart = g.apart;
       })
         where
@@ -149,7 +143,6 @@ module _ (label : ℕ → Option ℕ) (cells : List Group) where
           last = λ o e. elim (met_case o n e) [ inl p ↦ subst (HasPiece (old ++ (record { dart = d; id = id; cell = n }) ∷ []) n) p.0 has_here | inr f ↦ has_still n o (g.last o f) ];
           known = each_pushed no_piece (λ p. p.cell ≡ n → after p.id ≡ Some n) old (record { dart = d; id = id; cell = n }) (λ k h e. met_still (piece_at old k).id (g.known k h e)) (λ e. met_here);
           low = each_pushed no_piece (λ p. p.cell ≤ n) old (record { dart = d; id = id; cell = n }) g.low (omega arith);
-          bounded = λ o m e. at_most o m old g e;
           apart = differ;
         }
           where
@@ -170,15 +163,14 @@ module _ (label : ℕ → Option ℕ) (cells : List Group) where
     gathered_more met after old new g (inr (id, labelled, meets, inl (again, kept))) = added_again id labelled met after meets old new g again kept
     gathered_more met after old new g (inr (id, labelled, meets, inr (fresh, pushed))) = subst (AreGathered label cells n (t + 1) after) (sym pushed) (added_fresh id labelled met after meets old g fresh)
 
-  -- from one cell to the next
-  pub gathered_next : (n t : ℕ) (met : ℕ → Option ℕ) (pieces : List Piece) → length (group_at cells n).darts ≤ t → AreGathered label cells n t met pieces → AreGathered label cells (n + 1) 0 met pieces
-  gathered_next n t met pieces past g = record {
+  -- from one cell to the next, when what was met is forgotten
+  pub gathered_next : (n t : ℕ) (met forgotten : ℕ → Option ℕ) (pieces : List Piece) → length (group_at cells n).darts ≤ t → AreGathered label cells n t met pieces → ((id : ℕ) → forgotten id ≡ None) → AreGathered label cells (n + 1) 0 forgotten pieces
+  gathered_next n t met forgotten pieces past g none = record {
     sound = g.sound;
     passed = λ m j id h w c e. g.passed m j id h w (case m j w c) e;
-    last = λ id e. absurd (let b = g.bounded id (n + 1) e in omega arith);
+    last = λ id e. absurd (let f = none id in cc);
     known = λ k h e. absurd (let b = g.low k h in omega arith);
     low = λ k h. let b = g.low k h in omega arith;
-    bounded = λ id m e. let b = g.bounded id m e in omega arith;
     apart = g.apart;
   }
     where

@@ -15,14 +15,13 @@ abbrev pub HasPiece : List Piece → ℕ → ℕ → Type 0
 HasPiece pieces n id = (k : ℕ) × (k < length pieces) × ((piece_at pieces k).cell ≡ n) × ((piece_at pieces k).id ≡ id)
 
 -- The cells before cell n are looked at, and the first t darts of cell n. For each id it is told in which cell it was met
--- last.
+-- last; what was met in the cells before n may be forgotten.
 pub record AreGathered (label : ℕ → Option ℕ) (cells : List Group) (n t : ℕ) (met : ℕ → Option ℕ) (pieces : List Piece) : Type 0 where
   pub sound : (k : ℕ) → k < length pieces → IsPiece label cells (piece_at pieces k)
   pub passed : (m j id : ℕ) → m < length cells → j < length (group_at cells m).darts → (m < n) ⊎ ((m ≡ n) × (j < t)) → label (slice_index (group_at cells m).darts j) ≡ Some id → HasPiece pieces m id
   pub last : (id : ℕ) → met id ≡ Some n → HasPiece pieces n id
   pub known : (k : ℕ) → k < length pieces → (piece_at pieces k).cell ≡ n → met (piece_at pieces k).id ≡ Some n
   pub low : (k : ℕ) → k < length pieces → (piece_at pieces k).cell ≤ n
-  pub bounded : (id m : ℕ) → met id ≡ Some m → m ≤ n
   pub apart : (j k : ℕ) → j < k → k < length pieces → (piece_at pieces j).dart ≢ (piece_at pieces k).dart
 
 -- the id was met in the cell

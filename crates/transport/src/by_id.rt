@@ -6,7 +6,7 @@ use std::alloc::{AllocError, Global};
 use std::collections::BTreeMap;
 
 /// How many ids stand in the list.
-const FEW: usize = 16;
+pub(crate) const FEW: usize = 16;
 
 /// An id, and what is told of it.
 #[derive(Clone, Copy)]
@@ -58,6 +58,14 @@ impl<V: Copy> ById<V> {
         }
         self.more.insert(id, told)?;
         Ok(())
+    }
+
+    /// Forgets what was told of all ids.
+    pub(crate) fn forget(&mut self)
+        ensures { (id : ℕ) → told_of self.new id ≡ None }
+    {
+        self.first.clear();
+        self.more.clear();
     }
 
     /// The place of an id in the list, if it is there.

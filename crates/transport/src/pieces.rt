@@ -38,7 +38,7 @@ pub(crate) fn pieces_of<const DIM: usize>(
     Ok(pieces)
 }
 
-/// Adds the pieces of the cell at a place.
+/// Adds the pieces of the cell at a place. What was met in the cell is of no use in the others, so it is forgotten.
 fn add_pieces<const DIM: usize>(
     labels: &Labels<DIM>,
     dim: usize,
@@ -56,6 +56,7 @@ fn add_pieces<const DIM: usize>(
     for dart in &cell.darts {
         add_piece(labels, dim, place, *dart, met, pieces)?;
     }
+    met.forget();
     Ok(())
 }
 

@@ -15,4 +15,4 @@ returns g c =
     let darts : c.deref-dart-items.result.now ≡ c.index-cells-place.result.darts = c.deref-dart-items.ensures.value ∙ ap (λ (v : Group). v.darts) c.cell.view_is in
     let read : c.index-cells-place.result ≡ group_at c.args.cells.now c.args.place = c.index-cells-place.is ∙ get_or_default c.args.cells.now c.args.place c.index-cells-place.result no_group c.requires.place in
     let same : length c.deref-dart-items.result.now ≡ length (group_at c.args.cells.now c.args.place).darts = ap length (darts ∙ ap (λ (v : Group). v.darts) read) in
-    gathered_next _ c.args.cells.now c.args.place c.loop-dart.dart-index _ _ (omega arith) c.loop-dart.invariant
+    gathered_next _ c.args.cells.now c.args.place c.loop-dart.dart-index _ _ _ (omega arith) c.loop-dart.invariant c.forget.ensures
