@@ -1,13 +1,12 @@
 -- The search of a component grows, dart by dart.
-use Rattle.std.proofs.Common.{ℕ, ◌≡◌, ◌≢◌, ◌≤◌, ◌<◌, ◌⊎◌, inl, inr, refl, sym, ap, subst, ◌∙◌, Bool, true, false, not, MatchBool, None, Some, List, [], ◌∷◌, ◌++◌, length, take, Contains, slice_set, arith}
-use mathlib.Core.Bool.{beq}
+use Rattle.std.proofs.Common.{ℕ, ◌≡◌, ◌≢◌, ◌≤◌, ◌<◌, ◌⊎◌, inl, inr, refl, sym, ap, subst, ◌∙◌, Bool, true, not, Option, None, Some, List, [], ◌∷◌, ◌++◌, length, take, Contains, slice_set, arith}
 use Rattle.std.proofs.lemmas.List.{take_all, take_at, take-take, length-take, length-set}
 use Rattle.std.proofs.lemmas.List.Elements.{Contains-append_left, Contains-push, Contains-push_cases}
 use Rattle.map_defs.specs.Links.{Links}
 use Rattle.map_defs.specs.Cells.{onward, InComponent}
 use Rattle.orient_half.specs.declared.search.Reached.{Reached}
-use Rattle.orient_half.specs.Marks.{Marks, mark_at, sign_at, IsReached, IsKept, Flips, Clashes, AreHeld, AreQueued}
-use Rattle.orient_half.specs.Searches.{IsSearched, IsGrown}
+use Rattle.orient_half.specs.Marks.{Marks, mark_at, sign_at, IsReached, IsKept, Flips, AreHeld, AreQueued}
+use Rattle.orient_half.specs.Searches.{IsGiven, IsSearched, IsGrown}
 use Rattle.orient_half.proofs.MarkFacts.{not-twice, reached-mark, sign-mark, kept-same, kept-trans, kept-sign, kept-reached, put-here, put-cases, put-kept, put-reached}
 use Rattle.orient_half.proofs.WholeLinks.{AreWhole, lands-live}
 
@@ -119,14 +118,15 @@ module _ (n : ℕ) (Live : ℕ → Type 0) (L : Links) where
             inside d (inr is) = subst (InComponent L first) is (onward (search.within x among) (i, refl, whole.some (L i x) y-live))
 
 -- what is known when a link led to a dart without a sign, which got one
-pub cross-new : (n : ℕ) (Live : ℕ → Type 0) (L : Links) → AreWhole n Live L → (marks new : Marks) (queue after : List ℕ) (x i y : ℕ) (r : Reached) → AreHeld n Live marks → AreQueued marks queue → Contains queue x → mark_at marks x ≡ Some r → i ≤ n → y ≡ L i x → mark_at marks y ≡ None → new ≡ slice_set marks y (Some (mark (not r.positive) i)) → after ≡ queue ++ y ∷ [] → IsGrown n Live L marks new queue after
+cross-new : (n : ℕ) (Live : ℕ → Type 0) (L : Links) → AreWhole n Live L → (marks new : Marks) (queue after : List ℕ) (x i y : ℕ) (r : Reached) → AreHeld n Live marks → AreQueued marks queue → Contains queue x → mark_at marks x ≡ Some r → i ≤ n → y ≡ L i x → mark_at marks y ≡ None → new ≡ slice_set marks y (Some (mark (not r.positive) i)) → after ≡ queue ++ y ∷ [] → IsGrown n Live L marks new queue after
 cross-new n Live L whole marks new queue after x i y r held queued among known within leads fresh marks_are queue_is =
     rw (marks_are, queue_is, leads)
     (grown-put n Live L whole marks queue x i r.positive held queued among (sign-mark (mark_at marks x) r known) within (subst (λ (z : ℕ). mark_at marks z ≡ None) leads fresh))
 
--- and when it led to a dart with a sign
-pub cross-known : (L : Links) (marks : Marks) (x i : ℕ) (b c : Bool) → sign_at marks x ≡ Some b → sign_at marks (L i x) ≡ Some c → MatchBool (beq c (not b)) (Flips L marks x i) (Clashes L marks x i)
-cross-known L marks x i true true e f = (true, e, f)
-cross-known L marks x i true false e f = (true, e, f)
-cross-known L marks x i false true e f = (false, e, f)
-cross-known L marks x i false false e f = (false, e, f)
+-- what is known when a link led to a dart, which got a sign unless it had one
+pub given-grown : (n : ℕ) (Live : ℕ → Type 0) (L : Links) → AreWhole n Live L → (marks new : Marks) (queue after : List ℕ) (x i y : ℕ) (r : Reached) → AreHeld n Live marks → AreQueued marks queue → Contains queue x → mark_at marks x ≡ Some r → i ≤ n → y ≡ L i x → IsGiven marks new queue after y (mark (not r.positive) i) (mark_at marks y) → IsGrown n Live L marks new queue after
+given-grown n Live L whole marks new queue after x i y r held queued among known within leads given = go (mark_at marks y) refl given
+  where
+    go : (o : Option Reached) → mark_at marks y ≡ o → IsGiven marks new queue after y (mark (not r.positive) i) o → IsGrown n Live L marks new queue after
+    go None fresh g = cross-new n Live L whole marks new queue after x i y r held queued among known within leads fresh g.0 g.1
+    go (Some other) has g = rw (g.0, g.1) (grown-same n Live L marks queue held queued)

@@ -1,13 +1,15 @@
 -- The search of a component visits the darts of its queue, one after another.
-use Rattle.std.proofs.Common.{ℕ, ◌≡◌, ◌≤◌, ◌<◌, ◌+◌, ◌⊎◌, inl, inr, sym, ap, subst, ◌∙◌, true, None, Some, List, [], ◌∷◌, length, get_or, slice_set, arith}
+use Rattle.std.proofs.Common.{ℕ, ◌≡◌, ◌≤◌, ◌<◌, ◌+◌, ◌⊎◌, inl, inr, sym, ap, subst, ◌∙◌, true, not, None, Some, List, [], ◌∷◌, length, get_or, slice_set, Contains, arith}
 use Rattle.std.proofs.lemmas.Bool.{cases_lt}
 use Rattle.std.proofs.lemmas.List.{get_or-take}
 use Rattle.map_defs.specs.Links.{Links}
-use Rattle.orient_half.specs.Marks.{Marks, mark_at, IsReached, Flips, Clashes, AreQueued}
-use Rattle.orient_half.specs.Searches.{IsSearched, IsGrown, IsSurveyed, MeetsClash}
-use Rattle.orient_half.proofs.Grown.{mark, grown-trans}
-use Rattle.orient_half.proofs.MarkFacts.{reached-sign, kept-flips}
+use Rattle.orient_half.specs.declared.search.Reached.{Reached}
+use Rattle.orient_half.specs.Marks.{Marks, mark_at, sign_at, IsReached, Flips, Clashes, AreQueued}
+use Rattle.orient_half.specs.Searches.{IsGiven, IsSearched, IsGrown, IsSurveyed, MeetsClash}
+use Rattle.orient_half.proofs.Grown.{mark, grown-trans, given-grown}
+use Rattle.orient_half.proofs.MarkFacts.{not-twice, sign-mark, reached-sign, kept-flips}
 use Rattle.orient_half.proofs.Surveyed.{searched-begun, surveyed-more}
+use Rattle.sewing.proofs.PairWalks.{Contains-before}
 use Rattle.orient_half.proofs.WholeLinks.{AreWhole}
 
 -- from the first darts of the queue, up to next, each link was followed, and flips the signs
@@ -71,3 +73,25 @@ visited-more n Live L x next one two three before between after visit grown flip
     done : (i : ℕ) → (i < next) ⊎ (next ≤ i) → i < next + 1 → Flips L three x i
     done i (inl below) low = kept-flips two three grown.kept L x i (visit.done i below)
     done i (inr from) low = let here_is : next ≡ i = omega arith in subst (Flips L three x) here_is flips
+
+-- A link i of the dart x, which was reached in the way r, is followed to y, which gets the other sign unless it has one.
+module _ (n : ℕ) (Live : ℕ → Type 0) (L : Links) (x i y : ℕ) (r : Reached) (one two three : Marks) (before between after : List ℕ)
+    (known : mark_at one x ≡ Some r) (leads : y ≡ L i x) (visit : IsVisited n Live L x i one two before between) where
+  pub followed-grown : AreWhole n Live L → i ≤ n → Contains before x → IsGiven two three between after y (mark (not r.positive) i) (mark_at two y) → IsGrown n Live L two three between after
+  followed-grown whole within among given =
+      given-grown n Live L whole two three between after x i y r visit.grown.held visit.grown.queued
+      (Contains-before before between visit.grown.behind x among) (visit.grown.kept x r known) within leads given
+
+  pub followed-flips : IsGrown n Live L two three between after → sign_at three y ≡ Some (not r.positive) → Flips L three x i
+  followed-flips grown sign = (
+    r.positive,
+    sign-mark (mark_at three x) r (grown.kept x r (visit.grown.kept x r known)),
+    ap (sign_at three) (sym leads) ∙ sign,
+  )
+
+  pub followed-clashes : IsGrown n Live L two three between after → sign_at three y ≡ Some (not (not r.positive)) → Clashes L three x i
+  followed-clashes grown sign = (
+    r.positive,
+    sign-mark (mark_at three x) r (grown.kept x r (visit.grown.kept x r known)),
+    ap (sign_at three) (sym leads) ∙ (sign ∙ ap Some (not-twice r.positive)),
+  )

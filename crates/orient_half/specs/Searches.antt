@@ -1,8 +1,14 @@
 -- The search of a component, and what is known when the components of the first darts were searched.
-use Rattle.std.specs.Prelude.{ℕ, ◌≡◌, ◌≤◌, ◌<◌, ◌⊎◌, true, List, length, take, Contains, Some}
+use Rattle.std.specs.Prelude.{ℕ, ◌≡◌, ◌≤◌, ◌<◌, ◌⊎◌, true, List, [], ◌∷◌, ◌++◌, length, take, slice_set, Contains, Option, Some, None}
 use Rattle.map_defs.specs.Links.{Links}
 use Rattle.map_defs.specs.Cells.{InComponent, NamesComponent}
+use Rattle.orient_half.specs.declared.search.Reached.{Reached}
 use Rattle.orient_half.specs.Marks.{Marks, sign_at, IsReached, IsKept, Clashes, IsFlipped, LeadsBack, AreHeld, AreQueued}
+
+-- A dart y gets the mark r and stands behind the queue, unless it has a mark already.
+abbrev pub IsGiven : Marks → Marks → List ℕ → List ℕ → ℕ → Reached → Option Reached → Type 0
+IsGiven old new before after y r None = (new ≡ slice_set old y (Some r)) × (after ≡ before ++ y ∷ [])
+IsGiven old new before after y r (Some known) = (new ≡ old) × (after ≡ before)
 
 -- The search of the component of first, which began with the marks of old: what it reached since is the queue.
 pub record IsSearched (n : ℕ) (Live : ℕ → Type 0) (L : Links) (first : ℕ) (old marks : Marks) (queue : List ℕ) : Type 0 where

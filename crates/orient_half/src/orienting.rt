@@ -2,7 +2,6 @@ ghost use Rattle.std.specs.Prelude.{ℕ, ◌+◌, ◌↔◌, IfOk, IfErr, OnOk, 
 ghost use Rattle.map_defs.specs.Rows.{made, links_of, IsLive};
 ghost use Rattle.half_defs.specs.Orientation as orientation;
 ghost use Rattle.half_defs.specs.Orientation.{HasBoundary, HasFault, AreSigns, IsOriented};
-ghost use Rattle.orient_half.specs.Marks.{AreHeld};
 ghost use Rattle.orient_half.specs.SignLists.{IsListed};
 ghost use Rattle.orient_half.specs.Searches.{IsSurveyed};
 ghost use Rattle.orient_half.specs.Told.{told, IsOfSearch};
@@ -86,10 +85,10 @@ fn sign_from<const DIM: usize>(
     ensures after { OnOk result (IsSurveyed DIM (IsLive links.now.rows) (links_of links.now.rows) (dart + 1) search.new.marks.items) }
     ensures fault { IfErr result (IsOfSearch DIM (IsLive links.now.rows) (links_of links.now.rows)) }
 {
-    if !links.is_live(dart) {
+    if search.mark_if_any(dart).is_some() {
         return Ok(());
     }
-    if search.mark(dart).is_some() {
+    if !links.is_live(dart) {
         return Ok(());
     }
     match spread(links, dart, search)? {
@@ -110,26 +109,17 @@ fn signs_of<const DIM: usize>(
     let mut signs = Vec::with_capacity(alloc, links.live_count() as usize)?;
     for number in 0..links.made() {
         let dart = Dart::new(number + 1).unwrap();
-        push_sign(links, search, dart, &mut signs)?;
+        push_sign(search, dart, &mut signs)?;
     }
     Ok(signs)
 }
 
 /// Appends the sign of a dart, if it was reached.
-fn push_sign<const DIM: usize>(
-    links: &Links<Alpha, DIM>,
-    search: &Search,
-    dart: Dart,
-    signs: &mut Vec<Sign>,
-) -> Result<(), AllocError>
-    requires held { AreHeld DIM (IsLive links.now.rows) search.now.marks.items }
-    requires before { IsListed search.now.marks.items dart signs.old.items }
+fn push_sign(search: &Search, dart: Dart, signs: &mut Vec<Sign>) -> Result<(), AllocError>
+    requires { IsListed search.now.marks.items dart signs.old.items }
     ensures { OnOk result (IsListed search.now.marks.items (dart + 1) signs.new.items) }
 {
-    if !links.is_live(dart) {
-        return Ok(());
-    }
-    let Some(reached) = search.mark(dart) else {
+    let Some(reached) = search.mark_if_any(dart) else {
         return Ok(());
     };
     signs.push(Sign {

@@ -1,9 +1,9 @@
 //! The search of a component, which gives its darts their signs.
-ghost use Rattle.std.specs.Prelude.{◌≡◌, ℕ, ◌+◌, ◌≤◌, ◌<◌, [], ◌∷◌, ◌++◌, Some, None, true, length, replicate, slice_set, Contains, MatchBool, MatchOption, IfOk, OnOk};
+ghost use Rattle.std.specs.Prelude.{◌≡◌, ℕ, ◌+◌, ◌≤◌, ◌<◌, [], ◌∷◌, ◌++◌, Some, None, true, not, length, replicate, slice_set, Contains, MatchBool, MatchOption, IfOk, OnOk};
 ghost use Rattle.map_defs.specs.Rows.{links_of, IsLive};
 ghost use Rattle.half_defs.specs.Orientation.{HasBoundary};
-ghost use Rattle.orient_half.specs.Marks.{mark_at, IsReached, Flips, Clashes, AreHeld, AreQueued};
-ghost use Rattle.orient_half.specs.Searches.{IsGrown, IsSurveyed, MeetsClash};
+ghost use Rattle.orient_half.specs.Marks.{mark_at, sign_at, IsReached, Flips, Clashes, AreHeld, AreQueued};
+ghost use Rattle.orient_half.specs.Searches.{IsGiven, IsGrown, IsSurveyed, MeetsClash};
 
 use link_rows::Links;
 use map_kind::{Alpha, Dart};
@@ -33,7 +33,7 @@ impl Search {
     {
         Ok(Search {
             marks: vec![in alloc; None; made as usize + 1]?,
-            queue: Vec::new(alloc),
+            queue: Vec::with_capacity(alloc, made as usize)?,
         })
     }
 
@@ -43,6 +43,18 @@ impl Search {
         ensures { result ≡ mark_at self.now.marks.items dart }
     {
         self.marks[dart.number() as usize]
+    }
+
+    /// The same of any dart: one that has no place among the marks was not reached.
+    pub(crate) fn mark_if_any(&self, dart: Dart) -> Option<Reached>
+        ensures { result ≡ mark_at self.now.marks.items dart }
+    {
+        let place = dart.number() as usize;
+        if place < self.marks.len() {
+            self.marks[place]
+        } else {
+            None
+        }
     }
 
     /// Reaches a dart. It stands behind the others of the component.
@@ -58,6 +70,25 @@ impl Search {
             link: link as u8,
         });
         Ok(())
+    }
+
+    /// Gives a dart to which a link leads this sign, unless it has one. The answer is whether it has this sign then.
+    fn give(&mut self, dart: Dart, positive: bool, link: usize) -> Result<bool, AllocError>
+        requires room { dart < length self.old.marks.items }
+        requires link { link ≤ 8 }
+        ensures given { OnOk result (IsGiven self.old.marks.items self.new.marks.items self.old.queue.items self.new.queue.items
+            dart (record { positive = positive; link = link }) (mark_at self.old.marks.items dart)) }
+        ensures sign { IfOk result (λ same. MatchBool same
+            (sign_at self.new.marks.items dart ≡ Some positive)
+            (sign_at self.new.marks.items dart ≡ Some (not positive))) }
+    {
+        match self.mark(dart) {
+            Some(reached) => Ok(reached.positive == positive),
+            None => {
+                self.put(dart, positive, link)?;
+                Ok(true)
+            }
+        }
     }
 
     /// Begins with the first dart of a component, which is positive.
@@ -123,41 +154,14 @@ fn visit<const DIM: usize>(
         ((i : ℕ) → i ≤ DIM → Flips (links_of links.now.rows) search.new.marks.items dart i)
         (λ link. (link ≤ DIM) × Clashes (links_of links.now.rows) search.new.marks.items dart link)) }
 {
+    links.see_sound();
+    let positive = !search.mark(dart).unwrap().positive;
+    let row = links.row(dart).unwrap();
     for link in 0..links.dimension() + 1 {
-        if !cross(links, dart, link, search)? {
+        let other = Dart::new(row.entry(link)).unwrap();
+        if !search.give(other, positive, link)? {
             return Ok(Some(link));
         }
     }
     Ok(None)
-}
-
-/// Gives the dart to which a link leads from a dart the other sign, if it has none. The answer is whether it has the other
-/// sign then.
-fn cross<const DIM: usize>(
-    links: &Links<Alpha, DIM>,
-    dart: Dart,
-    link: usize,
-    search: &mut Search,
-) -> Result<bool, AllocError>
-    requires closed { HasBoundary DIM (IsLive links.now.rows) (links_of links.now.rows) → ⊥ }
-    requires link { link ≤ DIM }
-    requires held { AreHeld DIM (IsLive links.now.rows) search.old.marks.items }
-    requires queued { AreQueued search.old.marks.items search.old.queue.items }
-    requires among { Contains search.old.queue.items dart }
-    ensures grown { OnOk result (IsGrown DIM (IsLive links.now.rows) (links_of links.now.rows)
-        search.old.marks.items search.new.marks.items search.old.queue.items search.new.queue.items) }
-    ensures flips { IfOk result (λ flips. MatchBool flips
-        (Flips (links_of links.now.rows) search.new.marks.items dart link)
-        (Clashes (links_of links.now.rows) search.new.marks.items dart link)) }
-{
-    links.see_sound();
-    let positive = !search.mark(dart).unwrap().positive;
-    let other = links.link(dart, link).unwrap();
-    match search.mark(other) {
-        Some(reached) => Ok(reached.positive == positive),
-        None => {
-            search.put(other, positive, link)?;
-            Ok(true)
-        }
-    }
 }

@@ -6,17 +6,12 @@ use Rattle.orient_half.specs.SignLists.{IsListed}
 use Rattle.orient_half.proofs.ReachedSigns.{listed-skip, listed-push}
 use Rattle.orient_half.proofs.orienting.push_sign.Goals as goal
 
-pub returns-then-not-is_live : goal.returns-then-not-is_live
-returns-then-not-is_live g c =
-    listed-skip c.args.search.now.marks.items c.args.dart c.args.signs.now.items
-    (λ reached. false≢true (sym c.if-not-is_live.true ∙ c.is_live.ensures.live.1 (c.requires.held.live c.args.dart reached))) c.requires.before
-
 pub returns-in_default : goal.returns-in_default
-returns-in_default g c =
+returns-in_default c =
     listed-skip c.args.search.now.marks.items c.args.dart c.args.signs.now.items
-    (λ reached. false≢true (subst IsSome (sym c.mark.ensures ∙ c.in_default.is) reached)) c.requires.before
+    (λ reached. false≢true (subst IsSome (sym c.mark_if_any.ensures ∙ c.in_default.is) reached)) c.requires
 
 pub returns : goal.returns
-returns g c =
+returns c =
     subst (λ (signs : List Sign). IsListed c.args.search.now.marks.items (c.args.dart + 1) signs) (sym c.in_ok-push.ensures.items)
-    (listed-push c.args.search.now.marks.items c.args.dart c.in-Some.reached.positive c.args.signs.now.items (ap sign_of (sym c.mark.ensures ∙ c.in-Some.is)) c.requires.before)
+    (listed-push c.args.search.now.marks.items c.args.dart c.in-Some.reached.positive c.args.signs.now.items (ap sign_of (sym c.mark_if_any.ensures ∙ c.in-Some.is)) c.requires)
