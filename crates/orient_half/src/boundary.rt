@@ -32,8 +32,12 @@ fn is_at_boundary<const DIM: usize>(links: &Links<Alpha, DIM>, dart: Dart) -> bo
 fn has_free_link<const DIM: usize>(links: &Links<Alpha, DIM>, dart: Dart) -> bool
     ensures { IsTrue result ↔ ((i : ℕ) × (i ≤ DIM) × (links_of links.now.rows i dart ≡ 0)) }
 {
+    links.see_sound();
+    let Some(row) = links.row(dart) else {
+        return true;
+    };
     for link in 0..links.dimension() + 1 {
-        if links.number_at(dart, link) == 0 {
+        if row.entry(link) == 0 {
             return true;
         }
     }
@@ -47,10 +51,11 @@ pub(crate) struct Fold {
     pub(crate) link: usize,
 }
 
-/// The least live dart with a link from 2 upwards that leads where link 0 leads, and its least such link.
+/// The least live dart with a link from 2 upwards that leads where link 0 leads, and its least such link. No link is free.
 ///
 /// It takes no memory, and costs a few steps for each link of the darts that were made.
 pub(crate) fn first_fold<const DIM: usize>(links: &Links<Alpha, DIM>) -> Option<Fold>
+    requires { HasBoundary DIM (IsLive links.now.rows) (links_of links.now.rows) → ⊥ }
     ensures first { IfSome result (λ fold. IsFirstFold DIM (IsLive links.now.rows) (links_of links.now.rows) fold.dart fold.link) }
     ensures none { IfNone result ((d i : ℕ) → IsFolded DIM (IsLive links.now.rows) (links_of links.now.rows) d i → ⊥) }
 {
@@ -63,17 +68,20 @@ pub(crate) fn first_fold<const DIM: usize>(links: &Links<Alpha, DIM>) -> Option<
     None
 }
 
-/// The least link of a live dart, from 2 upwards, that leads where link 0 leads.
+/// The least link of a live dart, from 2 upwards, that leads where link 0 leads. Link 0 of a dart that is not live leads nowhere.
 fn folded_link<const DIM: usize>(links: &Links<Alpha, DIM>, dart: Dart) -> Option<usize>
+    requires { HasBoundary DIM (IsLive links.now.rows) (links_of links.now.rows) → ⊥ }
     ensures least { IfSome result (λ link. IsLeastFold DIM (IsLive links.now.rows) (links_of links.now.rows) dart link) }
     ensures none { IfNone result ((i : ℕ) → IsFolded DIM (IsLive links.now.rows) (links_of links.now.rows) dart i → ⊥) }
 {
-    if !links.is_live(dart) {
+    links.see_sound();
+    let row = links.row(dart)?;
+    let opposite = row.entry(0);
+    if opposite == 0 {
         return None;
     }
-    let opposite = links.number_at(dart, 0);
     for link in 2..links.dimension() + 1 {
-        if links.number_at(dart, link) == opposite {
+        if row.entry(link) == opposite {
             return Some(link);
         }
     }
