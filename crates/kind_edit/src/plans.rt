@@ -1,4 +1,4 @@
-ghost use Rattle.std.specs.Prelude.{◌≡◌, ◌≤◌, All, length, IfOk};
+ghost use Rattle.std.specs.Prelude.{◌≡◌, ◌≤◌, All, length, IfOk, OnErr};
 ghost use Rattle.map_defs.specs.Kind.{beta};
 ghost use Rattle.map_defs.specs.Rows.{links_of, IsLive};
 ghost use Rattle.map_defs.specs.Laws.{Laws};
@@ -97,7 +97,8 @@ pub trait Plans<L: LinkStore>: Kind {
     /// refusal leaves the map as it was.
     fn take_dual(alloc: Global, links: &mut L) -> Result<(), Refused>
         requires { Laws Self.kind (links_of (L.rows links.old)) }
-        ensures { TakesDual Self.kind L.dim (L.rows links.old) (L.rows links.new) result };
+        ensures turned { TakesDual Self.kind L.dim (L.rows links.old) (L.rows links.new) result }
+        ensures err { OnErr result (links.new ≡ links.old) };
 }
 
 /// A kind of map whose maps of a dimension can be edited.

@@ -29,7 +29,8 @@ impl<K: Edits<DIM>, const DIM: usize> ValuedMap<K, DIM> {
     /// map has no dual, memory aside. It takes the memory that the kind's own `take_dual` takes, which is none in maps of both
     /// kinds, and costs a few steps for each link of the darts that were made. A refusal leaves the map as it was.
     pub fn take_dual(&mut self, alloc: Global) -> Result<(), Refused>
-        ensures { BecomesDual self.old.content self.new.content result }
+        ensures becomes { BecomesDual self.old.content self.new.content result }
+        ensures err { OnErr result (self.new ≡ self.old) }
     {
         K::take_dual(alloc, &mut self.links)?;
         turn_labels(&mut self.labels);

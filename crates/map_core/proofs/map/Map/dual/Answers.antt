@@ -16,24 +16,24 @@ invariant_of-self g c =
     let t : Trail = c.self.inside.journal.trail in
     let none : t.standing ≡ 0 = elim (cases_eq t.standing 0) [ inl e ↦ e | inr some ↦ absurd (false≢true (sym c.if-is_noting.false ∙ c.is_noting.ensures.noting.1 (omega arith))) ] in
     held-unmarked (g.H.Hook.hook c.self.inside.hook.now) c.take_dual.new.self t none
-    (subst (λ (present : Content). IsTraced present c.self.inside.journal.trail) (sym (dual-unmade c.self.inside.present.content c.take_dual.new.self.content c.in_err-take_dual.field-0.0 c.in_err-take_dual.ensures)) c.self.invariant.traced)
-    (subst (λ (present : Content). KnowsRules (g.H.Hook.hook c.self.inside.hook.now) (told present t)) (sym (dual-unmade c.self.inside.present.content c.take_dual.new.self.content c.in_err-take_dual.field-0.0 c.in_err-take_dual.ensures)) c.self.invariant.known)
+    (subst (λ (present : Content). IsTraced present c.self.inside.journal.trail) (sym (dual-unmade c.self.inside.present.content c.take_dual.new.self.content c.in_err-take_dual.field-0.0 c.in_err-take_dual.ensures.becomes)) c.self.invariant.traced)
+    (subst (λ (present : Content). KnowsRules (g.H.Hook.hook c.self.inside.hook.now) (told present t)) (sym (dual-unmade c.self.inside.present.content c.take_dual.new.self.content c.in_err-take_dual.field-0.0 c.in_err-take_dual.ensures.becomes)) c.self.invariant.known)
 
 pub returns-in_err-take_dual-clause-does : goal.returns-in_err-take_dual-clause-does
 returns-in_err-take_dual-clause-does g c =
     let p = err_from_is_err_and c.from_residual.result c.from_residual.ensures.1 in
     rw (← c.self.view_is)
-    (dual-refused (g.H.Hook.hook c.args.self.now.hook) c.self.inside.present.content c.take_dual.new.self.content c.self.inside.journal.trail c.in_err-take_dual.field-0.0 c.in_err-take_dual.ensures c.from_residual.result (p.1 ∙ ap Err p.2))
+    (dual-refused (g.H.Hook.hook c.args.self.now.hook) c.self.inside.present.content c.take_dual.new.self.content c.self.inside.journal.trail c.in_err-take_dual.field-0.0 c.in_err-take_dual.ensures.becomes c.from_residual.result (p.1 ∙ ap Err p.2))
 
 pub invariant_of-self-2 : goal.invariant_of-self-2
 invariant_of-self-2 g c =
     let t : Trail = c.self.inside.journal.trail in
     let none : t.standing ≡ 0 = elim (cases_eq t.standing 0) [ inl e ↦ e | inr some ↦ absurd (false≢true (sym c.if-is_noting.false ∙ c.is_noting.ensures.noting.1 (omega arith))) ] in
     held-unmarked (g.H.Hook.hook c.self.inside.hook.now) c.take_dual.new.self t none
-    (traced-unmarked c.self.inside.present.content c.take_dual.new.self.content t c.self.invariant.traced c.is_noting.ensures.ordered none c.in_ok-take_dual.ensures.2.kept)
+    (traced-unmarked c.self.inside.present.content c.take_dual.new.self.content t c.self.invariant.traced c.is_noting.ensures.ordered none c.in_ok-take_dual.ensures.becomes.2.kept)
     (next-known (g.H.Hook.hook c.self.inside.hook.now) (told c.self.inside.present.content t) c.self.invariant.known c.take_dual.new.self.content (told c.take_dual.new.self.content t)
-    (rules-reversed (g.H.Hook.hook c.self.inside.hook.now) c.self.inside.present.content c.take_dual.new.self.content c.in_ok-take_dual.ensures.1.rules c.self.invariant.known.present)
-    (told-unmarked c.self.inside.present.content c.take_dual.new.self.content t c.self.invariant.traced c.is_noting.ensures.ordered none c.in_ok-take_dual.ensures.2.kept))
+    (rules-reversed (g.H.Hook.hook c.self.inside.hook.now) c.self.inside.present.content c.take_dual.new.self.content c.in_ok-take_dual.ensures.becomes.1.rules c.self.invariant.known.present)
+    (told-unmarked c.self.inside.present.content c.take_dual.new.self.content t c.self.invariant.traced c.is_noting.ensures.ordered none c.in_ok-take_dual.ensures.becomes.2.kept))
 
 pub returns-clause-does : goal.returns-clause-does
 returns-clause-does g c =
@@ -41,11 +41,11 @@ returns-clause-does g c =
     let none : t.standing ≡ 0 = elim (cases_eq t.standing 0) [ inl e ↦ e | inr some ↦ absurd (false≢true (sym c.if-is_noting.false ∙ c.is_noting.ensures.noting.1 (omega arith))) ] in
     rw (← c.self.view_is)
     (inr (
-      c.in_ok-take_dual.ensures.0,
+      c.in_ok-take_dual.ensures.becomes.0,
       (
         c.take_dual.new.self.content,
-        c.in_ok-take_dual.ensures.1,
+        c.in_ok-take_dual.ensures.becomes.1,
         refl,
-        told-unmarked c.self.inside.present.content c.take_dual.new.self.content t c.self.invariant.traced c.is_noting.ensures.ordered none c.in_ok-take_dual.ensures.2.kept,
+        told-unmarked c.self.inside.present.content c.take_dual.new.self.content t c.self.invariant.traced c.is_noting.ensures.ordered none c.in_ok-take_dual.ensures.becomes.2.kept,
       ),
     ))
