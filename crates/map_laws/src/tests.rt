@@ -41,6 +41,39 @@ fn dual_of_two_triangles(rt: HostRuntime) -> Result<(), AllocError> {
     Ok(())
 }
 
+/// The sides of the squares of a cube that are sewn to each other, for squares of darts 1 to 4, 5 to 8, and on.
+const SEAMS: [(u64, u64); 12] = [
+    (1, 21),
+    (2, 17),
+    (3, 13),
+    (4, 9),
+    (5, 11),
+    (6, 15),
+    (7, 19),
+    (8, 23),
+    (10, 16),
+    (12, 22),
+    (14, 20),
+    (18, 24),
+];
+
+/// The dual of a cube, an octahedron, has a dual again.
+#[test]
+fn dual_of_a_cube(rt: HostRuntime) -> Result<(), AllocError> {
+    let alloc = rt.alloc();
+    let mut map = Map::<Beta, OrCopy, 2>::new(alloc, &OrCopy);
+    for _square in 0..6 {
+        assert!(rt; map.polygon(alloc, 4).is_ok());
+    }
+    for (side, other) in SEAMS {
+        assert!(rt; map.sew(alloc, 2, side, other).is_ok());
+    }
+    assert_eq!(rt; dual_twice(alloc, &mut map), Ok(()));
+    let counts = map.count(alloc)?;
+    assert_eq!(rt; counts.as_slice(), [24, 8, 12, 6, 1].as_slice());
+    Ok(())
+}
+
 /// A vertex, an edge and a dangling edge of a square.
 #[test]
 fn cutting_a_square(rt: HostRuntime) -> Result<(), AllocError> {
@@ -56,10 +89,14 @@ fn cutting_a_square(rt: HostRuntime) -> Result<(), AllocError> {
     Ok(())
 }
 
-/// A vertex of a triangle of a combinatorial map.
+/// A vertex of a triangle, in maps of both kinds.
 #[test]
 fn cutting_a_triangle(rt: HostRuntime) -> Result<(), AllocError> {
     let alloc = rt.alloc();
+    let mut map = Map::<Alpha, OrCopy, 2>::new(alloc, &OrCopy);
+    assert!(rt; map.polygon(alloc, 3).is_ok());
+    let vertex = insert_then_remove(alloc, &mut map, &Insertion::Vertex(1));
+    assert_eq!(rt; vertex, made(7, 2));
     let mut map = Map::<Beta, OrCopy, 2>::new(alloc, &OrCopy);
     assert!(rt; map.polygon(alloc, 3).is_ok());
     let vertex = insert_then_remove(alloc, &mut map, &Insertion::Vertex(1));
