@@ -1,4 +1,4 @@
-ghost use Rattle.std.specs.Prelude.{◌≡◌, ℕ, ◌+◌, ◌<◌, ◌≤◌, length, Some, IsSome, IfOk, OnOk, Contains};
+ghost use Rattle.std.specs.Prelude.{◌≡◌, ℕ, ◌+◌, ◌<◌, ◌≤◌, ◌++◌, length, Some, IsSome, IfOk, OnOk, Contains};
 ghost use Rattle.map_defs.specs.Rows.{IsLive, links_of, IsSound};
 ghost use Rattle.map_defs.specs.Touched.{Covers, IsAlike};
 ghost use Rattle.map_defs.specs.Cells.{InCell};
@@ -58,9 +58,22 @@ pub fn carry<K: Kind, H: Hook, const DIM: usize>(
     see_values(pool);
     let mut groups = Vec::new(alloc);
     for dim in 0..links.dimension() + 1 {
-        let mut cells = carried_cells(alloc, links, labels, pool, rules, hook, touched, dim)?;
-        groups.append(&mut cells)?;
+        let cells = carried_cells(alloc, links, labels, pool, rules, hook, touched, dim)?;
+        groups = one_behind_another(groups, cells)?;
     }
+    Ok(groups)
+}
+
+/// The groups of both lists, one behind another. Where the first has none, it is the other list as it stands.
+fn one_behind_another(before: Vec<Group>, behind: Vec<Group>) -> Result<Vec<Group>, AllocError>
+    ensures { IfOk result (λ groups. groups.items ≡ before.items ++ behind.items) }
+{
+    if before.is_empty() {
+        return Ok(behind);
+    }
+    let mut groups = before;
+    let mut more = behind;
+    groups.append(&mut more)?;
     Ok(groups)
 }
 
@@ -98,7 +111,11 @@ fn carried_cells<K: Kind, H: Hook, const DIM: usize>(
     let Some(rule) = rules.rules[dim] else {
         return Ok(Vec::new(alloc));
     };
-    let mut cells = touched_cells(alloc, links, dim, touched.in_dim(dim))?;
+    let darts = touched.in_dim(dim);
+    if darts.is_empty() {
+        return Ok(Vec::new(alloc));
+    }
+    let mut cells = touched_cells(alloc, links, dim, darts)?;
     let pieces = pieces_of(alloc, labels, dim, &cells)?;
     let rule = RuleWith { rule, hook };
     merge_pieces(alloc, pool, &rule, &pieces, &mut cells)?;

@@ -20,25 +20,25 @@ pieces_of-requires g c =
 pub merge_pieces-requires-clause-live : goal.merge_pieces-requires-clause-live
 merge_pieces-requires-clause-live g c =
     let all = subst (λ (cells : List Group). AreAllPieces (id_of c.args.labels.now c.args.dim) cells c.in_ok-pieces.pieces.items) c.deref.ensures.value c.in_ok-pieces.ensures in
-    let live = bare_live g.K.Kind.kind g.row.DIM c.args.links.now.rows c.requires.sound c.args.dim c.in_dim.result.now c.in_ok-cells.cells.items c.in_ok-cells.ensures
-    (λ d here. c.requires.live c.args.dim d (subst (λ (ds : List ℕ). Contains ds d) c.in_dim.ensures here)) in
+    let live = bare_live g.K.Kind.kind g.row.DIM c.args.links.now.rows c.requires.sound c.args.dim c.in_dim-darts.result.now c.in_ok-cells.cells.items c.in_ok-cells.ensures
+    (λ d here. c.requires.live c.args.dim d (subst (λ (ds : List ℕ). Contains ds d) c.in_dim-darts.ensures here)) in
     subst (λ (ps : List Piece). (k : ℕ) → k < length ps → IsHeld c.args.pool.now (piece_at ps k).id) (sym c.deref-2.ensures.value)
     (pieces_held (IsLive c.args.links.now.rows) (id_of c.args.labels.now c.args.dim) (IsHeld c.args.pool.now) c.in_ok-cells.cells.items c.in_ok-pieces.pieces.items all live (c.requires.held c.args.dim))
 
 pub merge_pieces-requires-clause-few : goal.merge_pieces-requires-clause-few
 merge_pieces-requires-clause-few g c =
     let all = subst (λ (cells : List Group). AreAllPieces (id_of c.args.labels.now c.args.dim) cells c.in_ok-pieces.pieces.items) c.deref.ensures.value c.in_ok-pieces.ensures in
-    let live = bare_live g.K.Kind.kind g.row.DIM c.args.links.now.rows c.requires.sound c.args.dim c.in_dim.result.now c.in_ok-cells.cells.items c.in_ok-cells.ensures
-    (λ d here. c.requires.live c.args.dim d (subst (λ (ds : List ℕ). Contains ds d) c.in_dim.ensures here)) in
+    let live = bare_live g.K.Kind.kind g.row.DIM c.args.links.now.rows c.requires.sound c.args.dim c.in_dim-darts.result.now c.in_ok-cells.cells.items c.in_ok-cells.ensures
+    (λ d here. c.requires.live c.args.dim d (subst (λ (ds : List ℕ). Contains ds d) c.in_dim-darts.ensures here)) in
     let few = few_pieces g.K.Kind.kind g.row.DIM c.args.links.now.rows c.requires.sound (id_of c.args.labels.now c.args.dim) c.in_ok-cells.cells.items c.in_ok-pieces.pieces.items all live in
     subst (λ (ps : List Piece). length ps < 4294967296) (sym c.deref-2.ensures.value) few
 
 pub returns : goal.returns
 returns g c =
     let all = subst (λ (cells : List Group). AreAllPieces (id_of c.args.labels.now c.args.dim) cells c.in_ok-pieces.pieces.items) c.deref.ensures.value c.in_ok-pieces.ensures in
-    let live = bare_live g.K.Kind.kind g.row.DIM c.args.links.now.rows c.requires.sound c.args.dim c.in_dim.result.now c.in_ok-cells.cells.items c.in_ok-cells.ensures
-    (λ d here. c.requires.live c.args.dim d (subst (λ (ds : List ℕ). Contains ds d) c.in_dim.ensures here)) in
-    let bare = subst (λ (ds : List ℕ). AreBareCells (InCell g.K.Kind.kind (links_of c.args.links.now.rows) c.args.dim) c.args.dim ds c.in_ok-cells.cells.items) c.in_dim.ensures c.in_ok-cells.ensures in
+    let live = bare_live g.K.Kind.kind g.row.DIM c.args.links.now.rows c.requires.sound c.args.dim c.in_dim-darts.result.now c.in_ok-cells.cells.items c.in_ok-cells.ensures
+    (λ d here. c.requires.live c.args.dim d (subst (λ (ds : List ℕ). Contains ds d) c.in_dim-darts.ensures here)) in
+    let bare = subst (λ (ds : List ℕ). AreBareCells (InCell g.K.Kind.kind (links_of c.args.links.now.rows) c.args.dim) c.args.dim ds c.in_ok-cells.cells.items) c.in_dim-darts.ensures c.in_ok-cells.ensures in
     let low : c.args.dim < length c.args.rules.now = (let d = c.requires.dim in let r = c.requires.rules in omega arith) in
     let ruled : rule_at c.args.rules.now c.args.dim ≡ Some c.in-Some.rule = read_rule c.args.rules.now c.rules.inside.rules.items c.args.dim c.index.result.now c.in-Some.rule c.rules.view_is low c.index.ensures c.in-Some.is in
     all_of_dim g.K.Kind.kind (links_of c.args.links.now.rows) (IsLive c.args.links.now.rows) (id_of c.args.labels.now) c.args.pool.now (g.H.Hook.hook c.args.hook.now) c.args.rules.now (darts_in c.args.touched.now)
