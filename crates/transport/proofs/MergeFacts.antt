@@ -1,14 +1,14 @@
 -- The values of cells, as they are merged from one piece after the other.
-use Rattle.std.proofs.Common.{◌≡◌, ◌≢◌, ◌⊎◌, inl, inr, ℕ, suc, ◌+◌, ◌<◌, List, [], ◌∷◌, ◌++◌, length, get_or, set, true, false, Option, Some, None, nat_eq, cond, refl, sym, ◌∙◌, ap, arith, add-one, length-set, get_or-set_other, get_or-set_same}
+use Rattle.std.proofs.Common.{◌≡◌, ◌≢◌, ◌⊎◌, inl, inr, ℕ, suc, ◌+◌, ◌<◌, List, [], ◌∷◌, ◌++◌, length, get_or, set, true, false, Option, Some, None, nat_eq, cond, refl, sym, ◌∙◌, ap, subst, arith, add-one, length-set, get_or-set_other, get_or-set_same}
 use Rattle.std.proofs.lemmas.List.{get_or_default}
 use Rattle.map_defs.specs.Values.{Value, Meaning}
 use Rattle.map_defs.specs.Carry.{merged_with, merged_all, known}
 use Rattle.store_defs.specs.Stores.{Store, value_of}
 use Rattle.store_defs.specs.Groups.{Group, no_group, group_at}
-use Rattle.transport.specs.Pieces.{no_piece, piece_at, picked, count_below, has_id, lies_in, part_at, merged_before, AreMerged}
+use Rattle.transport.specs.Pieces.{no_piece, piece_at, picked, count_below, has_id, lies_in, part_at, merged_before, IsPieceMerged, AreMerged}
 use Rattle.transport.specs.declared.pieces.Piece.{Piece}
 use Rattle.transport.proofs.Gathering.{told_eq}
-use Rattle.transport.proofs.Picking.{picked_yes, picked_no}
+use Rattle.transport.proofs.Picking.{picked_yes, picked_no, count_passed}
 
 merged_last : (f : Value → Value → Value) (sofar : Option Value) (parts : List (Option Value)) (v : Option Value) → merged_all f sofar (parts ++ v ∷ []) ≡ merged_with f (merged_all f sofar parts) v
 merged_last f sofar [] v = refl
@@ -72,10 +72,26 @@ module _ (rule : Meaning) (pool : Store) (pieces : List Piece) where
           let out : lies_in pieces n k ≡ false = elim (told_eq (piece_at pieces k).cell n) [ inl t ↦ absurd (s (sym t.0 ∙ sym cell)) | inr t ↦ t.1 ] in
           ap (merged_all rule.merged None) (sym (picked_no (lies_in pieces n) (part_at rule pool pieces) k out)) ∙ next n
 
+  -- the cells after one more piece, by what is said of that piece alone
+  pub merged_step : (k : ℕ) (old new after : List Group) (p : Piece) (total before : ℕ) → AreMerged rule pool pieces k old new → p ≡ piece_at pieces k → p.cell < length old
+      → total ≡ count_below (has_id pieces p.id) (length pieces) → before ≡ count_below (has_id pieces p.id) k → IsPieceMerged rule pool p total before new after → AreMerged rule pool pieces (k + 1) old after
+  merged_step k old new after p total before m e placed t b step =
+      subst (AreMerged rule pool pieces (k + 1) old) (sym step.at)
+      (merged_more k old new p (rule.share step.value total before) step.cell m e placed (part_of k p step.value total before (rule.share step.value total before) e step.held t b refl) step.dim step.darts step.merged)
+
+  -- a piece is counted among all with its id, and not among those before it
+  pub before_all : (k : ℕ) (p : Piece) (total before : ℕ) → p ≡ piece_at pieces k → k < length pieces → total ≡ count_below (has_id pieces p.id) (length pieces) → before ≡ count_below (has_id pieces p.id) k → before < total
+  before_all k p total before e within t b =
+      let has : has_id pieces p.id k ≡ true = elim (told_eq (piece_at pieces k).id p.id) [ inl h ↦ h.1 | inr h ↦ absurd (h.0 (sym (ap (λ q. q.id) e))) ] in
+      let less = count_passed (has_id pieces p.id) k (length pieces) has within in
+      omega arith
+
+  pub counted_more : (k : ℕ) (p : Piece) (id count : ℕ) → p ≡ piece_at pieces k → count ≡ count_below (has_id pieces id) k → cond (nat_eq p.id id) (count + 1) count ≡ count_below (has_id pieces id) (k + 1)
+  counted_more k p id count e so =
+      ap (λ c. cond (nat_eq p.id id) (c + 1) c) so
+      ∙ (ap (λ (q : Piece). cond (nat_eq q.id id) (count_below (has_id pieces id) k + 1) (count_below (has_id pieces id) k)) e
+      ∙ ap (count_below (has_id pieces id)) (sym (add-one k)))
+
   pub tally_more : (k : ℕ) (p : Piece) (before after : ℕ → ℕ) → p ≡ piece_at pieces k → ((id : ℕ) → before id ≡ count_below (has_id pieces id) k)
       → ((id : ℕ) → after id ≡ cond (nat_eq p.id id) (before id + 1) (before id)) → (id : ℕ) → after id ≡ count_below (has_id pieces id) (k + 1)
-  tally_more k p before after e so is id =
-      is id
-      ∙ (ap (λ c. cond (nat_eq p.id id) (c + 1) c) (so id)
-      ∙ (ap (λ (q : Piece). cond (nat_eq q.id id) (count_below (has_id pieces id) k + 1) (count_below (has_id pieces id) k)) e
-      ∙ ap (count_below (has_id pieces id)) (sym (add-one k))))
+  tally_more k p before after e so is id = is id ∙ counted_more k p id (before id) e (so id)

@@ -9,20 +9,33 @@ use Rattle.transport.specs.Wanted.{Wanted, IsMarked}
 abbrev pub IsInSome : List Group → ℕ → Type 0
 IsInSome cells x = (n : ℕ) × (n < length cells) × Contains (group_at cells n).darts x
 
+-- The cells of the first so many of these darts are found, each once.
+pub record AreHeld (Cell : ℕ → ℕ → Type 0) (i looked : ℕ) (darts : List ℕ) (cells : List Group) : Type 0 where
+  pub each : (n : ℕ) → n < length cells → IsBareCell Cell i darts (group_at cells n)
+  pub all : (place : ℕ) → place < looked → IsInSome cells (slice_index darts place)
+  pub apart : (m n : ℕ) → m < n → n < length cells → least_of (group_at cells m) ≢ least_of (group_at cells n)
+
 -- The cells of the first so many wanted darts are found, each once, and just the wanted darts in them are marked.
 pub record AreFound (Cell : ℕ → ℕ → Type 0) (i looked : ℕ) (wanted : Wanted) (cells : List Group) : Type 0 where
-  pub each : (n : ℕ) → n < length cells → IsBareCell Cell i wanted.darts (group_at cells n)
-  pub all : (place : ℕ) → place < looked → IsInSome cells (slice_index wanted.darts place)
-  pub apart : (m n : ℕ) → m < n → n < length cells → least_of (group_at cells m) ≢ least_of (group_at cells n)
+  pub held : AreHeld Cell i looked wanted.darts cells
   pub marked : (place : ℕ) → place < length wanted.darts → IsMarked wanted place ↔ IsInSome cells (slice_index wanted.darts place)
+
+-- the cell of dart d, which has no value yet
+pub record IsCellOf (Cell : ℕ → ℕ → Type 0) (i d : ℕ) (g : Group) : Type 0 where
+  pub dim : g.dim ≡ i
+  pub bare : g.value ≡ None
+  pub ascending : IsStrictlyIncreasing g.darts
+  pub darts : (x : ℕ) → Contains g.darts x ↔ Cell d x
+
+-- the dart lies in one of the cells, or its cell stands at the end now
+abbrev pub IsCellThere : (ℕ → ℕ → Type 0) → ℕ → ℕ → List Group → List Group → Type 0
+IsCellThere Cell i d old new =
+    (IsInSome old d × (new ≡ old)) ⊎ ((IsInSome old d → ⊥) × ((g : Group) × (new ≡ old ++ g ∷ []) × IsCellOf Cell i d g))
 
 -- the cell of the dart at a place, whose wanted darts are marked now too
 pub record IsNewCell (Cell : ℕ → ℕ → Type 0) (i place : ℕ) (before after : Wanted) (g : Group) : Type 0 where
   pub unmarked : IsMarked before place → ⊥
-  pub dim : g.dim ≡ i
-  pub bare : g.value ≡ None
-  pub ascending : IsStrictlyIncreasing g.darts
-  pub darts : (x : ℕ) → Contains g.darts x ↔ Cell (slice_index before.darts place) x
+  pub cell : IsCellOf Cell i (slice_index before.darts place) g
   pub same : after.darts ≡ before.darts
   pub marks : (p : ℕ) → p < length before.darts → IsMarked after p ↔ (IsMarked before p ⊎ Contains g.darts (slice_index before.darts p))
 

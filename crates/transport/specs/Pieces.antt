@@ -1,8 +1,8 @@
 -- The pieces of the touched cells of one dimension, and what each gets.
-use Rattle.std.specs.Prelude.{ℕ, zero, suc, ◌≡◌, ◌+◌, ◌≤◌, ◌<◌, ◌↔◌, Bool, nat_eq, cond, List, [], ◌∷◌, ◌++◌, length, Option, Some, None, slice_index_or, Contains}
+use Rattle.std.specs.Prelude.{ℕ, zero, suc, ◌≡◌, ◌+◌, ◌≤◌, ◌<◌, ◌↔◌, Bool, nat_eq, cond, List, [], ◌∷◌, ◌++◌, length, Option, Some, None, slice_index_or, set, Contains}
 use Rattle.std.specs.List.Sorted.{IsStrictlyIncreasing}
 use Rattle.map_defs.specs.Values.{Value, Meaning}
-use Rattle.map_defs.specs.Carry.{merged_all, known}
+use Rattle.map_defs.specs.Carry.{merged_with, merged_all, known}
 use Rattle.store_defs.specs.Stores.{Store, value_of}
 use Rattle.store_defs.specs.Groups.{Group, group_at, least_of}
 use Rattle.transport.specs.declared.pieces.Piece.{Piece}
@@ -64,6 +64,16 @@ part_at rule pool pieces k =
 -- the value of cell n after the pieces before place k
 abbrev pub merged_before : Meaning → Store → List Piece → ℕ → ℕ → Option Value
 merged_before rule pool pieces k n = merged_all rule.merged None (picked (lies_in pieces n) (part_at rule pool pieces) k)
+
+-- The cell of the piece has a further value, of which the piece gets its share; all else is as it was.
+pub record IsPieceMerged (rule : Meaning) (pool : Store) (p : Piece) (total before : ℕ) (old new : List Group) : Type 0 where
+  pub value : Value
+  pub held : value_of pool p.id ≡ Some value
+  pub cell : Group
+  pub at : new ≡ set old p.cell cell
+  pub dim : cell.dim ≡ (group_at old p.cell).dim
+  pub darts : cell.darts ≡ (group_at old p.cell).darts
+  pub merged : cell.value ≡ merged_with rule.merged (group_at old p.cell).value (rule.share value total before)
 
 -- The cells have their values after the pieces before place k, and are else what they were.
 pub record AreMerged (rule : Meaning) (pool : Store) (pieces : List Piece) (k : ℕ) (old new : List Group) : Type 0 where

@@ -1,7 +1,7 @@
 use Rattle.std.proofs.Common.{◌≡◌, ℕ}
 use Rattle.transport.specs.Tallies.{count_of}
 use Rattle.transport.specs.Pieces.{has_id, count_below, AreMerged}
-use Rattle.transport.proofs.merging.merge_pieces.Given as goal
+use Rattle.transport.proofs.merging.merge_many.Given as goal
 
 abbrev pub invariant-loop-piece : goal.invariant-loop-piece
 invariant-loop-piece g l =
