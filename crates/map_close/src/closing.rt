@@ -1,6 +1,6 @@
-ghost use Rattle.std.specs.Prelude.{◌≡◌, ◌≢◌, ◌+◌, ◌≤◌, Contains, IfOk, OnOk};
+ghost use Rattle.std.specs.Prelude.{◌≡◌, ℕ, ◌+◌, ◌≤◌, ◌<◌, Contains, IfOk, vec_len, vec_capacity};
 ghost use Rattle.map_defs.specs.Kind.{inverse};
-ghost use Rattle.map_defs.specs.Rows.{links_of};
+ghost use Rattle.map_defs.specs.Rows.{Rows, links_of};
 ghost use Rattle.map_defs.specs.Laws.{Laws};
 ghost use Rattle.cell_edit.specs.Stars.{star_of};
 ghost use Rattle.cell_edit.specs.Writing.{WritesEntries, Appends};
@@ -51,72 +51,74 @@ fn closing_changes<K: Kind, const DIM: usize>(
 {
     let mut changes = room_for_changes(alloc, stars.darts().len(), links.dimension())?;
     for dart in stars.darts() {
-        push_dart(links, link, stars, *dart, &mut changes)?;
+        push_dart(links, link, stars, *dart, &mut changes);
     }
     Ok(changes)
 }
 
-/// Appends the changes of one open dart and of its new dart.
+/// Appends the changes of one open dart and of its new dart. There is room for them.
 fn push_dart<K: Kind, const DIM: usize>(
     links: &Links<K, DIM>,
     link: usize,
     stars: &StarTable,
     dart: Dart,
     changes: &mut Vec<Change>,
-) -> Result<(), AllocError>
+)
     requires link { link ≤ DIM }
     requires can { CanClose K.kind links.now.rows link stars.now }
     requires key { Contains stars.now.keys dart }
-    ensures { OnOk result (Appends (links_of links.now.rows)
-        (IsOpenEntry K.kind link (links_of links.now.rows) (star_of stars.now) (DIM + 1) dart) changes.old.items changes.new.items) }
+    requires room { vec_len changes.old + (DIM + 2) ≤ vec_capacity changes.old }
+    ensures capacity { vec_capacity changes.new ≡ vec_capacity changes.old }
+    ensures few { vec_len changes.new ≤ vec_len changes.old + (DIM + 2) }
+    ensures entries { Appends (links_of links.now.rows)
+        (IsOpenEntry K.kind link (links_of links.now.rows) (star_of stars.now) (DIM + 1) dart) changes.old.items changes.new.items }
 {
-    push_link(links, dart, link, stars.star(dart).number(), changes)?;
-    push_links(links, link, stars, dart, changes)
+    push_link(dart, link, stars.star(dart).number(), changes);
+    push_links(links, link, stars, dart, changes);
 }
 
-/// Appends the changes of the links of one open dart's new dart.
+/// Appends the changes of the links of one open dart's new dart. There is room for them.
 fn push_links<K: Kind, const DIM: usize>(
     links: &Links<K, DIM>,
     link: usize,
     stars: &StarTable,
     dart: Dart,
     changes: &mut Vec<Change>,
-) -> Result<(), AllocError>
+)
     requires link { link ≤ DIM }
     requires can { CanClose K.kind links.now.rows link stars.now }
     requires key { Contains stars.now.keys dart }
-    ensures { OnOk result (Appends (links_of links.now.rows)
-        (IsNewEntry K.kind link (links_of links.now.rows) (star_of stars.now) (DIM + 1) dart) changes.old.items changes.new.items) }
+    requires room { vec_len changes.old + (DIM + 1) ≤ vec_capacity changes.old }
+    ensures capacity { vec_capacity changes.new ≡ vec_capacity changes.old }
+    ensures few { vec_len changes.new ≤ vec_len changes.old + (DIM + 1) }
+    ensures entries { Appends (links_of links.now.rows)
+        (IsNewEntry K.kind link (links_of links.now.rows) (star_of stars.now) (DIM + 1) dart) changes.old.items changes.new.items }
 {
     let new = stars.star(dart);
     for at in 0..links.dimension() + 1 {
         let number = new_link(links, link, stars, dart, at);
-        push_link(links, new, at, number, changes)?;
+        push_link(new, at, number, changes);
     }
-    Ok(())
 }
 
-/// Appends the change by which a link of a dart becomes the dart of this number; none where the number is 0.
-fn push_link<K: Kind, const DIM: usize>(
-    links: &Links<K, DIM>,
-    dart: Dart,
-    link: usize,
-    number: u32,
-    changes: &mut Vec<Change>,
-) -> Result<(), AllocError>
-    requires { link ≤ DIM }
-    ensures { OnOk result (Appends (links_of links.now.rows) (IsLinkEntry dart link number) changes.old.items changes.new.items) }
+/// Appends the change by which a link of a dart that is free becomes the dart of this number; none where the number is 0.
+/// There is room for it.
+fn push_link(dart: Dart, link: usize, number: u32, changes: &mut Vec<Change>)
+    requires room { vec_len changes.old < vec_capacity changes.old }
+    ensures capacity { vec_capacity changes.new ≡ vec_capacity changes.old }
+    ensures few { vec_len changes.new ≤ vec_len changes.old + 1 }
+    ensures entry { (rows : Rows) → links_of rows link dart ≡ 0
+        → Appends (links_of rows) (IsLinkEntry dart link number) changes.old.items changes.new.items }
 {
     if number == 0 {
-        return Ok(());
+        return;
     }
-    changes.push(Change {
+    changes.push_reserved(Change {
         dart,
         link,
-        old: links.number_at(dart, link),
+        old: 0,
         new: number,
-    })?;
-    Ok(())
+    });
 }
 
 /// The number at a link of an open dart's new dart; 0 where it stays free.

@@ -1,4 +1,5 @@
-use Rattle.std.proofs.Common.{◌+◌, take}
+use Rattle.std.proofs.Common.{◌+◌, ◌*◌, ◌≤◌, length, take}
+use Rattle.std.specs.Prelude.{vec_len, vec_capacity}
 use Rattle.map_defs.specs.Rows.{links_of}
 use Rattle.cell_edit.specs.Stars.{star_of}
 use Rattle.cell_edit.specs.Writing.{WritesEntries}
@@ -8,3 +9,4 @@ use Rattle.map_close.proofs.closing.closing_changes.Given as goal
 abbrev pub invariant-loop-dart : goal.invariant-loop-dart
 invariant-loop-dart g l =
     WritesEntries (links_of l.links.rows) (AreClosingEntries g.K.Kind.kind l.link (links_of l.links.rows) (star_of l.stars) (g.row.DIM + 1) (take l.dart-index l.stars.keys)) l.changes.items
+    × (vec_len l.changes ≤ l.dart-index * (g.row.DIM + 2)) × (length l.stars.keys * (g.row.DIM + 2) ≤ vec_capacity l.changes)
