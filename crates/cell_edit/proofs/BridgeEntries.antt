@@ -53,6 +53,10 @@ module _ (L : Links) (x : ℕ) where
   pub ends-all : (m n : ℕ) (a b : List Change) → m ≡ n → Appends L (IsEndingEntry L m x) a b → Appends L (IsEndingEntry L n x) a b
   ends-all m n a b e has = subst (λ k. Appends L (IsEndingEntry L k x) a b) e has
 
+  -- no link is left
+  pub ends-free : (m : ℕ) (cs : List Change) → ((t : ℕ) → L t x ≡ 0) → Appends L (IsEndingEntry L m x) cs cs
+  ends-free m cs free = appends-none L (IsEndingEntry L m x) cs (λ d t y e. e.2 (free t))
+
   -- a link that is free already
   pub ends-skip : (m : ℕ) (a b : List Change) → L m x ≡ 0 → Appends L (IsEndingEntry L m x) a b → Appends L (IsEndingEntry L (m + 1) x) a b
   ends-skip m a b free = appends-same L (IsEndingEntry L m x) (IsEndingEntry L (m + 1) x) a b

@@ -16,3 +16,6 @@ mod EndingEdit
 pub mod Appending
 pub mod EntryEdit
 pub mod Listed
+pub mod CornerList
+mod FaceSteps
+mod RowSize

@@ -52,6 +52,17 @@ module _ (keys : List ℕ) (st : ℕ → ℕ) where
   pub on-ends : (x k y : ℕ) → IsOn keys st x k y → (Contains keys y → ⊥) → Walk (Contains keys) st x y
   on-ends x k y on out = walk-along x k y on.within (subst (λ z. Walk (Contains keys) st z y) on.at (stop out))
 
+  -- a walk from a dart within goes on from the next, and one from the next makes one from the dart
+  pub walk-rest : (x y : ℕ) → Contains keys x → Walk (Contains keys) st x y → Walk (Contains keys) st (st x) y
+  walk-rest x y has (stop out) = absurd (out has)
+  walk-rest x y has (go _ w) = w
+
+  pub walk-next : (x z y : ℕ) → Contains keys x → z ≡ st x → Walk (Contains keys) st z y → Walk (Contains keys) st x y
+  walk-next x z y has is w = go has (subst (λ u. Walk (Contains keys) st u y) is w)
+
+  pub walk-free : (x : ℕ) → Contains keys x → (Contains keys 0 → ⊥) → st x ≡ 0 → Walk (Contains keys) st x 0
+  walk-free x has darts free = walk-next x 0 0 has (sym free) (stop darts)
+
   step-first : (x k : ℕ) → stepped st (st x) k ≡ stepped st x (suc k)
   step-first x zero = refl
   step-first x (suc k) = ap st (step-first x k)

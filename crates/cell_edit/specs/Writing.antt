@@ -54,3 +54,7 @@ pub record AreReady (k : Kind) (rows : Rows) (i : ℕ) (stars : Stars) : Type 0 
 -- both darts of each pair are among these
 abbrev pub ArePairsOf : List ℕ → List Triple → Type 0
 ArePairsOf keys pairs = (x y t : ℕ) → Lists pairs x y t → Contains keys x × Contains keys y
+
+-- x is one of the corners: the first dart of a pair at link 0
+abbrev pub IsCornerOf : List Triple → ℕ → Type 0
+IsCornerOf pairs x = (z : ℕ) × Lists pairs x z 0

@@ -72,7 +72,7 @@ pub(crate) fn is_among(darts: &[Dart], dart: Dart) -> bool
 /// The number of the first dart outside a cell on the walk from a dart of it that goes along one link and another in turn, 0
 /// where the walk comes to a free link of a combinatorial map. It costs the steps of the walk, times the logarithm of the
 /// cell.
-pub(crate) fn first_outside<K: Kind, const DIM: usize>(
+fn first_outside<K: Kind, const DIM: usize>(
     links: &Links<K, DIM>,
     link: usize,
     beside: usize,
@@ -96,4 +96,24 @@ pub(crate) fn first_outside<K: Kind, const DIM: usize>(
         at = next;
     }
     unreachable!()
+}
+
+/// The number that `first_outside` answers, of a walk from a dart of the cell.
+pub(crate) fn first_outside_from_within<K: Kind, const DIM: usize>(
+    links: &Links<K, DIM>,
+    link: usize,
+    beside: usize,
+    cell: &[Dart],
+    from: Dart,
+) -> u32
+    requires ascending { IsStrictlyIncreasing cell.now }
+    requires darts { Contains cell.now 0 → ⊥ }
+    requires from { Contains cell.now from }
+    requires ends { (y : ℕ) × LeadsAcross K.kind (links_of links.now.rows) link beside cell.now from y }
+    ensures { LeadsAcross K.kind (links_of links.now.rows) link beside cell.now from result }
+{
+    let Some(next) = across(links, link, beside, from) else {
+        return 0;
+    };
+    first_outside(links, link, beside, cell, next)
 }

@@ -6,7 +6,7 @@ ghost use Rattle.cell_edit.specs.Writing.{WritesEntries, Appends};
 ghost use Rattle.cell_edit.specs.Bridging.{across, CanEnd, IsEndingEntry, IsBridgeEntry, IsDartEntry, IsCellEntry};
 ghost use Rattle.cell_edit.specs.Removing.{PlansEnding};
 
-use crate::crossing::{first_outside, is_among};
+use crate::crossing::{first_outside_from_within, is_among};
 use crate::room::room_for_changes;
 use link_rows::{Change, Edit, Links};
 use map_kind::{Dart, Kind, is_generalized};
@@ -89,14 +89,20 @@ fn push_links<K: Kind, const DIM: usize>(
     ensures { OnOk result (Appends (links_of links.now.rows)
         (IsEndingEntry (links_of links.now.rows) (DIM + 1) dart) changes.old.items changes.new.items) }
 {
+    // A map has links 0 to 8 at most. All links of a dart without a row are free.
+    links.see_sound();
+    let Some(row) = links.row(dart) else {
+        return Ok(());
+    };
     for link in 0..links.dimension() + 1 {
-        let Some(other) = links.link(dart, link) else {
+        let old = row.entry(link);
+        if old == 0 {
             continue;
-        };
+        }
         changes.push(Change {
             dart,
             link,
-            old: other.number(),
+            old,
             new: 0,
         })?;
     }
@@ -115,6 +121,7 @@ fn push_bridge<K: Kind, const DIM: usize>(
     requires link { link ≤ DIM }
     requires can { CanEnd K.kind links.now.rows link beside darts.now }
     requires laws { Laws K.kind (links_of links.now.rows) }
+    requires key { Contains darts.now dart }
     ensures { OnOk result (Appends (links_of links.now.rows)
         (IsBridgeEntry K.kind (links_of links.now.rows) link beside darts.now dart) changes.old.items changes.new.items) }
 {
@@ -124,7 +131,7 @@ fn push_bridge<K: Kind, const DIM: usize>(
     if is_among(darts, remaining) {
         return Ok(());
     }
-    let end = first_outside(links, link, beside, darts, dart);
+    let end = first_outside_from_within(links, link, beside, darts, dart);
     changes.push(Change {
         dart: remaining,
         link,

@@ -62,25 +62,36 @@ fn carried_changes<K: Kind, const DIM: usize>(
         (IsCarriedEntry K.kind (links_of links.now.rows) link (star_of stars.now) (DIM + 1) stars.now.keys) changes.items) }
 {
     let mut changes = room_for_changes(alloc, stars.darts().len(), links.dimension())?;
-    for dart in stars.darts() {
-        push_dart(links, link, stars, *dart, &mut changes)?;
+    let darts = stars.darts();
+    for place in 0..darts.len() {
+        push_dart(
+            links,
+            link,
+            stars,
+            darts[place],
+            stars.star_at(place),
+            &mut changes,
+        )?;
     }
     Ok(changes)
 }
 
-/// Appends the changes of one dart: its link becomes its new dart, and the new dart gets its links, but for those of the
-/// pairs.
+/// Appends the changes of one dart and of `new`, its new dart: the link becomes the new dart, and the new dart gets its
+/// links, but for those of the pairs.
 fn push_dart<K: Kind, const DIM: usize>(
     links: &Links<K, DIM>,
     link: usize,
     stars: &Stars,
     dart: Dart,
+    new: Dart,
     changes: &mut Vec<Change>,
 ) -> Result<(), AllocError>
     requires link { link < DIM }
     requires own { inverse K.kind link ≡ link }
     requires ready { AreReady K.kind links.now.rows link stars.now }
     requires key { Contains stars.now.keys dart }
+    requires new { new ≡ star_of stars.now dart }
+    requires above { stars.now.made < new }
     ensures { OnOk result (Appends (links_of links.now.rows)
         (IsKeyEntry K.kind (links_of links.now.rows) link (star_of stars.now) (DIM + 1) dart) changes.old.items changes.new.items) }
 {
@@ -88,27 +99,29 @@ fn push_dart<K: Kind, const DIM: usize>(
         dart,
         link,
         old: links.number_at(dart, link),
-        new: stars.star(dart).number(),
+        new: new.number(),
     })?;
-    push_links(links, link, stars, dart, changes)
+    push_links(links, link, stars, dart, new, changes)
 }
 
-/// Appends the changes of the links of one dart's new dart, but for those of the pairs.
+/// Appends the changes of the links of `new`, one dart's new dart, but for those of the pairs.
 fn push_links<K: Kind, const DIM: usize>(
     links: &Links<K, DIM>,
     link: usize,
     stars: &Stars,
     dart: Dart,
+    new: Dart,
     changes: &mut Vec<Change>,
 ) -> Result<(), AllocError>
     requires link { link < DIM }
     requires own { inverse K.kind link ≡ link }
     requires ready { AreReady K.kind links.now.rows link stars.now }
     requires key { Contains stars.now.keys dart }
+    requires new { new ≡ star_of stars.now dart }
+    requires above { stars.now.made < new }
     ensures { OnOk result (Appends (links_of links.now.rows)
         (IsNewEntry K.kind (links_of links.now.rows) link (star_of stars.now) (DIM + 1) dart) changes.old.items changes.new.items) }
 {
-    let new = stars.star(dart);
     for at in 0..links.dimension() + 1 {
         let Some(other) = beyond(links, link, stars, dart, at) else {
             continue;

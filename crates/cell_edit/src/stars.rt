@@ -1,4 +1,4 @@
-ghost use Rattle.std.specs.Prelude.{◌≡◌, ◌≤◌, ◌<◌, All, Contains, length};
+ghost use Rattle.std.specs.Prelude.{◌≡◌, ◌≤◌, ◌<◌, All, Contains, length, slice_index};
 ghost use Rattle.std.specs.List.Sorted.{IsStrictlyIncreasing};
 ghost use Rattle.map_defs.specs.Rows.{made_max};
 ghost use Rattle.cell_edit.specs.Stars.{star_of};
@@ -64,5 +64,13 @@ impl Stars {
             Ok(place) => Dart::new(self.made + 1 + place as u32).unwrap(),
             Err(_) => unreachable!(),
         }
+    }
+    /// The new dart of the dart at a place.
+    pub fn star_at(&self, place: usize) -> Dart
+        requires { place < length self.now.keys }
+        ensures star { result ≡ star_of self.now (slice_index self.now.keys place) }
+        ensures above { self.now.made < result }
+    {
+        Dart::new(self.made + 1 + place as u32).unwrap()
     }
 }

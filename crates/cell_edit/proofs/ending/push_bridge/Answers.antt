@@ -18,20 +18,20 @@ returns-then-is_among g c =
     bridge-inner g.K.Kind.kind (links_of c.args.links.now.rows) c.args.link c.args.beside c.args.darts.now c.args.dart c.args.changes.now.items
     (subst (Contains c.args.darts.now) c.in-Some.ensures.linked (c.is_among.ensures.0 c.if-is_among.true))
 
-pub first_outside-end-requires : goal.first_outside-end-requires
-first_outside-end-requires g c =
+pub first_outside_from_within-end-requires : goal.first_outside_from_within-end-requires
+first_outside_from_within-end-requires g c =
     let linked : links_of c.args.links.now.rows c.args.link c.args.dart ≢ 0 = λ none. false≢true (sym (c.in-Some.ensures.free.1 none)) in
     let back : links_of c.args.links.now.rows c.args.link c.in-Some.remaining ≡ c.args.dart =
     beyond-back g.K.Kind.kind (links_of c.args.links.now.rows) c.requires.laws c.args.link c.args.dart c.in-Some.remaining c.requires.can.own c.in-Some.ensures.linked (λ none. linked (sym c.in-Some.ensures.linked ∙ none)) in
     let darts : Contains c.args.darts.now 0 → ⊥ = λ has. live-dart g.K.Kind.kind g.row.DIM c.args.links.now.rows c.in-Some.ensures.sound 0 (All-contains (λ (d : ℕ). IsLive c.args.links.now.rows d) c.args.darts.now 0 c.requires.can.live has) refl in
     let e = c.requires.can.ends c.in-Some.remaining (λ has. false≢true (sym c.if-is_among.false ∙ c.is_among.ensures.1 has)) in
-    (lit< tt, (c.requires.can.ascending, (darts, (e.0, subst (λ x. LeadsAcross g.K.Kind.kind (links_of c.args.links.now.rows) c.args.link c.args.beside c.args.darts.now x e.0) back e.1))))
+    (lit< tt, (c.requires.can.ascending, (darts, (c.requires.key, (e.0, subst (λ x. LeadsAcross g.K.Kind.kind (links_of c.args.links.now.rows) c.args.link c.args.beside c.args.darts.now x e.0) back e.1)))))
 
 pub returns : goal.returns
 returns g c =
     let linked : links_of c.args.links.now.rows c.args.link c.args.dart ≢ 0 = λ none. false≢true (sym (c.in-Some.ensures.free.1 none)) in
     let some : c.in-Some.remaining ≢ 0 = λ none. linked (sym c.in-Some.ensures.linked ∙ none) in
-    bridge-push g.K.Kind.kind (links_of c.args.links.now.rows) c.args.link c.args.beside c.args.darts.now c.args.dart c.in-Some.remaining c.first_outside-end.result c.landing.result c.args.changes.now.items c.push.new.self.items
+    bridge-push g.K.Kind.kind (links_of c.args.links.now.rows) c.args.link c.args.beside c.args.darts.now c.args.dart c.in-Some.remaining c.first_outside_from_within-end.result c.landing.result c.args.changes.now.items c.push.new.self.items
     c.in-Some.ensures.linked some (λ has. false≢true (sym c.if-is_among.false ∙ c.is_among.ensures.1 has))
     (beyond-back g.K.Kind.kind (links_of c.args.links.now.rows) c.requires.laws c.args.link c.args.dart c.in-Some.remaining c.requires.can.own c.in-Some.ensures.linked some)
-    c.first_outside-end.ensures c.landing.ensures (rw c.number.ensures.same at c.in_ok-push.ensures.items)
+    c.first_outside_from_within-end.ensures c.landing.ensures (rw c.number.ensures.same at c.in_ok-push.ensures.items)

@@ -4,5 +4,5 @@ use Rattle.cell_edit.specs.Stars.{star_of}
 use Rattle.cell_edit.specs.Writing.{WritesEntries, IsCarriedEntry}
 use Rattle.cell_edit.proofs.insertion.carried_changes.Given as goal
 
-abbrev pub invariant-loop-dart : goal.invariant-loop-dart
-invariant-loop-dart g l = WritesEntries (links_of l.links.rows) (IsCarriedEntry g.K.Kind.kind (links_of l.links.rows) l.link (star_of l.stars) (g.row.DIM + 1) (take l.dart-index l.stars.keys)) l.changes.items
+abbrev pub invariant-loop-place : goal.invariant-loop-place
+invariant-loop-place g l = WritesEntries (links_of l.links.rows) (IsCarriedEntry g.K.Kind.kind (links_of l.links.rows) l.link (star_of l.stars) (g.row.DIM + 1) (take l.place l.stars.keys)) l.changes.items

@@ -10,10 +10,10 @@ use Rattle.cell_edit.proofs.insertion.push_dart.Goals as goal
 pub returns : goal.returns
 returns g c =
     let low : c.args.dart ≤ made c.args.links.now.rows = live-made c.args.links.now.rows c.args.dart (All-contains (λ (d : ℕ). IsLive c.args.links.now.rows d) c.args.stars.now.keys c.args.dart c.requires.ready.live c.requires.key) in
-    let above : c.args.stars.now.made < star_of c.args.stars.now c.args.dart = rw c.star.ensures.star at c.star.ensures.above in
+    let above : c.args.stars.now.made < star_of c.args.stars.now c.args.dart = rw c.requires.new at c.requires.above in
     let apart : c.args.dart ≢ star_of c.args.stars.now c.args.dart = λ e. omega (arith, c.requires.ready.made) in
     let grown : c.push.new.self.items ≡ c.args.changes.now.items ++ record { dart = c.args.dart; link = c.args.link; old = links_of c.args.links.now.rows c.args.link c.args.dart; new = star_of c.args.stars.now c.args.dart } ∷ [] =
-    rw (c.number_at.ensures, c.number.ensures.same, c.star.ensures.star) at c.in_ok-push.ensures.items in
+    rw (c.number_at.ensures, c.number.ensures.same, c.requires.new) at c.in_ok-push.ensures.items in
     on_ok_weaker c.push_links.result
     (dart-pushed g.K.Kind.kind (links_of c.args.links.now.rows) c.args.link (star_of c.args.stars.now) c.args.dart (g.row.DIM + 1) c.args.changes.now.items c.push_links.new.changes.items apart)
     (rw grown at c.push_links.ensures)

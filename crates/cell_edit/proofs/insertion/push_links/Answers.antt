@@ -14,9 +14,9 @@ loop-at-preserved-in_default g c =
 pub loop-at-preserved : goal.loop-at-preserved
 loop-at-preserved g c =
     let linked : c.in-Some.other ≢ 0 = λ none. false≢true (sym (c.in-Some.ensures.free.1 (sym c.in-Some.ensures.linked ∙ none))) in
-    let free = unmade-free c.args.links.now.rows c.loop-at.at c.star-new.result (omega (arith, c.requires.ready.made, c.star-new.ensures.above)) in
+    let free = unmade-free c.args.links.now.rows c.loop-at.at c.args.new (omega (arith, c.requires.ready.made, c.requires.above)) in
     let grown : c.push.new.self.items ≡ c.loop-at.changes.items ++ record { dart = star_of c.args.stars.now c.args.dart; link = c.loop-at.at; old = 0; new = c.in-Some.other } ∷ [] =
-    rw (c.joining.ensures, c.star-new.ensures.star) at c.in_ok-push.ensures.items in
+    rw (c.joining.ensures, c.requires.new) at c.in_ok-push.ensures.items in
     rw grown
     (links-push g.K.Kind.kind (links_of c.args.links.now.rows) c.args.link (star_of c.args.stars.now) c.args.dart c.loop-at.at c.in-Some.other c.args.changes.now.items c.loop-at.changes.items
-    c.in-Some.ensures.linked linked (rw c.star-new.ensures.star at free) c.loop-at.invariant)
+    c.in-Some.ensures.linked linked (rw c.requires.new at free) c.loop-at.invariant)

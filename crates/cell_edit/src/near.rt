@@ -1,0 +1,43 @@
+ghost use Rattle.std.specs.Prelude.{◌≤◌, IsTrue};
+ghost use Rattle.map_defs.specs.Rows.{links_of};
+ghost use Rattle.map_defs.specs.Insertion.{AreOnOneSide};
+
+use link_rows::Links;
+use map_kind::{Dart, Kind};
+
+/// How many times a walk goes along both its links before it is given up.
+const TURNS: usize = 16;
+
+/// Whether few steps around a face, along links `first` and `second` in turn, lead from one dart to another. A yes says that
+/// the two lie on one side of the face; a no says nothing. It takes no memory, and costs so few steps however large the face.
+pub fn is_near<K: Kind, const DIM: usize>(
+    links: &Links<K, DIM>,
+    first: usize,
+    second: usize,
+    one: Dart,
+    other: Dart,
+) -> bool
+    requires first { first ≤ 1 }
+    requires second { second ≤ 1 }
+    ensures { IsTrue result → AreOnOneSide (links_of links.now.rows) one other }
+{
+    // A map has links 0 to 2 at least.
+    links.see_sound();
+    let mut at = one;
+    for _turn in 0..TURNS {
+        let Some(between) = links.link(at, first) else {
+            return false;
+        };
+        let Some(next) = links.link(between, second) else {
+            return between == other;
+        };
+        if between == other || next == other {
+            return true;
+        }
+        if next == one {
+            return false;
+        }
+        at = next;
+    }
+    false
+}
