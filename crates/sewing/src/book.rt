@@ -106,8 +106,24 @@ impl Book {
         if self.partner(turned.x, turned.t).is_some() {
             return Err(PairFault::Unpaired);
         }
-        self.put(triple)?;
-        self.put(turned)?;
+        self.put_two(triple, turned)?;
+        Ok(())
+    }
+
+    /// Adds two triples whose darts have no partners yet at their links, and which are not of one dart and link.
+    fn put_two(&mut self, one: Triple, other: Triple) -> Result<(), AllocError>
+        requires one { (y : ℕ) → Lists self.old one.x y one.t → ⊥ }
+        requires other { (y : ℕ) → Lists (self.old ++ one ∷ []) other.x y other.t → ⊥ }
+        ensures { OnOk result (self.new ≡ self.old ++ one ∷ other ∷ []) }
+    {
+        self.triples.reserve(2)?;
+        if self.triples.len() + 1 < FEW {
+            self.triples.push_reserved(one);
+            self.triples.push_reserved(other);
+            return Ok(());
+        }
+        self.put(one)?;
+        self.put(other)?;
         Ok(())
     }
 
@@ -141,9 +157,18 @@ impl Book {
     fn place(&self, x: Dart, t: usize) -> Option<usize>
         ensures { result ≡ position (is_of x t) (take 16 self.now) }
     {
-        self.triples
+        self.first_few()
             .iter()
-            .take(FEW)
             .position(|triple| triple.x == x && triple.t == t)
+    }
+
+    /// The first few triples, or all where there are no more.
+    fn first_few(&self) -> &[Triple]
+        ensures { result.now ≡ take 16 self.now }
+    {
+        if self.triples.len() <= FEW {
+            return &self.triples;
+        }
+        &self.triples[..FEW]
     }
 }

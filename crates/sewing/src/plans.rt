@@ -1,4 +1,4 @@
-ghost use Rattle.std.specs.Prelude.{◌≡◌, ◌≢◌, ℕ, ◌+◌, ◌≤◌, ◌<◌, ◌↔◌, ◌⊎◌, [], Contains, IsTrue, IfOk, IfErr, OnOk, IsErrOf, map};
+ghost use Rattle.std.specs.Prelude.{◌≡◌, ◌≢◌, ℕ, ◌+◌, ◌≤◌, ◌<◌, ◌↔◌, ◌⊎◌, [], Contains, IsTrue, IfOk, IfErr, OnOk, IsErrOf, map, take, length};
 ghost use Rattle.map_defs.specs.Kind.{inverse, IsDistant};
 ghost use Rattle.map_defs.specs.Rows.{links_of, IsLive, IsSound};
 ghost use Rattle.map_defs.specs.Laws.{Laws};
@@ -163,29 +163,32 @@ fn sewn_pairs<K: Kind, const DIM: usize>(
     ensures low { 2 ≤ DIM }
     ensures sound { IsSound K.kind DIM links.now.rows }
 {
-    let distant = distant_links::<K>(alloc, links.dimension(), link)?;
+    let (distant, count) = distant_links::<K>(links.dimension(), link);
     let seed = Triple {
         x: one,
         y: other,
         t: link,
     };
-    pair(alloc, links, &[seed], &distant)
+    pair(alloc, links, &[seed], &distant[..count])
 }
 
-/// The links from 0 to `dim` that are distant from a link.
-fn distant_links<K: Kind>(alloc: Global, dim: usize, link: usize) -> Result<Vec<usize>, AllocError>
+/// The links from 0 to `dim` that are distant from a link: the first of the list, and how many they are.
+fn distant_links<K: Kind>(dim: usize, link: usize) -> ([usize; 9], usize)
     requires { dim ≤ 8 }
-    ensures { IfOk result (λ distant. (j : ℕ)
-        → Contains distant.items j ↔ ((j ≤ dim) × IsDistant K.kind link j)) }
+    ensures few { result.1 ≤ 9 }
+    ensures long { length result.0 ≡ 9 }
+    ensures distant { (j : ℕ) → Contains (take result.1 result.0) j ↔ ((j ≤ dim) × IsDistant K.kind link j) }
 {
-    let mut distant = Vec::new(alloc);
+    let mut distant = [0; 9];
+    let mut count = 0;
     for other in 0..dim + 1 {
         if !K::distant(link, other) {
             continue;
         }
-        distant.push(other)?;
+        distant[count] = other;
+        count += 1;
     }
-    Ok(distant)
+    (distant, count)
 }
 
 /// The changes by which pairs are joined that are free.

@@ -20,8 +20,8 @@ returns-then-is_some-clause-unpaired g c = λ _.
     let some = some_of c.partner.result (sym c.is_some.ensures ∙ c.if-is_some.true) in
     inr (inr (some.0, (found some.0).0 some.1, c.requires c.args.triple.y))
 
-pub put-requires-2 : goal.put-requires-2
-put-requires-2 g c = λ y has. fresh y (rw (c.in_ok-put.ensures, c.turned-turned.ensures) at has)
+pub put_two-requires-clause-other : goal.put_two-requires-clause-other
+put_two-requires-clause-other g c = λ y has. fresh y (rw c.turned-turned.ensures at has)
   where
     found : (y : ℕ) → (c.partner.result ≡ Some y) ↔ Lists c.args.self.now c.args.triple.y y (inverse g.K.Kind.kind c.args.triple.t)
     found = rw (ap (λ (q : Triple). q.x) (c.turned.view_is ∙ c.turned-turned.ensures), ap (λ (q : Triple). q.t) (c.turned.view_is ∙ c.turned-turned.ensures)) at c.partner.ensures
