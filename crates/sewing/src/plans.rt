@@ -196,7 +196,11 @@ fn joining(alloc: Global, pairs: &[Triple]) -> Result<Vec<Change>, AllocError>
     ensures { IfOk result (λ changes. changes.items
         ≡ map (λ pair. record { dart = pair.x; link = pair.t; old = 0; new = pair.y }) pairs.now) }
 {
-    pairs.iter().map(|pair| pair.joining()).collect(alloc)
+    let mut changes = Vec::with_capacity(alloc, pairs.len())?;
+    for pair in pairs {
+        changes.push_reserved(pair.joining());
+    }
+    Ok(changes)
 }
 
 /// The changes by which pairs are parted that are joined.
@@ -204,5 +208,9 @@ fn parting(alloc: Global, pairs: &[Triple]) -> Result<Vec<Change>, AllocError>
     ensures { IfOk result (λ changes. changes.items
         ≡ map (λ pair. record { dart = pair.x; link = pair.t; old = pair.y; new = 0 }) pairs.now) }
 {
-    pairs.iter().map(|pair| pair.parting()).collect(alloc)
+    let mut changes = Vec::with_capacity(alloc, pairs.len())?;
+    for pair in pairs {
+        changes.push_reserved(pair.parting());
+    }
+    Ok(changes)
 }
