@@ -28,7 +28,8 @@ pub(crate) fn open_darts<K: Kind, const DIM: usize>(
     Ok(darts)
 }
 
-/// Lists a dart if it is live and free at a link.
+/// Lists a dart if it is live and free at a link. The link is looked at first: most often it is not free, and then no look at
+/// who lives is needed.
 fn take_open<K: Kind, const DIM: usize>(
     links: &Links<K, DIM>,
     link: usize,
@@ -39,10 +40,11 @@ fn take_open<K: Kind, const DIM: usize>(
     requires before { ListsOpen links.now.rows link dart darts.old.items }
     ensures { OnOk result (ListsOpen links.now.rows link (dart + 1) darts.new.items) }
 {
-    if !links.is_live(dart) {
+    let other = links.number_at(dart, link);
+    if other != 0 {
         return Ok(());
     }
-    if !links.is_free(dart, link) {
+    if !links.is_live(dart) {
         return Ok(());
     }
     darts.push(dart)?;
