@@ -1,5 +1,5 @@
--- Edits that only join, and the darts from which a word leads to a dart with another id.
-use Rattle.std.proofs.Common.{ℕ, ◌≡◌, ◌≢◌, ◌⊎◌, ◌<◌, List, length, get_or, Contains, Option, Some, None, inl, inr, refl, sym, ap, ◌∙◌, arith}
+-- Edits that only join, and the cells that the darts spare which an edit changed.
+use Rattle.std.proofs.Common.{ℕ, ◌≡◌, ◌≢◌, ◌⊎◌, ◌<◌, List, length, get_or, Contains, Bool, true, false, IsTrue, IsSome, Option, Some, None, inl, inr, refl, sym, ap, ◌∙◌, arith}
 use Rattle.map_defs.specs.Kind.{Kind}
 use Rattle.map_defs.specs.Links.{Links}
 use Rattle.map_defs.specs.LinkWords.{LinkWord, through, through_second, IsWithin}
@@ -7,12 +7,18 @@ use Rattle.map_defs.specs.Rows.{Rows, IsSound, links_of, entry_of}
 use Rattle.link_laws.proofs.RowFacts.{rows_dimension}
 use Rattle.valued_map.proofs.Rerouting.{word-within}
 use Rattle.map_defs.specs.Edits.{Change, Edit, IsLed}
+use Rattle.map_defs.specs.Laws.{Laws}
+use Rattle.map_defs.specs.Values.{Rule}
+use Rattle.store_defs.specs.Stores.{Store}
 use Rattle.store_defs.specs.Labelings.{Labeling}
-use Rattle.store_defs.specs.Groups.{darts_in}
+use Rattle.store_defs.specs.Groups.{darts_in, rule_at}
 use Rattle.edit_laws.proofs.RowWrites.{live-within}
-use Rattle.label_laws.specs.Touching.{OnlyJoins, LeadsApart}
+use Rattle.label_laws.specs.Maps.{IsStoredMap}
+use Rattle.label_laws.specs.Touching.{Spares, OnlyJoins}
+use Rattle.label_laws.proofs.Sparing.{rerouted-spare, joined-spare}
+use Rattle.std.proofs.lemmas.Bool.{false≢true}
+use Rattle.valued_map.specs.Changing.{IsChangedIn}
 use Rattle.valued_map.proofs.Adding.{change_at, no_change, find-link, same-else, lived, long}
-use Rattle.valued_map.proofs.DimLists.{AreListedBelow}
 
 -- an edit without births, whose changes are of free links, only joins
 pub only-joins : (k : Kind) (n : ℕ) (e : Edit) (old new : Rows) → IsLed k n e old new → e.births ≡ 0 → ((j : ℕ) → j < length e.changes → (change_at e.changes j).old ≡ 0) → OnlyJoins old new
@@ -40,6 +46,16 @@ leading-within k n rows sound w x leads =
     stops None = refl
     stops (Some j) = refl
 
--- Of the touched darts of each of the first dimensions just some are listed, those among them from which a word leads apart.
-abbrev pub AreApartBelow : Kind → Rows → Labeling → List (List ℕ) → ℕ → List (List ℕ) → Type 0
-AreApartBelow k rows labels touched = AreListedBelow (λ i. Contains (darts_in touched i)) (λ i x. Contains (darts_in touched i) x × LeadsApart k i rows labels x)
+-- The listed darts spare the other cells: where the edit only joins, since the rerouted darts from which a word leads apart are
+-- listed, and else since all rerouted darts are.
+pub changed-spare : (k : Kind) (n : ℕ) (e : Edit) (rows : Rows) (rules : List (Option Rule)) (labels : Labeling) (joins : Bool) (lists : List (List ℕ))
+    → (IsTrue joins → (kind : Kind) (dim : ℕ) (old new : Rows) → IsLed kind dim e old new → OnlyJoins old new)
+    → ((i x : ℕ) → IsChangedIn k n e rows rules labels joins i x → Contains (darts_in lists i) x)
+    → (old : Rows) (pool : Store) → IsLed k n e old rows → IsStoredMap k n old labels pool rules → Laws k (links_of rows) → (i : ℕ) → IsSome (rule_at rules i)
+    → Spares k i old rows labels (Contains (darts_in lists i))
+changed-spare k n e rows rules labels true lists join all old pool led stored laws i ruled =
+    joined-spare k i old rows stored.laws laws labels pool stored.stored (join refl k n old rows led) (Contains (darts_in lists i))
+    (λ x rerouted apart. all i x ((old, led, stored.laws, laws, rerouted), ruled, λ _. apart))
+changed-spare k n e rows rules labels false lists join all old pool led stored laws i ruled =
+    rerouted-spare k i old rows stored.laws laws labels pool stored.stored (Contains (darts_in lists i))
+    (λ x rerouted. all i x ((old, led, stored.laws, laws, rerouted), ruled, λ yes. absurd (false≢true yes)))

@@ -1,5 +1,5 @@
 -- Which darts an edit touches in a dimension, by its changes.
-use Rattle.std.proofs.Common.{ℕ, ◌≡◌, ◌≢◌, ◌⊎◌, ◌+◌, ◌<◌, ◌≤◌, inl, inr, refl, sym, ap, subst, ◌∙◌, List, length, get_or, take, Option, Some, None, Contains, IsSome, arith}
+use Rattle.std.proofs.Common.{ℕ, ◌≡◌, ◌≢◌, ◌⊎◌, ◌+◌, ◌<◌, ◌≤◌, inl, inr, refl, sym, ap, subst, ◌∙◌, List, length, get_or, take, Option, Some, None, Bool, Contains, arith}
 use Rattle.std.specs.Prelude.{IfSome}
 use Rattle.std.proofs.lemmas.Bool.{cases_eq, cases_lt}
 use Rattle.std.proofs.lemmas.List.{get_or_default}
@@ -13,9 +13,9 @@ use Rattle.edit_laws.proofs.RowWrites.{live-within}
 use Rattle.edit_laws.proofs.EditLinks.{links-at}
 use Rattle.link_laws.proofs.RowFacts.{rows_dimension, rows_lead_to_live}
 use Rattle.map_defs.specs.Values.{Rule}
-use Rattle.store_defs.specs.Groups.{rule_at}
+use Rattle.store_defs.specs.Labelings.{Labeling}
 use Rattle.label_laws.specs.Touching.{IsReroutedDart}
-use Rattle.valued_map.specs.Changing.{IsReroutedAt}
+use Rattle.valued_map.specs.Changing.{IsReroutedAt, IsFollowed, IsReroutedFrom, IsChangedIn}
 use Rattle.valued_map.proofs.DimLists.{AreListedBelow}
 use Rattle.valued_map.proofs.Heads.{among-more}
 use Rattle.valued_map.proofs.LiveDarts.{zero-dead}
@@ -174,10 +174,20 @@ module _ (k : Kind) (n : ℕ) (e : Edit) (old new : Rows) (led : IsLed k n e old
   pub touched-are-rerouted : (x : ℕ) → IsReroutedDart k i old new x → Goal x
   touched-are-rerouted x (before, after, (v, cell, apart)) = rerouted-by x before after v cell apart
 
--- some edit led here from lawful links, and rerouted x along a word of the i-cells, where dimension i has a rule
-abbrev pub IsTouchedIn : Kind → ℕ → Edit → Rows → List (Option Rule) → ℕ → ℕ → Type 0
-IsTouchedIn k n e rows rules i x = (old : Rows) × IsLed k n e old rows × Laws k (links_of old) × Laws k (links_of rows) × IsSome (rule_at rules i) × IsReroutedDart k i old rows x
+-- a change that reroutes a dart is of a link that a word of the cells follows
+followed-at : (k : Kind) (n : ℕ) (e : Edit) (rows : Rows) (i : ℕ) (c : Change) (x : ℕ) → IsReroutedOf k n e rows i c x → IsFollowed k i c.link
+followed-at k n e rows i c x (stays, live, (w, cell, inl (old, led, (link, dart, other)))) = (w, cell.0, inl link)
+followed-at k n e rows i c x (stays, live, (w, cell, inr (old, led, (link, now, was)))) = (w, cell.0, inr link)
 
--- the darts touched in each of the first dimensions, by the lists of these
-abbrev pub AreTouchedBelow : Kind → ℕ → Edit → Rows → List (Option Rule) → ℕ → List (List ℕ) → Type 0
-AreTouchedBelow k n e rows rules = AreListedBelow (λ i. IsLive rows) (IsTouchedIn k n e rows rules)
+-- where no change of an older dart that is live is of such a link, no dart is rerouted
+pub none-rerouted : (k : Kind) (n : ℕ) (e : Edit) (rows : Rows) (i : ℕ) → IsSound k n rows → (older : ℕ) → older + e.births ≡ made rows
+    → ((c : Change) → Contains e.changes c → c.dart ≤ older → IsLive rows c.dart → IsFollowed k i c.link → ⊥) → (x : ℕ) → IsReroutedFrom k n e rows i x → ⊥
+none-rerouted k n e rows i sound older made-is none x (old, led, w, wn, rerouted) =
+    let a : AreReroutedBelow k n e rows i (length e.changes) x = touched-are-rerouted k n e old rows led sound w wn i x rerouted in
+    let c : Change = change_at e.changes a.0 in
+    let stays : c.dart + e.births ≤ made rows = a.2.0 in
+    none c (a.0, a.1, get_or_default e.changes a.0 c no_change a.1) (omega (arith, stays, made-is)) a.2.1 (followed-at k n e rows i c x a.2)
+
+-- the darts changed in each of the first dimensions, by the lists of these
+abbrev pub AreChangedBelow : Kind → ℕ → Edit → Rows → List (Option Rule) → Labeling → Bool → ℕ → List (List ℕ) → Type 0
+AreChangedBelow k n e rows rules labels joins = AreListedBelow (λ i. IsLive rows) (IsChangedIn k n e rows rules labels joins)

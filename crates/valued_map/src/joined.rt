@@ -1,8 +1,8 @@
 //! Cells that need no look, since an edit only joins, and what it joins in them has one id already.
-ghost use Rattle.std.specs.Prelude.{◌≡◌, ◌≢◌, ℕ, ◌+◌, ◌≤◌, nat_eq, length, Contains, IsTrue, IsSome, IfOk};
+ghost use Rattle.std.specs.Prelude.{◌≡◌, ◌≢◌, ◌↔◌, ℕ, ◌+◌, ◌≤◌, nat_eq, length, Contains, IsTrue, IsSome, IfOk};
 ghost use Rattle.std.specs.List.{list_all};
 ghost use Rattle.map_defs.specs.Kind.{Kind as MapKind};
-ghost use Rattle.map_defs.specs.LinkWords.{LinkWord as MapWord, through, IsWithin};
+ghost use Rattle.map_defs.specs.LinkWords.{LinkWord as MapWord, through, IsCellWord, IsWithin};
 ghost use Rattle.map_defs.specs.Rows.{Rows, IsLive, IsSound, links_of, made};
 ghost use Rattle.map_defs.specs.Laws.{Laws};
 ghost use Rattle.map_defs.specs.Edits.{IsLed};
@@ -11,8 +11,11 @@ ghost use Rattle.store_defs.specs.Labelings.{id_of};
 ghost use Rattle.store_defs.specs.Groups.{darts_in, rule_at};
 ghost use Rattle.label_laws.specs.Maps.{IsStoredMap};
 ghost use Rattle.label_laws.specs.Touching.{Spares, OnlyJoins, LeadsApart};
+ghost use Rattle.valued_map.specs.Changing.{IsReroutedFrom, IsChangedIn};
 
-use crate::touched::touched_darts;
+use crate::passing::may_touch;
+use crate::rules::has_rule;
+use crate::touched::touched_in;
 use attr_pool::Labels;
 use cell_walk::follow;
 use link_rows::{Change, Edit, Links};
@@ -36,12 +39,82 @@ pub(crate) fn changed_darts<K: Kind, const DIM: usize>(
         → (i : ℕ) → IsSome (rule_at rules.now i)
         → Spares K.kind i old links.now.rows labels.now (Contains (darts_in changed i))) }
 {
-    let touched = touched_darts(alloc, links, rules, edit)?;
-    if only_joins(edit) {
-        leading_apart(alloc, links, labels, &touched)
-    } else {
-        Ok(touched)
+    let joins = only_joins(edit);
+    changed_by_dim(alloc, links, labels, rules, edit, joins)
+}
+
+/// The darts that an edit touched in each dimension with a rule; where it only joins, those of them from which some word leads
+/// to a dart with another id.
+fn changed_by_dim<K: Kind, const DIM: usize>(
+    alloc: Global,
+    links: &Links<K, DIM>,
+    labels: &Labels<DIM>,
+    rules: &RuleRow,
+    edit: &Edit,
+    joins: bool,
+) -> Result<TouchedDarts, AllocError>
+    requires births { edit.now.births ≤ made links.now.rows }
+    requires rules { length rules.now ≡ DIM + 1 }
+    ensures live { IfOk result (λ changed. (i x : ℕ) → Contains (darts_in changed i) x → IsLive links.now.rows x) }
+    ensures all { IfOk result (λ changed. (i x : ℕ)
+        → IsChangedIn K.kind DIM edit.now links.now.rows rules.now labels.now joins i x → Contains (darts_in changed i) x) }
+{
+    let mut by_dim = Vec::new(alloc);
+    for dim in 0..links.dimension() + 1 {
+        let darts = ruled_darts(alloc, links, labels, rules, edit, joins, dim)?;
+        by_dim.push(darts)?;
     }
+    Ok(TouchedDarts { by_dim })
+}
+
+/// The darts that an edit changed in a dimension; none where it has no rule.
+fn ruled_darts<K: Kind, const DIM: usize>(
+    alloc: Global,
+    links: &Links<K, DIM>,
+    labels: &Labels<DIM>,
+    rules: &RuleRow,
+    edit: &Edit,
+    joins: bool,
+    dim: usize,
+) -> Result<Vec<Dart>, AllocError>
+    requires births { edit.now.births ≤ made links.now.rows }
+    requires dim { dim ≤ DIM }
+    ensures live { IfOk result (λ changed. (x : ℕ) → Contains changed.items x → IsLive links.now.rows x) }
+    ensures all { IfOk result (λ changed. (x : ℕ)
+        → IsChangedIn K.kind DIM edit.now links.now.rows rules.now labels.now joins dim x → Contains changed.items x) }
+{
+    if !has_rule(rules, dim) {
+        return Ok(Vec::new(alloc));
+    }
+    changed_in(alloc, links, labels, edit, joins, dim)
+}
+
+/// The darts that an edit changed in a dimension. Where no change is of a link that words of its cells follow, no list is made.
+fn changed_in<K: Kind, const DIM: usize>(
+    alloc: Global,
+    links: &Links<K, DIM>,
+    labels: &Labels<DIM>,
+    edit: &Edit,
+    joins: bool,
+    dim: usize,
+) -> Result<Vec<Dart>, AllocError>
+    requires births { edit.now.births ≤ made links.now.rows }
+    requires dim { dim ≤ DIM }
+    ensures live { IfOk result (λ changed. (x : ℕ) → Contains changed.items x → IsLive links.now.rows x) }
+    ensures all { IfOk result (λ changed. (x : ℕ)
+        → IsReroutedFrom K.kind DIM edit.now links.now.rows dim x
+        → (IsTrue joins → LeadsApart K.kind dim links.now.rows labels.now x) → Contains changed.items x) }
+{
+    let older = links.made() - edit.births;
+    if !may_touch(links, &edit.changes, older, dim) {
+        return Ok(Vec::new(alloc));
+    }
+    let words = K::words(alloc, links.dimension(), dim)?;
+    let touched = touched_in(alloc, links, edit, older, dim, &words)?;
+    if !joins {
+        return Ok(touched);
+    }
+    apart_in(alloc, links, labels, dim, &words, &touched)
 }
 
 /// Whether an edit only joins: no dart is born, and each link that it changes was free.
@@ -58,45 +131,24 @@ fn were_free(changes: &[Change]) -> bool
     changes.iter().all(|change| change.old == 0)
 }
 
-/// Those of the touched darts from which some word leads to a dart with another id.
-fn leading_apart<K: Kind, const DIM: usize>(
-    alloc: Global,
-    links: &Links<K, DIM>,
-    labels: &Labels<DIM>,
-    touched: &TouchedDarts,
-) -> Result<TouchedDarts, AllocError>
-    ensures only { IfOk result (λ apart. (i x : ℕ) → Contains (darts_in apart i) x → Contains (darts_in touched.now i) x) }
-    ensures all { IfOk result (λ apart. (i x : ℕ) → i ≤ DIM → Contains (darts_in touched.now i) x
-        → LeadsApart K.kind i links.now.rows labels.now x → Contains (darts_in apart i) x) }
-{
-    let mut by_dim = Vec::new(alloc);
-    for dim in 0..links.dimension() + 1 {
-        let darts = apart_in(alloc, links, labels, dim, touched.in_dim(dim))?;
-        by_dim.push(darts)?;
-    }
-    Ok(TouchedDarts { by_dim })
-}
-
 /// Those of these darts from which some word of a dimension's cells leads to a dart with another id.
 fn apart_in<K: Kind, const DIM: usize>(
     alloc: Global,
     links: &Links<K, DIM>,
     labels: &Labels<DIM>,
     dim: usize,
+    words: &[LinkWord],
     darts: &[Dart],
 ) -> Result<Vec<Dart>, AllocError>
-    requires dim { dim ≤ DIM }
+    requires sound { IsSound K.kind DIM links.now.rows }
+    requires words { (w : MapWord) → Contains words.now w ↔ (IsCellWord K.kind dim w × IsWithin DIM w) }
     ensures only { IfOk result (λ apart. (x : ℕ) → Contains apart.items x → Contains darts.now x) }
     ensures all { IfOk result (λ apart. (x : ℕ) → Contains darts.now x → LeadsApart K.kind dim links.now.rows labels.now x
         → Contains apart.items x) }
 {
     let mut apart = Vec::new(alloc);
-    if darts.is_empty() {
-        return Ok(apart);
-    }
-    let words = K::words(alloc, links.dimension(), dim)?;
     for dart in darts {
-        if !leads_apart(links, labels, dim, &words, *dart) {
+        if !leads_apart(links, labels, dim, words, *dart) {
             continue;
         }
         apart.push(*dart)?;

@@ -15,6 +15,7 @@ mod load;
 mod map;
 mod near;
 mod off;
+mod passing;
 mod restore;
 mod restored_cells;
 mod rules;

@@ -1,91 +1,41 @@
 //! Which darts an edit touches.
-ghost use Rattle.std.specs.Prelude.{◌≡◌, ◌≢◌, ℕ, ◌+◌, ◌≤◌, ◌<◌, ◌↔◌, length, Contains, IsTrue, IsSome, IfOk, IfSome, IsNone, OnOk};
+ghost use Rattle.std.specs.Prelude.{◌≡◌, ◌≢◌, ℕ, ◌+◌, ◌≤◌, ◌<◌, ◌↔◌, Contains, IsTrue, IfOk, IfSome, IsNone, OnOk};
 ghost use Rattle.map_defs.specs.Kind.{inverse};
 ghost use Rattle.map_defs.specs.LinkWords.{LinkWord as MapWord, through_second, IsCellWord, IsWithin};
 ghost use Rattle.map_defs.specs.Rows.{Rows, IsLive, IsSound, links_of, made};
-ghost use Rattle.map_defs.specs.Laws.{Laws};
 ghost use Rattle.map_defs.specs.Edits.{Change as LinkChange, IsLed};
-ghost use Rattle.label_laws.specs.Touching.{IsReroutedDart};
-ghost use Rattle.store_defs.specs.Groups.{darts_in, rule_at};
-ghost use Rattle.valued_map.specs.Changing.{AreAdded, IsFirstRerouted, IsThenRerouted, IsReroutedAt};
+ghost use Rattle.valued_map.specs.Changing.{AreAdded, IsReroutedFrom, IsFirstRerouted, IsThenRerouted, IsReroutedAt};
 
-use crate::rules::has_rule;
 use link_rows::{Change, Edit, Links};
 use map_kind::{Dart, Kind, LinkWord};
 use std::alloc::{AllocError, Global};
-use transport::{RuleRow, TouchedDarts};
 
 /// How many changes of an edit are looked through for the link before it. Where an edit has more, each dart that a change may
 /// have rerouted counts as touched, so that the cost stays linear in the changes.
 const FEW: usize = 64;
 
-/// The darts that an edit touched in each dimension with a rule. The links are those after the edit.
-pub(crate) fn touched_darts<K: Kind, const DIM: usize>(
+/// The darts that an edit touched in a dimension, whose words these are: those that lived before and from which some word of
+/// the dimension's cells leads elsewhere than before. Some may stand there more than once. A dart that was born is in the cell
+/// of such a dart, or in a cell of born darts alone, which has no value. The darts up to the number `older` were made before
+/// the edit.
+pub(crate) fn touched_in<K: Kind, const DIM: usize>(
     alloc: Global,
     links: &Links<K, DIM>,
-    rules: &RuleRow,
     edit: &Edit,
-) -> Result<TouchedDarts, AllocError>
-    requires births { edit.now.births ≤ made links.now.rows }
-    requires rules { length rules.now ≡ DIM + 1 }
-    ensures live { IfOk result (λ touched. (i x : ℕ) → Contains (darts_in touched i) x → IsLive links.now.rows x) }
-    ensures all { IfOk result (λ touched. (old : Rows) → IsLed K.kind DIM edit.now old links.now.rows → Laws K.kind (links_of old)
-        → Laws K.kind (links_of links.now.rows) → (i x : ℕ) → IsSome (rule_at rules.now i)
-        → IsReroutedDart K.kind i old links.now.rows x
-        → Contains (darts_in touched i) x) }
-{
-    let mut by_dim = Vec::new(alloc);
-    for dim in 0..links.dimension() + 1 {
-        let darts = ruled_darts(alloc, links, rules, edit, dim)?;
-        by_dim.push(darts)?;
-    }
-    Ok(TouchedDarts { by_dim })
-}
-
-/// The darts that an edit touched in a dimension; none where it has no rule.
-fn ruled_darts<K: Kind, const DIM: usize>(
-    alloc: Global,
-    links: &Links<K, DIM>,
-    rules: &RuleRow,
-    edit: &Edit,
+    older: u32,
     dim: usize,
+    words: &[LinkWord],
 ) -> Result<Vec<Dart>, AllocError>
-    requires births { edit.now.births ≤ made links.now.rows }
-    requires dim { dim ≤ DIM }
+    requires low { 2 ≤ DIM }
+    requires sound { IsSound K.kind DIM links.now.rows }
+    requires older { older + edit.now.births ≡ made links.now.rows }
+    requires words { (w : MapWord) → Contains words.now w ↔ (IsCellWord K.kind dim w × IsWithin DIM w) }
     ensures live { IfOk result (λ touched. (x : ℕ) → Contains touched.items x → IsLive links.now.rows x) }
-    ensures all { IfOk result (λ touched. IsSome (rule_at rules.now dim) → (old : Rows) → IsLed K.kind DIM edit.now old links.now.rows
-        → Laws K.kind (links_of old) → Laws K.kind (links_of links.now.rows) → (x : ℕ)
-        → IsReroutedDart K.kind dim old links.now.rows x
-        → Contains touched.items x) }
-{
-    if !has_rule(rules, dim) {
-        return Ok(Vec::new(alloc));
-    }
-    touched_in(alloc, links, edit, dim)
-}
-
-/// The darts that an edit touched in a dimension: those that lived before and from which some word of the dimension's cells leads
-/// elsewhere than before. Some may stand there more than once. A dart that was born is in the cell of such a dart, or in a
-/// cell of born darts alone, which has no value.
-fn touched_in<K: Kind, const DIM: usize>(
-    alloc: Global,
-    links: &Links<K, DIM>,
-    edit: &Edit,
-    dim: usize,
-) -> Result<Vec<Dart>, AllocError>
-    requires births { edit.now.births ≤ made links.now.rows }
-    requires dim { dim ≤ DIM }
-    ensures live { IfOk result (λ touched. (x : ℕ) → Contains touched.items x → IsLive links.now.rows x) }
-    ensures all { IfOk result (λ touched. (old : Rows) → IsLed K.kind DIM edit.now old links.now.rows
-        → Laws K.kind (links_of old) → Laws K.kind (links_of links.now.rows) → (x : ℕ)
-        → IsReroutedDart K.kind dim old links.now.rows x
-        → Contains touched.items x) }
+    ensures all { IfOk result (λ touched. (x : ℕ) → IsReroutedFrom K.kind DIM edit.now links.now.rows dim x → Contains touched.items x) }
 {
     let mut touched = Vec::new(alloc);
-    let words = K::words(alloc, links.dimension(), dim)?;
-    let older = links.made() - edit.births;
     for change in &edit.changes {
-        add_at_change(links, edit, older, &words, *change, &mut touched)?;
+        add_at_change(links, edit, older, words, *change, &mut touched)?;
     }
     Ok(touched)
 }

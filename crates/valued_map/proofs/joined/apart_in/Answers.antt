@@ -1,6 +1,5 @@
 use Rattle.std.proofs.Common.{ℕ, ◌++◌, List, [], ◌∷◌, Contains, IsTrue, lit<, subst, sym, ◌∙◌, take_all, ⊎_elim}
 use Rattle.std.proofs.lemmas.List.Elements.{Contains-append_left, Contains-push, Contains-push_cases}
-use Rattle.map_defs.specs.LinkWords.{LinkWord, IsWithin}
 use Rattle.valued_map.proofs.Joining.{leading-within}
 use Rattle.std.proofs.lemmas.Bool.{false≢true}
 use Rattle.label_laws.specs.Touching.{LeadsApart}
@@ -8,14 +7,7 @@ use Rattle.valued_map.proofs.Heads.{among-more, among-none}
 use Rattle.valued_map.proofs.joined.apart_in.Goals as goal
 
 pub leads_apart-requires : goal.leads_apart-requires
-leads_apart-requires g c = (
-  lit< tt,
-  (
-    lit< tt,
-    λ w here.
-        (let has = (c.in_ok-words.ensures w).0 (subst (λ (ws : List LinkWord). Contains ws w) c.deref.ensures.value here) in subst (λ (d : ℕ). IsWithin d w) c.dimension.ensures.dimension has.1),
-  ),
-)
+leads_apart-requires g c = (lit< tt, (lit< tt, λ w here. ((c.requires.words w).0 here).1))
 
 pub loop-dart-init : goal.loop-dart-init
 loop-dart-init g c = (
@@ -34,9 +26,7 @@ loop-dart-preserved-then-not-leads_apart g c = (
   where
     told : LeadsApart g.K.Kind.kind c.args.dim c.args.links.now.rows c.args.labels.now c.dart-item.result → IsTrue c.leads_apart.result
     told (w, cell, leads, apart) =
-        c.leads_apart.ensures w (subst (λ (ws : List LinkWord). Contains ws w) (sym c.deref.ensures.value)
-        ((c.in_ok-words.ensures w).1 (cell, subst (λ (d : ℕ). IsWithin d w) (sym c.dimension.ensures.dimension) (leading-within g.K.Kind.kind g.row.DIM c.args.links.now.rows c.dimension.ensures.sound w c.dart-item.result leads))))
-        leads apart
+        c.leads_apart.ensures w ((c.requires.words w).1 (cell, leading-within g.K.Kind.kind g.row.DIM c.args.links.now.rows c.requires.sound w c.dart-item.result leads)) leads apart
 
 pub loop-dart-preserved : goal.loop-dart-preserved
 loop-dart-preserved g c = (

@@ -1,6 +1,6 @@
 use Rattle.std.proofs.Common.{ℕ, ◌≡◌, ◌⊎◌, ◌+◌, ◌<◌, ◌≤◌, List, [], length, Contains, lit<, ◌∙◌, sym, ap, subst, arith}
 use Rattle.map_defs.specs.Rows.{Rows, IsLive, made}
-use Rattle.map_defs.specs.LinkWords.{LinkWord, IsCellWord, IsWithin}
+use Rattle.map_defs.specs.LinkWords.{LinkWord}
 use Rattle.map_defs.specs.Edits.{Change, Edit}
 use Rattle.valued_map.specs.Changing.{AreAdded, IsReroutedAt}
 use Rattle.valued_map.proofs.Adding.{added-none, added-then, added-told, change_at, item-change}
@@ -8,20 +8,7 @@ use Rattle.valued_map.proofs.Rerouting.{IsReroutedOf, AreReroutedBelow, rerouted
 use Rattle.valued_map.proofs.touched.touched_in.Goals as goal
 
 pub add_at_change-requires : goal.add_at_change-requires
-add_at_change-requires g c = (
-  lit< tt,
-  (
-    c.dimension.ensures.low,
-    (
-      c.dimension.ensures.sound,
-      (
-        let births-is : c.edit.inside.births ≡ c.args.edit.now.births = ap (λ (e : Edit). e.births) c.edit.view_is in omega (arith, c.requires.births, c.made.ensures.made, births-is),
-        λ w here.
-            (let has = (c.in_ok-words.ensures w).0 (subst (λ (ws : List LinkWord). Contains ws w) c.deref.ensures.value here) in subst (λ (d : ℕ). IsWithin d w) c.dimension.ensures.dimension has.1),
-      ),
-    ),
-  ),
-)
+add_at_change-requires g c = (lit< tt, (c.requires.low, (c.requires.sound, (c.requires.older, λ w here. ((c.requires.words w).0 here).1))))
 
 pub loop-change-init : goal.loop-change-init
 loop-change-init g c =
@@ -38,14 +25,12 @@ loop-change-preserved g c =
     let j : ℕ = c.loop-change.change-index in
     let same : c.deref-change-items.result.now ≡ cs = c.deref-change-items.ensures.value ∙ ap (λ (d : Edit). d.changes) c.edit.view_is in
     let item : c.change-item.result ≡ change_at cs j = item-change cs c.deref-change-items.result.now j c.change-item.result same c.loop-change-test.true c.change-item.is in
-    let words = c.deref.result.now in
-    let member : (w : LinkWord) → IsCellWord k c.args.dim w × IsWithin g.row.DIM w → Contains words w =
-    λ w is. subst (λ (ws : List LinkWord). Contains ws w) (sym c.deref.ensures.value) ((c.in_ok-words.ensures w).1 (is.0, subst (λ (d : ℕ). IsWithin d w) (sym c.dimension.ensures.dimension) is.1)) in
+    let words : List LinkWord = c.args.words.now in
     let added = subst (λ (h : Change). AreAdded rows (λ x. (h.dart + e.births ≤ made rows) × IsLive rows h.dart × ((w : LinkWord) × Contains words w × IsReroutedAt k g.row.DIM e rows w h x))
     c.loop-change.touched.items c.add_at_change.new.touched.items) item c.in_ok-add_at_change.ensures in
     let here = added-told rows (λ x. ((change_at cs j).dart + e.births ≤ made rows) × IsLive rows (change_at cs j).dart × ((w : LinkWord) × Contains words w × IsReroutedAt k g.row.DIM e rows w (change_at cs j) x))
     (IsReroutedOf k g.row.DIM e rows c.args.dim (change_at cs j)) c.loop-change.touched.items c.add_at_change.new.touched.items
-    (λ x (stays, live, (w, is, at)) _. (stays, live, (w, member w is, at))) added in
+    (λ x (stays, live, (w, is, at)) _. (stays, live, (w, (c.requires.words w).1 is, at))) added in
     added-told rows (λ x. AreReroutedBelow k g.row.DIM e rows c.args.dim j x ⊎ IsReroutedOf k g.row.DIM e rows c.args.dim (change_at cs j) x)
     (AreReroutedBelow k g.row.DIM e rows c.args.dim (j + 1)) [] c.add_at_change.new.touched.items
     (λ x w h. rerouted-more k g.row.DIM e rows c.args.dim j x w)
@@ -53,11 +38,11 @@ loop-change-preserved g c =
     c.loop-change.touched.items c.add_at_change.new.touched.items c.loop-change.invariant here)
 
 pub returns-clause-all : goal.returns-clause-all
-returns-clause-all g c = λ old led w wn x t.
+returns-clause-all g c = λ x (old, led, w, wn, t).
     let cs : List Change = c.args.edit.now.changes in
     let same : c.deref-change-items.result.now ≡ cs = c.deref-change-items.ensures.value ∙ ap (λ (e : Edit). e.changes) c.edit.view_is in
     let long : length c.deref-change-items.result.now ≡ length cs = ap (λ (xs : List Change). length xs) same in
     c.loop-change.invariant.all x
-    (let a = touched-are-rerouted g.K.Kind.kind g.row.DIM c.args.edit.now old c.args.links.now.rows led c.dimension.ensures.sound w wn c.args.dim x t in
+    (let a = touched-are-rerouted g.K.Kind.kind g.row.DIM c.args.edit.now old c.args.links.now.rows led c.requires.sound w wn c.args.dim x t in
     (a.0, let lt : a.0 < length cs = a.1 in omega (arith, long, c.loop-change-test.false), a.2))
     t.1

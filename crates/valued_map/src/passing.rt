@@ -1,0 +1,56 @@
+//! Dimensions in which an edit can touch nothing, since no word of their cells follows a link that it changed.
+ghost use Rattle.std.specs.Prelude.{◌≤◌, Contains, IsTrue};
+ghost use Rattle.map_defs.specs.Rows.{IsLive};
+ghost use Rattle.map_defs.specs.Edits.{Change as LinkChange};
+ghost use Rattle.valued_map.specs.Changing.{IsFollowed};
+
+use link_rows::{Change, Links};
+use map_kind::{Kind, is_generalized};
+
+/// Whether some change of links may reroute a dart in a dimension: one of a live dart that was made before the edit, the
+/// darts up to the number `older`, and of a link that some word of the dimension's cells follows.
+pub(crate) fn may_touch<K: Kind, const DIM: usize>(
+    links: &Links<K, DIM>,
+    changes: &[Change],
+    older: u32,
+    dim: usize,
+) -> bool
+    ensures { (c : LinkChange) → Contains changes.now c → c.dart ≤ older → IsLive links.now.rows c.dart
+        → IsFollowed K.kind dim c.link → IsTrue result }
+{
+    for change in changes {
+        if may_reroute(links, older, dim, *change) {
+            return true;
+        }
+    }
+    false
+}
+
+/// Whether a change of a link may reroute a dart in a dimension.
+fn may_reroute<K: Kind, const DIM: usize>(
+    links: &Links<K, DIM>,
+    older: u32,
+    dim: usize,
+    change: Change,
+) -> bool
+    ensures { change.dart ≤ older → IsLive links.now.rows change.dart → IsFollowed K.kind dim change.link → IsTrue result }
+{
+    is_followed::<K>(dim, change.link)
+        && change.dart.number() <= older
+        && links.is_live(change.dart)
+}
+
+/// Whether some word of the cells of a dimension follows a link. In a generalized map these follow all links but that of the
+/// dimension; in a combinatorial map those of the vertices follow all, those of the edges the links from 2 upwards.
+fn is_followed<K: Kind>(dim: usize, link: usize) -> bool
+    ensures { IsFollowed K.kind dim link → IsTrue result }
+{
+    if is_generalized::<K>() {
+        return link != dim;
+    }
+    match dim {
+        0 => true,
+        1 => link >= 2,
+        _ => link != dim,
+    }
+}
