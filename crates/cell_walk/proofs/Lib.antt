@@ -4,6 +4,7 @@ mod Counting
 pub mod FoundDarts
 mod ListedCells
 mod OnWays
+mod RoundDarts
 mod RowSteps
 pub mod SeenDarts
 mod SinceDarts

@@ -123,6 +123,16 @@ on_way-all k L p q d old w v at found ended way = record {
     begun y from real (inl known) = known
     begun y from real (inr first) = ended y (ap (through L w) first.0 ∙ ap (λ m. through L m d) first.1 ∙ from) real
 
+-- the word leads nowhere, to a dart that was found before, or to the dart from which it leads
+pub on_way-back : (k : Kind) (L : Links) (p q : LinkWord) (d end : ℕ) (old : List ℕ) (w v : LinkWord) (at : ℕ) (found : List ℕ) → Contains old end
+    → ((y : ℕ) → through L w at ≡ y → y ≢ 0 → (y ≡ end) ⊎ (y ≡ at)) → IsOnWay k L p q d old w v at found → IsFollowed k L p q d old found
+on_way-back k L p q d end old w v at found has ended way =
+    on_way-all k L p q d old w v at found (λ y leads real. known y (ended y leads real)) way
+  where
+    known : (y : ℕ) → (y ≡ end) ⊎ (y ≡ at) → Contains found y
+    known y (inl is) = subst (Contains found) (sym is) (Contains-before old found way.before end has)
+    known y (inr is) = subst (Contains found) (sym is) way.there
+
 -- When d and both ways from it were found, its orbit was found, besides what was found before.
 pub gone-round : (k : Kind) (L : Links) (f g b c : LinkWord) (d : ℕ) (old half new : List ℕ) → AreWays k f g b c → IsClosed (Leads L (IsEither f b)) old → IsFollowed k L f g d (old ++ d ∷ []) half → IsFollowed k L b c d half new → (y : ℕ) → Contains new y ↔ (Contains old y ⊎ InOrbit (Leads L (IsEither f b)) d y)
 gone-round k L f g b c d old half new ways shut one other y = (found y, all)
@@ -265,6 +275,12 @@ round-alike L V W same d old new found y = (λ has. from ((found y).0 has), λ k
     to : Contains old y ⊎ InOrbit (Leads L V) d y → Contains old y ⊎ InOrbit (Leads L W) d y
     to (inl known) = inl known
     to (inr o) = inr (orbit-wider (Leads L V) (Leads L W) (leads-alike L V W (λ w. (same w).0)) d y o)
+
+pub orbit-alike : (L : Links) (V W : LinkWord → Type 0) → ((w : LinkWord) → V w ↔ W w) → (d y : ℕ) → InOrbit (Leads L W) d y ↔ InOrbit (Leads L V) d y
+orbit-alike L V W same d y = (
+  λ o. orbit-wider (Leads L W) (Leads L V) (leads-alike L W V (λ w. (same w).1)) d y o,
+  λ o. orbit-wider (Leads L V) (Leads L W) (leads-alike L V W (λ w. (same w).0)) d y o,
+)
 
 pub within-alike : (n : ℕ) (words : List LinkWord) (W : LinkWord → Type 0) → ((w : LinkWord) → Contains words w ↔ W w) → All (IsWithin n) words → (w : LinkWord) → W w → IsWithin n w
 within-alike n words W same all w is = let has = (same w).1 is in subst (IsWithin n) has.2 (all has.0 w has.1)

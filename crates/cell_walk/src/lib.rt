@@ -4,6 +4,7 @@
 mod found;
 mod one_cell;
 mod orbits;
+mod rounds;
 mod search;
 mod seen;
 #[cfg(test)]

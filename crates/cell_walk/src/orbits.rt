@@ -8,6 +8,7 @@ ghost use Rattle.cell_walk.specs.Ways.{IsLink, IsCourse};
 ghost use Rattle.cell_walk.specs.CellLists.{AreOrbitsOf, lists_of};
 
 use crate::found::Found;
+use crate::rounds::round;
 use crate::seen::{Few, Seen};
 use crate::ways::{Course, course_along, go_round};
 use link_rows::Links;
@@ -29,9 +30,28 @@ pub fn orbit<K: Kind, const DIM: usize>(
         → Contains orbit.items y ↔ InOrbit (Leads (links_of links.now.rows) (Contains words.now)) dart y) }
     ensures ascending { IfOk result (λ orbit. IsStrictlyIncreasing orbit.items) }
 {
-    let course = course_along::<K>(words);
+    match course_along::<K>(words) {
+        Course::Round(ways) => round(alloc, links, &ways, dart),
+        course => walked(alloc, links, words, &course, dart),
+    }
+}
+
+/// The orbit of a dart under some words, ascending, found by a walk that goes so along them.
+fn walked<K: Kind, const DIM: usize>(
+    alloc: Global,
+    links: &Links<K, DIM>,
+    words: &[LinkWord],
+    course: &Course,
+    dart: Dart,
+) -> Result<Vec<Dart>, AllocError>
+    requires within { All (IsWithin DIM) words.now }
+    requires course { IsCourse K.kind words.now course.now }
+    ensures members { IfOk result (λ orbit. (y : ℕ)
+        → Contains orbit.items y ↔ InOrbit (Leads (links_of links.now.rows) (Contains words.now)) dart y) }
+    ensures ascending { IfOk result (λ orbit. IsStrictlyIncreasing orbit.items) }
+{
     let mut found = Found::<Few>::new(alloc);
-    walk(links, words, &course, dart, &mut found)?;
+    walk(links, words, course, dart, &mut found)?;
     Ok(found.into_ascending())
 }
 

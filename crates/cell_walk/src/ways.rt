@@ -22,7 +22,7 @@ pub(crate) struct Way {
 
 impl Way {
     /// The way on from the dart to which `next` leads.
-    fn turned(self) -> Self
+    pub(crate) fn turned(self) -> Self
         ensures { result ≡ record { next = self.after; after = self.next } }
     {
         Way {

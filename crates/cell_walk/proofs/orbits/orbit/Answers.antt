@@ -1,17 +1,20 @@
-use Rattle.std.proofs.Common.{Contains, inr, lit<}
+use Rattle.std.proofs.Common.{Contains, lit<}
+use Rattle.std.proofs.lemmas.Result.{IfOk-weaker}
 use Rattle.map_defs.specs.Rows.{links_of}
-use Rattle.map_defs.specs.Cells.{Leads}
-use Rattle.cell_walk.proofs.Walks.{Contains-none, closed-none, orbit-alone}
+use Rattle.cell_walk.specs.Ways.{IsEither, AreAlong}
+use Rattle.cell_walk.proofs.OnWays.{orbit-alike, within-alike}
 use Rattle.cell_walk.proofs.orbits.orbit.Goals as goal
 
-pub walk-requires : goal.walk-requires
-walk-requires g c =
-    (lit< tt, (c.requires, (c.course_along-course.ensures, (rw c.new-found.ensures (closed-none (Leads (links_of c.args.links.now.rows) (Contains c.args.words.now))), rw c.new-found.ensures (Contains-none c.args.dart)))))
+pub round-requires : goal.round-requires
+round-requires g c =
+    let along : AreAlong g.K.Kind.kind c.args.words.now c.in-Round.ways = rw c.in-Round.is at c.course_along.ensures in
+    (lit< tt, (within-alike g.row.DIM c.args.words.now (IsEither c.in-Round.ways.forth.next c.in-Round.ways.back.next) along.same c.requires, along.turns))
 
-pub returns-clause-members : goal.returns-clause-members
-returns-clause-members g c = λ y.
-    let same = c.into_ascending.ensures.members y in
-    let walked = (rw c.new-found.ensures at c.in_ok-walk.ensures.members) y in (
-      λ has. orbit-alone (Leads (links_of c.args.links.now.rows) (Contains c.args.words.now)) c.args.dart y (walked.0 (same.0 has)),
-      λ reached. same.1 (walked.1 (inr reached)),
-    )
+pub returns-in-Round-clause-members : goal.returns-in-Round-clause-members
+returns-in-Round-clause-members g c =
+    let along : AreAlong g.K.Kind.kind c.args.words.now c.in-Round.ways = rw c.in-Round.is at c.course_along.ensures in
+    IfOk-weaker c.round.result _ _
+    (λ orbit members y.
+    let same = orbit-alike (links_of c.args.links.now.rows) (Contains c.args.words.now) (IsEither c.in-Round.ways.forth.next c.in-Round.ways.back.next) along.same c.args.dart y in
+    (λ has. same.0 ((members y).0 has), λ o. (members y).1 (same.1 o)))
+    c.round.ensures.members

@@ -1,0 +1,86 @@
+//! Orbits that are paths or rings, walked from nothing: a walk along such an orbit need not look through what it has found,
+//! for it can only come back where it began, or where it stands. The proof does not rest on that: darts that were found
+//! twice would be listed once.
+ghost use Rattle.std.specs.Prelude.{◌≡◌, ◌≢◌, ℕ, ◌↔◌, ◌⊎◌, Contains, IfOk, IfSome, IfNone, OnOk};
+ghost use Rattle.std.specs.List.Sorted.{IsStrictlyIncreasing};
+ghost use Rattle.map_defs.specs.Rows.{links_of};
+ghost use Rattle.map_defs.specs.LinkWords.{LinkWord as MapWord, through, IsWithin};
+ghost use Rattle.map_defs.specs.Cells.{InOrbit, Leads};
+ghost use Rattle.cell_walk.specs.Ways.{IsEither, AreWays, IsFollowed};
+
+use crate::orbits::follow;
+use crate::ways::{Way, Ways};
+use link_rows::Links;
+use map_kind::{Dart, Kind, LinkWord};
+use std::alloc::{AllocError, Global};
+
+/// For so many darts room is made at first.
+const FEW: usize = 16;
+
+/// The path or the ring of a dart, ascending. In a ring the way back ends at once, at the last dart of the way forth.
+pub(crate) fn round<K: Kind, const DIM: usize>(
+    alloc: Global,
+    links: &Links<K, DIM>,
+    ways: &Ways,
+    dart: Dart,
+) -> Result<Vec<Dart>, AllocError>
+    requires within { (w : MapWord) → IsEither ways.now.forth.next ways.now.back.next w → IsWithin DIM w }
+    requires turns { AreWays K.kind ways.now.forth.next ways.now.forth.after ways.now.back.next ways.now.back.after }
+    ensures members { IfOk result (λ round. (y : ℕ) → Contains round.items y
+        ↔ InOrbit (Leads (links_of links.now.rows) (IsEither ways.now.forth.next ways.now.back.next)) dart y) }
+    ensures ascending { IfOk result (λ round. IsStrictlyIncreasing round.items) }
+{
+    let mut darts = Vec::with_capacity(alloc, FEW)?;
+    darts.push(dart)?;
+    go_on(links, &ways.forth, dart, dart, &mut darts)?;
+    let end = darts[darts.len() - 1];
+    go_on(links, &ways.back, dart, end, &mut darts)?;
+    darts.sort_unstable();
+    darts.dedup();
+    Ok(darts)
+}
+
+/// Follows a way from a dart, until it leads nowhere, to the end, or to the dart where it stands.
+fn go_on<K: Kind, const DIM: usize>(
+    links: &Links<K, DIM>,
+    way: &Way,
+    dart: Dart,
+    end: Dart,
+    darts: &mut Vec<Dart>,
+) -> Result<(), AllocError>
+    requires next { IsWithin DIM way.now.next }
+    requires after { IsWithin DIM way.now.after }
+    requires met { Contains darts.old.items dart }
+    requires end { Contains darts.old.items end }
+    ensures { OnOk result (IsFollowed K.kind (links_of links.now.rows) way.now.next way.now.after dart darts.old.items darts.new.items) }
+{
+    links.see_sound();
+    let mut way = *way;
+    let mut at = dart;
+    while let Some(next) = onward(links, way.next, at, end) {
+        darts.push(next)?;
+        at = next;
+        way = way.turned();
+    }
+    Ok(())
+}
+
+/// The dart to which a word leads, unless it is the end, or the dart from which it leads.
+#[inline(always)]
+fn onward<K: Kind, const DIM: usize>(
+    links: &Links<K, DIM>,
+    word: LinkWord,
+    dart: Dart,
+    end: Dart,
+) -> Option<Dart>
+    requires { IsWithin DIM word }
+    ensures some { IfSome result (λ next. (through (links_of links.now.rows) word dart ≡ next) × (next ≢ 0)) }
+    ensures none { IfNone result ((y : ℕ) → through (links_of links.now.rows) word dart ≡ y → y ≢ 0
+        → (y ≡ end) ⊎ (y ≡ dart)) }
+{
+    let reached = follow(links, word, dart)?;
+    if reached == end || reached == dart {
+        return None;
+    }
+    Some(reached)
+}
