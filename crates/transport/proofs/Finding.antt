@@ -13,7 +13,7 @@ use Rattle.link_laws.proofs.Orbits.{orbit_trans}
 use Rattle.store_defs.specs.Groups.{Group, no_group, group_at, least_of}
 use Rattle.transport.specs.Pieces.{IsBareCell, AreBareCells}
 use Rattle.transport.specs.Wanted.{Wanted, IsMarked}
-use Rattle.transport.specs.Found.{IsInSome, AreHeld, AreFound, IsCellOf, IsCellThere, IsCellAdded}
+use Rattle.transport.specs.Found.{IsInSome, AreHeld, AreFound, IsCellThere, IsCellAdded}
 use Rattle.transport.proofs.Lists.{at_front, at_back, one_more, back_or_front, each_pushed, each_moved, some_moved, rising_by_key, distinct_by_key, held_at, place_of}
 
 -- cells are told by any of their darts

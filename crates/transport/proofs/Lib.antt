@@ -3,6 +3,7 @@ pub mod Marking
 pub mod Finding
 pub mod Gathering
 pub mod Telling
+pub mod Meeting
 pub mod Picking
 pub mod MergeFacts
 pub mod CarryFacts

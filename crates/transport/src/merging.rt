@@ -1,4 +1,4 @@
-ghost use Rattle.std.specs.Prelude.{◌≡◌, ℕ, ◌+◌, ◌*◌, ◌≤◌, ◌<◌, ◌^◌, Bool, None, cond, length, IfOk, OnOk};
+ghost use Rattle.std.specs.Prelude.{◌≡◌, ℕ, ◌+◌, ◌*◌, ◌≤◌, ◌<◌, ◌^◌, None, cond, length, IfOk, OnOk};
 ghost use Rattle.map_defs.specs.Carry.{merged_with};
 ghost use Rattle.store_defs.specs.Stores.{IsHeld};
 ghost use Rattle.store_defs.specs.Groups.{group_at};

@@ -1,8 +1,7 @@
 ghost use Rattle.std.specs.Prelude.{◌≡◌, ◌+◌, ◌<◌, length, IsTrue, IfOk, OnOk};
 ghost use Rattle.store_defs.specs.Labelings.{id_of};
-ghost use Rattle.transport.specs.Tallies.{met_in};
 ghost use Rattle.transport.specs.Pieces.{AreAllPieces};
-ghost use Rattle.transport.specs.Gathered.{AreApart, HasPiece, AreGathered, IsPieceAdded};
+ghost use Rattle.transport.specs.Gathered.{AreApart, HasPiece, AreGathered, met_in, IsReady, IsPieceAdded};
 
 use crate::group::Group;
 use crate::tally::LastMet;
@@ -49,14 +48,18 @@ fn add_pieces<const DIM: usize>(
 ) -> Result<(), AllocError>
     requires place { place < length cells.now }
     requires apart { AreApart cells.now }
-    requires gathered { AreGathered (id_of labels.now dim) cells.now place 0 (met_in met.old) pieces.old.items }
-    ensures { OnOk result (AreGathered (id_of labels.now dim) cells.now (place + 1) 0 (met_in met.new) pieces.new.items) }
+    requires gathered { AreGathered (id_of labels.now dim) cells.now place 0 (met_in met.old pieces.old.items place)
+        pieces.old.items }
+    requires ready { IsReady met.old pieces.old.items }
+    ensures gathered { OnOk result (AreGathered (id_of labels.now dim) cells.now (place + 1) 0
+        (met_in met.new pieces.new.items (place + 1)) pieces.new.items) }
+    ensures ready { OnOk result (IsReady met.new pieces.new.items) }
 {
     let cell = &cells[place];
     for dart in &cell.darts {
         add_piece(labels, dim, place, *dart, met, pieces)?;
     }
-    met.forget();
+    met.forget(pieces.len());
     Ok(())
 }
 
@@ -70,8 +73,10 @@ fn add_piece<const DIM: usize>(
     met: &mut LastMet,
     pieces: &mut Vec<Piece>,
 ) -> Result<(), AllocError>
-    ensures { OnOk result (IsPieceAdded (id_of labels.now dim) cell dart (met_in met.old) (met_in met.new)
-        pieces.old.items pieces.new.items) }
+    requires { IsReady met.old pieces.old.items }
+    ensures added { OnOk result (IsPieceAdded (id_of labels.now dim) cell dart (met_in met.old pieces.old.items cell)
+        (met_in met.new pieces.new.items cell) pieces.old.items pieces.new.items) }
+    ensures ready { OnOk result (IsReady met.new pieces.new.items) }
 {
     let Some(id) = labels.id(dim, dart) else {
         return Ok(());
@@ -79,7 +84,7 @@ fn add_piece<const DIM: usize>(
     if is_last(pieces, cell, id) {
         return Ok(());
     }
-    if met.meet(id, cell)? {
+    if met.meet(id, cell, pieces)? {
         return Ok(());
     }
     pieces.push(Piece { dart, id, cell })?;

@@ -6,5 +6,5 @@ use Rattle.transport.proofs.pieces.pieces_of.Goals as goal
 
 pub returns : goal.returns
 returns g c =
-    gathered_sorted _ _ _ _ _ _ (omega arith) c.loop-place.invariant c.sort_unstable_by_key.ensures.permutation
+    gathered_sorted _ _ _ _ _ _ (omega arith) c.loop-place.invariant.gathered c.sort_unstable_by_key.ensures.permutation
     (IsNonDecreasingBy-from_sort_by_key (λ (p : Piece). p.dart) _ c.sort_unstable_by_key.ensures.sorted (λ a r q k. search rules))

@@ -2,7 +2,7 @@ use Rattle.std.proofs.Common.{◌≡◌, ◌≤◌, length, slice_index, rules, 
 use Rattle.std.proofs.lemmas.List.{get_or_default}
 use Rattle.std.proofs.lemmas.List.Sorted.{IsNonDecreasingBy-from_sort_by_key}
 use Rattle.store_defs.specs.Groups.{least_of}
-use Rattle.transport.proofs.Finding.{sound_classes, held_none, held_more, held_sorted}
+use Rattle.transport.proofs.Finding.{sound_classes, held_more, held_sorted}
 use Rattle.transport.proofs.touched.cells_of_few.Goals as goal
 
 pub loop-dart-preserved : goal.loop-dart-preserved
