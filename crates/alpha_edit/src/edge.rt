@@ -7,7 +7,7 @@ ghost use Rattle.map_defs.specs.Insertion.{AreOnOneSide, InAlphaCorner, AlphaEdg
 ghost use Rattle.sewing.specs.Triples.{Lists, IsAscending};
 ghost use Rattle.cell_edit.specs.Planning.{PlansEdge};
 
-use cell_edit::{carried_darts, carrying_links, insertion_edit, insertion_pairs, leads};
+use cell_edit::{carrying_links, corners, insertion_edit, insertion_pairs, is_near, leads};
 use link_rows::{Edit, Links};
 use map_kind::{Alpha, Dart, Refusal, Refused};
 use sewing::{PairFault, Triple};
@@ -43,7 +43,7 @@ pub fn edge_plan<const DIM: usize>(
     }
     match edge_pairs(alloc, links, one, other) {
         Ok(pairs) => {
-            let darts = corner_darts(alloc, links, one, other)?;
+            let darts = corners(alloc, &pairs)?;
             Ok(insertion_edit(alloc, links, 1, darts, &pairs)?)
         }
         Err(PairFault::Unpaired) => Err(Refused::Line(Refusal::Unpaired)),
@@ -51,7 +51,8 @@ pub fn edge_plan<const DIM: usize>(
     }
 }
 
-/// Whether two darts lie on one side of one face. The walk goes both ways around the face, and ends where it finds `other`.
+/// Whether two darts lie on one side of one face. A few steps are taken each way around the face first; then the walk goes
+/// both ways, remembers the darts, and ends where it finds `other`.
 fn are_on_one_side<const DIM: usize>(
     alloc: Global,
     links: &Links<Alpha, DIM>,
@@ -61,6 +62,9 @@ fn are_on_one_side<const DIM: usize>(
     requires { 2 ≤ DIM }
     ensures { IfOk result (λ one_side. IsTrue one_side ↔ AreOnOneSide (links_of links.now.rows) one other) }
 {
+    if is_near(links, 0, 1, one, other) || is_near(links, 1, 0, one, other) {
+        return Ok(true);
+    }
     leads(alloc, links, &[0, 1], one, other)
 }
 
@@ -75,19 +79,6 @@ fn are_in_one_corner<const DIM: usize>(
 {
     let carrying = carrying_links::<Alpha>(alloc, links.dimension(), 1)?;
     leads(alloc, links, &carrying, one, other)
-}
-
-/// The darts of the corners of two darts, ascending.
-fn corner_darts<const DIM: usize>(
-    alloc: Global,
-    links: &Links<Alpha, DIM>,
-    one: Dart,
-    other: Dart,
-) -> Result<Vec<Dart>, AllocError>
-    ensures members { IfOk result (λ darts. (x : ℕ) → Contains darts.items x ↔ AlphaEdgeDarts (links_of links.now.rows) one other x) }
-    ensures ascending { IfOk result (λ darts. IsStrictlyIncreasing darts.items) }
-{
-    carried_darts(alloc, links, 1, &[one, other])
 }
 
 /// The pairs of the darts of two corners, ascending. `Unpaired` comes exactly where they cannot be paired.
