@@ -1,6 +1,5 @@
 -- The edit that writes the entries of an edge: it fits, cuts the face, and keeps the laws.
 use Rattle.std.proofs.Common.{ℕ, ◌≡◌, ◌≢◌, ◌+◌, ◌<◌, ◌≤◌, ◌↔◌, List, length, take, get_or, Contains, refl, sym, ap, ◌∙◌, subst, inl, inr, arith}
-use Rattle.std.proofs.lemmas.List.{get_or-take, get_or_default, length-take}
 use Rattle.map_defs.specs.Kind.{beta}
 use Rattle.map_defs.specs.Links.{Links, IsTurned}
 use Rattle.map_defs.specs.Laws.{Laws}
@@ -15,26 +14,18 @@ use Rattle.insert_laws.proofs.Fresh.{IsNew, fresh_link}
 use Rattle.insert_laws.proofs.BetaEdge.{IsTurning, IsCorner, ComesBefore}
 use Rattle.insert_laws.proofs.BetaEdgeLaws.{cut_keeps}
 use Rattle.insert_laws.proofs.Numbers.{numbered_fresh}
-use Rattle.sewing.specs.Triples.{Triple, Lists, ComesBefore as IsBefore, IsAscending}
+use Rattle.sewing.specs.Triples.{Triple, Lists, ComesBefore as IsBefore}
 use Rattle.sewing.proofs.PairWalks.{Contains-take}
 use Rattle.cell_edit.specs.Stars.{Stars, star_of}
 use Rattle.cell_edit.specs.Inserting.{PlansInsertion}
 use Rattle.cell_edit.specs.Writing.{WritesEntries}
 use Rattle.cell_edit.proofs.AlongLinks.{linked-within}
+use Rattle.cell_edit.proofs.CornerList.{before-place}
 use Rattle.beta_edit.specs.Cutting.{IsTurnEntry, AreCutEntries, AreTurns}
 use Rattle.beta_edit.proofs.WayPlaces.{places-apart}
 use Rattle.beta_edit.proofs.CutEntries.{corner-place}
 use Rattle.beta_edit.proofs.GrowthFacts.{key-made, keys-numbered, keys-fresh, link-old, old-lives, new-lives}
 use Rattle.cell_edit.proofs.EntryEdit.{growing, written, left, entries-fit}
-
--- a triple before a place of an ascending list comes before the triple there
-pub before-place : (qs : List Triple) → IsAscending qs → (p : ℕ) (q u : Triple) → p < length qs → q ≡ get_or qs p q → Contains (take p qs) u → IsBefore u q
-before-place qs up p q u low at has =
-    let i : ℕ = has.0 in
-    let i_low : i < p = omega (arith, has.1, length-take p qs) in
-    let first : get_or qs i u ≡ u = sym (get_or-take p qs i u i_low) ∙ has.2 in
-    let second : get_or qs p u ≡ q = get_or_default qs p u q low ∙ sym at in
-    subst (λ (v : Triple). IsBefore v q) first (subst (λ (v : Triple). IsBefore (get_or qs i u) v) second (up i p u i_low low))
 
 module _ (n : ℕ) (rows : Rows) (sound : IsSound beta n rows) (dim : 2 ≤ n) (w : Laws beta (links_of rows)) (stars : Stars) (pairs : List Triple) (turns : AreTurns rows stars pairs) where
   abbrev L : Links

@@ -15,7 +15,8 @@ use Rattle.insert_laws.proofs.BetaEdge.{IsTurning, IsCorner}
 use Rattle.insert_laws.proofs.BetaEdgePairs.{edge_turning}
 use Rattle.sewing.specs.Triples.{Triple, Lists, IsAscending}
 use Rattle.cell_edit.proofs.Premises.{all-live}
-use Rattle.beta_edit.specs.Cutting.{IsCornerOf, IsTurn, AreTurns}
+use Rattle.cell_edit.specs.Writing.{IsCornerOf}
+use Rattle.beta_edit.specs.Cutting.{IsTurn, AreTurns}
 
 -- both darts of a pair at link t are linked: the first by it, the other by its inverse
 record IsLinkedPair (L : Links) (x y t : ℕ) : Type 0 where

@@ -1,6 +1,5 @@
 mod CellEnds
 mod CellTold
-mod CornerList
 mod CutEdit
 mod CutEntries
 mod DrawnEdit

@@ -7,10 +7,6 @@ use Rattle.cell_edit.specs.Stars.{Stars}
 use Rattle.beta_edit.specs.Growing.{CanGrow}
 use Rattle.beta_edit.specs.Ways.{IsOneEntry, IsWayEntry}
 
--- x is one of the corners: the first dart of a pair at link 0
-abbrev pub IsCornerOf : List Triple → ℕ → Type 0
-IsCornerOf pairs x = (z : ℕ) × Lists pairs x z 0
-
 -- the way that led into the corner x leads over its new dart into the other corner, to which link 1 leads from z
 abbrev pub IsOverEntry : Links → (ℕ → ℕ) → ℕ → ℕ → ℕ → ℕ → ℕ → Type 0
 IsOverEntry L star x z d t y = IsWayEntry (L 0 x) (star x) d t y ⊎ IsWayEntry (star x) (L 1 z) d t y

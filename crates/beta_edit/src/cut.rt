@@ -1,12 +1,10 @@
-ghost use Rattle.std.specs.Prelude.{◌≡◌, ℕ, ◌+◌, ◌≤◌, ◌↔◌, Contains, IfOk, OnOk};
-ghost use Rattle.std.specs.List.Sorted.{IsStrictlyIncreasing};
+ghost use Rattle.std.specs.Prelude.{◌≡◌, ◌+◌, ◌≤◌, IfOk, OnOk};
 ghost use Rattle.map_defs.specs.Kind.{beta};
 ghost use Rattle.map_defs.specs.Rows.{links_of, made};
 ghost use Rattle.map_defs.specs.Laws.{Laws};
-ghost use Rattle.sewing.specs.Triples.{IsAscending};
 ghost use Rattle.cell_edit.specs.Stars.{star_of};
 ghost use Rattle.cell_edit.specs.Writing.{WritesEntries, Appends};
-ghost use Rattle.beta_edit.specs.Cutting.{IsCornerOf, IsAlongEntry, IsOverEntry, IsCornerEntry, AreCutEntries, IsTurn, AreTurns};
+ghost use Rattle.beta_edit.specs.Cutting.{IsAlongEntry, IsOverEntry, IsCornerEntry, AreCutEntries, IsTurn, AreTurns};
 
 use crate::writing::{push_link, push_way};
 use cell_edit::{Stars, room_for_changes};
@@ -14,22 +12,6 @@ use link_rows::{Change, Links};
 use map_kind::{Beta, Dart};
 use sewing::Triple;
 use std::alloc::{AllocError, Global};
-
-/// The corners of an edge's pairs, ascending: the first darts of those at link 0.
-pub(crate) fn corners(alloc: Global, pairs: &[Triple]) -> Result<Vec<Dart>, AllocError>
-    requires { IsAscending pairs.now }
-    ensures members { IfOk result (λ corners. (x : ℕ) → Contains corners.items x ↔ IsCornerOf pairs.now x) }
-    ensures ascending { IfOk result (λ corners. IsStrictlyIncreasing corners.items) }
-{
-    let mut corners = Vec::new(alloc);
-    for pair in pairs {
-        if pair.t != 0 {
-            continue;
-        }
-        corners.push(pair.x)?;
-    }
-    Ok(corners)
-}
 
 /// The changes by which the way into each corner leads over its new dart into the corner to which it turns.
 pub(crate) fn cut_changes<const DIM: usize>(

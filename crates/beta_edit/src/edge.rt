@@ -7,8 +7,8 @@ ghost use Rattle.map_defs.specs.Insertion.{AreOnOneSide, InBetaCorner, BetaEdgeP
 ghost use Rattle.sewing.specs.Triples.{Lists, IsAscending};
 ghost use Rattle.cell_edit.specs.Planning.{PlansEdge};
 
-use crate::cut::{corners, cut_changes};
-use cell_edit::{Stars, leads};
+use crate::cut::cut_changes;
+use cell_edit::{Stars, corners, is_near, leads};
 use cell_walk::reaches;
 use link_rows::{Edit, Links};
 use map_kind::{Beta, Dart, LinkWord, Refusal, Refused};
@@ -60,7 +60,8 @@ pub fn edge_plan<const DIM: usize>(
     }
 }
 
-/// Whether two darts lie on one side of one face. The walk goes both ways around the face, and ends where it finds `other`.
+/// Whether two darts lie on one side of one face. A few steps are taken each way around the face first; then the walk goes
+/// both ways, remembers the darts, and ends where it finds `other`.
 fn are_on_one_side<const DIM: usize>(
     alloc: Global,
     links: &Links<Beta, DIM>,
@@ -70,6 +71,9 @@ fn are_on_one_side<const DIM: usize>(
     requires { 2 ≤ DIM }
     ensures { IfOk result (λ one_side. IsTrue one_side ↔ AreOnOneSide (links_of links.now.rows) one other) }
 {
+    if is_near(links, 1, 1, one, other) || is_near(links, 0, 0, one, other) {
+        return Ok(true);
+    }
     leads(alloc, links, &[0, 1], one, other)
 }
 
