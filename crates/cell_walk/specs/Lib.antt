@@ -3,3 +3,4 @@ pub mod Surveys
 pub mod Marks
 pub mod CellLists
 pub mod Ways
+pub mod CellCourses

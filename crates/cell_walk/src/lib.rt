@@ -1,17 +1,20 @@
 //! Orbits, cells and components of a map, found by walking along its links.
 #![tactic(auto)]
 
+mod around;
 mod found;
 mod one_cell;
 mod orbits;
 mod rounds;
 mod search;
 mod seen;
+mod surface;
 #[cfg(test)]
 mod tests;
 mod ways;
 mod whole_map;
 
+pub use around::CellWalk;
 pub use one_cell::{cell, cells_of, least, same};
 pub use orbits::{follow, orbit, orbits_of};
 pub use search::reaches;

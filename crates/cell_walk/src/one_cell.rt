@@ -4,7 +4,8 @@ ghost use Rattle.map_defs.specs.Rows.{links_of};
 ghost use Rattle.map_defs.specs.Cells.{InCell, NamesCell};
 ghost use Rattle.cell_walk.specs.CellLists.{AreCellsOf, lists_of};
 
-use crate::orbits::{each_orbit, orbit};
+use crate::around::CellWalk;
+use crate::orbits::each_orbit;
 use link_rows::Links;
 use map_kind::{Dart, Kind};
 use std::alloc::{AllocError, Global};
@@ -20,8 +21,7 @@ pub fn cell<K: Kind, const DIM: usize>(
     ensures members { IfOk result (λ cell. (y : ℕ) → Contains cell.items y ↔ InCell K.kind (links_of links.now.rows) dim dart y) }
     ensures ascending { IfOk result (λ cell. IsStrictlyIncreasing cell.items) }
 {
-    let words = K::words(alloc, links.dimension(), dim)?;
-    orbit(alloc, links, &words, dart)
+    CellWalk::new(alloc, links, dim)?.cell(alloc, links, dart)
 }
 
 /// The cells of dimension `dim` of these darts, in the same order: the darts of each, ascending. It costs the sizes of the

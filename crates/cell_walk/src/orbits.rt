@@ -37,7 +37,7 @@ pub fn orbit<K: Kind, const DIM: usize>(
 }
 
 /// The orbit of a dart under some words, ascending, found by a walk that goes so along them.
-fn walked<K: Kind, const DIM: usize>(
+pub(crate) fn walked<K: Kind, const DIM: usize>(
     alloc: Global,
     links: &Links<K, DIM>,
     words: &[LinkWord],

@@ -4,7 +4,7 @@
 ghost use Rattle.std.specs.Prelude.{◌≡◌, ◌≢◌, ℕ, ◌↔◌, ◌⊎◌, Contains, IfOk, IfSome, IfNone, OnOk};
 ghost use Rattle.std.specs.List.Sorted.{IsStrictlyIncreasing};
 ghost use Rattle.map_defs.specs.Rows.{links_of};
-ghost use Rattle.map_defs.specs.LinkWords.{LinkWord as MapWord, through, IsWithin};
+ghost use Rattle.map_defs.specs.LinkWords.{LinkWord as MapWord, one_link, through, IsWithin};
 ghost use Rattle.map_defs.specs.Cells.{InOrbit, Leads};
 ghost use Rattle.cell_walk.specs.Ways.{IsEither, AreWays, IsFollowed};
 
@@ -54,8 +54,54 @@ fn go_on<K: Kind, const DIM: usize>(
     requires end { Contains darts.old.items end }
     ensures { OnOk result (IsFollowed K.kind (links_of links.now.rows) way.now.next way.now.after dart darts.old.items darts.new.items) }
 {
+    match (way.next.second, way.after.second) {
+        (None, None) => go_on_links(links, way.next.first, way.after.first, dart, end, darts),
+        _ => go_on_words(links, *way, dart, end, darts),
+    }
+}
+
+/// Follows a way of two words of one link each, by their links.
+fn go_on_links<K: Kind, const DIM: usize>(
+    links: &Links<K, DIM>,
+    next: usize,
+    after: usize,
+    dart: Dart,
+    end: Dart,
+    darts: &mut Vec<Dart>,
+) -> Result<(), AllocError>
+    requires next { next ≤ DIM }
+    requires after { after ≤ DIM }
+    requires met { Contains darts.old.items dart }
+    requires end { Contains darts.old.items end }
+    ensures { OnOk result (IsFollowed K.kind (links_of links.now.rows) (one_link next) (one_link after) dart darts.old.items darts.new.items) }
+{
     links.see_sound();
-    let mut way = *way;
+    let mut turn = (next, after);
+    let mut at = dart;
+    while let Some(next) = onward(links, LinkWord::one(turn.0), at, end) {
+        darts.push(next)?;
+        at = next;
+        turn = (turn.1, turn.0);
+    }
+    Ok(())
+}
+
+/// Follows a way of any words.
+fn go_on_words<K: Kind, const DIM: usize>(
+    links: &Links<K, DIM>,
+    way: Way,
+    dart: Dart,
+    end: Dart,
+    darts: &mut Vec<Dart>,
+) -> Result<(), AllocError>
+    requires next { IsWithin DIM way.next }
+    requires after { IsWithin DIM way.after }
+    requires met { Contains darts.old.items dart }
+    requires end { Contains darts.old.items end }
+    ensures { OnOk result (IsFollowed K.kind (links_of links.now.rows) way.next way.after dart darts.old.items darts.new.items) }
+{
+    links.see_sound();
+    let mut way = way;
     let mut at = dart;
     while let Some(next) = onward(links, way.next, at, end) {
         darts.push(next)?;

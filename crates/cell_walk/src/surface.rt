@@ -1,0 +1,78 @@
+//! The ways of the cells of surfaces, whose orbits are all paths and rings.
+ghost use Rattle.std.specs.Prelude.{◌≡◌, ◌≤◌};
+ghost use Rattle.map_defs.specs.Kind.{alpha, beta};
+ghost use Rattle.map_defs.specs.LinkWords.{one_link};
+ghost use Rattle.cell_walk.specs.CellCourses.{AreCellWays};
+
+use crate::ways::{Way, Ways};
+use map_kind::{Kind, LinkWord, is_generalized};
+
+/// The ways along the words of the cells of dimension `dim` of a surface.
+pub(crate) fn surface_ways<K: Kind>(dim: usize) -> Ways
+    requires { dim ≤ 2 }
+    ensures { AreCellWays K.kind 2 dim result }
+{
+    if is_generalized::<K>() {
+        generalized_ways(dim)
+    } else {
+        combinatorial_ways(dim)
+    }
+}
+
+/// Those of a generalized map: its two links that are not the cell's own take turns.
+fn generalized_ways(dim: usize) -> Ways
+    requires { dim ≤ 2 }
+    ensures { AreCellWays alpha 2 dim result }
+{
+    match dim {
+        0 => taking_turns(1, 2),
+        1 => taking_turns(0, 2),
+        _ => taking_turns(0, 1),
+    }
+}
+
+/// Those of a combinatorial map: around a face link 1 leads on and link 0 back, along an edge link 2 leads both ways, and
+/// around a vertex go two words of two links.
+fn combinatorial_ways(dim: usize) -> Ways
+    requires { dim ≤ 2 }
+    ensures { AreCellWays beta 2 dim result }
+{
+    match dim {
+        0 => keeping_on(LinkWord::two(2, 1), LinkWord::two(0, 2)),
+        1 => keeping_on(LinkWord::one(2), LinkWord::one(2)),
+        _ => keeping_on(LinkWord::one(1), LinkWord::one(0)),
+    }
+}
+
+/// The ways in which two links take turns.
+fn taking_turns(one: usize, other: usize) -> Ways
+    ensures { result ≡ record { forth = record { next = one_link one; after = one_link other }; back = record { next = one_link other; after = one_link one } } }
+{
+    let (one, other) = (LinkWord::one(one), LinkWord::one(other));
+    Ways {
+        forth: Way {
+            next: one,
+            after: other,
+        },
+        back: Way {
+            next: other,
+            after: one,
+        },
+    }
+}
+
+/// The ways in which a word leads on and another one back, again and again.
+fn keeping_on(forth: LinkWord, back: LinkWord) -> Ways
+    ensures { result ≡ record { forth = record { next = forth; after = forth }; back = record { next = back; after = back } } }
+{
+    Ways {
+        forth: Way {
+            next: forth,
+            after: forth,
+        },
+        back: Way {
+            next: back,
+            after: back,
+        },
+    }
+}
