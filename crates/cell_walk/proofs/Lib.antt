@@ -1,4 +1,5 @@
 mod CellDarts
+mod CellRounds
 mod ComponentDarts
 mod Counting
 pub mod FoundDarts

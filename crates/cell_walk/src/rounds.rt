@@ -1,7 +1,7 @@
 //! Orbits that are paths or rings, walked from nothing: a walk along such an orbit need not look through what it has found,
 //! for it can only come back where it began, or where it stands. The proof does not rest on that: darts that were found
 //! twice would be listed once.
-ghost use Rattle.std.specs.Prelude.{◌≡◌, ◌≢◌, ℕ, ◌↔◌, ◌⊎◌, Contains, IfOk, IfSome, IfNone, OnOk};
+ghost use Rattle.std.specs.Prelude.{◌≡◌, ◌≢◌, ℕ, ◌≤◌, ◌↔◌, ◌⊎◌, Contains, IfOk, IfSome, IfNone, OnOk};
 ghost use Rattle.std.specs.List.Sorted.{IsStrictlyIncreasing};
 ghost use Rattle.map_defs.specs.Rows.{links_of};
 ghost use Rattle.map_defs.specs.LinkWords.{LinkWord as MapWord, one_link, through, IsWithin};
@@ -78,7 +78,7 @@ fn go_on_links<K: Kind, const DIM: usize>(
     links.see_sound();
     let mut turn = (next, after);
     let mut at = dart;
-    while let Some(next) = onward(links, LinkWord::one(turn.0), at, end) {
+    while let Some(next) = onward_link(links, turn.0, at, end) {
         darts.push(next)?;
         at = next;
         turn = (turn.1, turn.0);
@@ -129,4 +129,23 @@ fn onward<K: Kind, const DIM: usize>(
         return None;
     }
     Some(reached)
+}
+
+/// The dart at a link of a dart, unless it is the end, or the dart itself.
+fn onward_link<K: Kind, const DIM: usize>(
+    links: &Links<K, DIM>,
+    link: usize,
+    dart: Dart,
+    end: Dart,
+) -> Option<Dart>
+    requires { link ≤ DIM }
+    ensures some { IfSome result (λ next. (links_of links.now.rows link dart ≡ next) × (next ≢ 0)) }
+    ensures none { IfNone result ((y : ℕ) → links_of links.now.rows link dart ≡ y → y ≢ 0
+        → (y ≡ end) ⊎ (y ≡ dart)) }
+{
+    let number = links.number_at(dart, link);
+    if number == end.number() || number == dart.number() {
+        return None;
+    }
+    Dart::new(number)
 }
