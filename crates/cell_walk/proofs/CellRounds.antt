@@ -26,7 +26,7 @@ pub ways-cell : (k : Kind) (n i : ℕ) (rows : Rows) (ways : Ways) → IsSound k
 ways-cell k n i rows ways sound are d y = (
   orbit-wider Step (Leads (links_of rows) (IsCellWord k i)) (λ u v s. (s.0, ((are.same s.0).1 s.1).0, s.2, s.3)) d y,
   orbit-wider (Leads (links_of rows) (IsCellWord k i)) Step
-  (λ u v s. (s.0, (are.same s.0).0 (s.1, IsWithin-leads k n rows sound s.0 u (λ none. s.3 (sym s.2 ∙ none))), s.2, s.3)) d y,
+      (λ u v s. (s.0, (are.same s.0).0 (s.1, IsWithin-leads k n rows sound s.0 u (λ none. s.3 (sym s.2 ∙ none))), s.2, s.3)) d y,
 )
   where
     Step : ℕ → ℕ → Type 0

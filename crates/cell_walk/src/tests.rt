@@ -2,11 +2,12 @@ ghost use Rattle.std.specs.Prelude.{◌≡◌, ◌≤◌, [], ◌∷◌, All, No
 ghost use Rattle.map_defs.specs.LinkWords.{IsWithin};
 
 use crate::{
-    cell, cell_lists, cells, cells_of, components, counts, least, orbit, orbits_of, reaches, same,
+    CellWalk, cell, cell_lists, cells, cells_of, components, counts, least, orbit, orbits_of,
+    reaches, same,
 };
 use link_rows::{Change, Edit, Links, polygon_edit};
 use map_kind::{Alpha, Beta, Dart, Kind, LinkWord};
-use std::alloc::Global;
+use std::alloc::{AllocError, Global};
 use std::process::Abort;
 
 /// A polygon of so many sides, numbered on from the darts that were made.
@@ -104,6 +105,14 @@ fn looks_for_a_dart_and_joins_orbits(rt: HostRuntime) {
     check_sides(&rt, rt.alloc(), &links);
 }
 
+/// Compares darts that were found.
+fn check_found(rt: &impl Abort, found: Result<Vec<Dart>, AllocError>, wanted: &[u32]) {
+    match found {
+        Ok(darts) => check(rt, &darts, wanted),
+        Err(_) => panic!(rt; "no memory"),
+    }
+}
+
 /// Compares the darts of the cell of a dart.
 fn check_cell<K: Kind, const DIM: usize>(
     rt: &impl Abort,
@@ -115,10 +124,7 @@ fn check_cell<K: Kind, const DIM: usize>(
 )
     requires { dim ≤ DIM }
 {
-    match cell(alloc, links, dim, dart(rt, number)) {
-        Ok(darts) => check(rt, &darts, wanted),
-        Err(_) => panic!(rt; "no memory"),
-    }
+    check_found(rt, cell(alloc, links, dim, dart(rt, number)), wanted);
 }
 
 /// Compares whether two darts lie in one cell.
@@ -165,6 +171,23 @@ fn check_cells_of_darts(rt: &impl Abort, alloc: Global, links: &Links<Alpha, 2>)
 fn finds_the_cells_of_a_dart(rt: HostRuntime) {
     let links = triangle_and_square::<Alpha>(&rt, rt.alloc());
     check_cells_of_darts(&rt, rt.alloc(), &links);
+}
+
+/// Asks one walk for the edges of two darts.
+fn check_walk(rt: &impl Abort, alloc: Global, links: &Links<Alpha, 2>) {
+    match CellWalk::new(alloc, links, 1) {
+        Ok(edges) => {
+            check_found(rt, edges.cell(alloc, links, dart(rt, 14)), &[13, 14]);
+            check_found(rt, edges.cell(alloc, links, dart(rt, 1)), &[1, 2]);
+        }
+        Err(_) => panic!(rt; "no memory"),
+    }
+}
+
+#[test]
+fn walks_around_cells_of_one_dimension(rt: HostRuntime) {
+    let links = triangle_and_square::<Alpha>(&rt, rt.alloc());
+    check_walk(&rt, rt.alloc(), &links);
 }
 
 /// Compares the darts of the edges of darts.
