@@ -1,5 +1,5 @@
 -- The darts of a path or a ring, found both ways from a dart, besides none.
-use Rattle.std.proofs.Common.{◌≡◌, ℕ, ◌<◌, ◌↔◌, List, [], ◌∷◌, ◌++◌, length, get_or, Contains, sym, ap, ◌∙◌, subst, inr}
+use Rattle.std.proofs.Common.{◌≡◌, ◌≢◌, ℕ, ◌<◌, ◌⊎◌, ◌↔◌, List, [], ◌∷◌, ◌++◌, length, get_or, Contains, sym, ap, ◌∙◌, subst, inr}
 use Rattle.std.proofs.lemmas.List.Elements.{Contains-push}
 use Rattle.map_defs.specs.Kind.{Kind}
 use Rattle.map_defs.specs.Links.{Links}
@@ -26,3 +26,12 @@ module _ (k : Kind) (L : Links) (f g b c : LinkWord) (d : ℕ) (start half : Lis
   round-found new ways other y =
       let found = gone-round k L f g b c d [] half new ways (closed-none (Leads L (IsEither f b))) (subst (λ xs. IsFollowed k L f g d xs half) is one) other y in
       (λ has. orbit-alone (Leads L (IsEither f b)) d y (found.0 has), λ o. found.1 (inr o))
+
+-- a word leads on to the dart of a number
+pub led-on : (number next to : ℕ) → number ≡ to → next ≡ number → number ≢ 0 → (to ≡ next) × (next ≢ 0)
+led-on number next to leads is dart = (sym (is ∙ leads), λ none. dart (sym is ∙ none))
+
+-- a word leads back
+pub led-back : (number to at end : ℕ) → number ≡ to → (number ≢ 0 → (number ≡ end) ⊎ (number ≡ at)) → (y : ℕ) → to ≡ y → y ≢ 0 → (y ≡ end) ⊎ (y ≡ at)
+led-back number to at end leads back y is dart =
+    subst (λ m. (m ≡ end) ⊎ (m ≡ at)) (leads ∙ is) (back (λ none. dart (sym (leads ∙ is) ∙ none)))

@@ -8,7 +8,6 @@ ghost use Rattle.map_defs.specs.LinkWords.{LinkWord as MapWord, one_link, throug
 ghost use Rattle.map_defs.specs.Cells.{InOrbit, Leads};
 ghost use Rattle.cell_walk.specs.Ways.{IsEither, AreWays, IsFollowed};
 
-use crate::orbits::follow;
 use crate::ways::{Way, Ways};
 use link_rows::Links;
 use map_kind::{Dart, Kind, LinkWord};
@@ -56,7 +55,7 @@ fn go_on<K: Kind, const DIM: usize>(
 {
     match (way.next.second, way.after.second) {
         (None, None) => go_on_links(links, way.next.first, way.after.first, dart, end, darts),
-        _ => go_on_words(links, *way, dart, end, darts),
+        _ => go_on_words(links, way, dart, end, darts),
     }
 }
 
@@ -78,7 +77,7 @@ fn go_on_links<K: Kind, const DIM: usize>(
     links.see_sound();
     let mut turn = (next, after);
     let mut at = dart;
-    while let Some(next) = onward_link(links, turn.0, at, end) {
+    while let Some(next) = onward(links.number_at(at, turn.0), at, end) {
         darts.push(next)?;
         at = next;
         turn = (turn.1, turn.0);
@@ -89,62 +88,52 @@ fn go_on_links<K: Kind, const DIM: usize>(
 /// Follows a way of any words.
 fn go_on_words<K: Kind, const DIM: usize>(
     links: &Links<K, DIM>,
-    way: Way,
+    way: &Way,
     dart: Dart,
     end: Dart,
     darts: &mut Vec<Dart>,
 ) -> Result<(), AllocError>
-    requires next { IsWithin DIM way.next }
-    requires after { IsWithin DIM way.after }
+    requires next { IsWithin DIM way.now.next }
+    requires after { IsWithin DIM way.now.after }
     requires met { Contains darts.old.items dart }
     requires end { Contains darts.old.items end }
-    ensures { OnOk result (IsFollowed K.kind (links_of links.now.rows) way.next way.after dart darts.old.items darts.new.items) }
+    ensures { OnOk result (IsFollowed K.kind (links_of links.now.rows) way.now.next way.now.after dart darts.old.items darts.new.items) }
 {
     links.see_sound();
-    let mut way = way;
+    let mut turn = (&way.next, &way.after);
     let mut at = dart;
-    while let Some(next) = onward(links, way.next, at, end) {
+    while let Some(next) = onward(number_along(links, turn.0, at), at, end) {
         darts.push(next)?;
         at = next;
-        way = way.turned();
+        turn = (turn.1, turn.0);
     }
     Ok(())
 }
 
-/// The dart to which a word leads, unless it is the end, or the dart from which it leads.
-#[inline(always)]
-fn onward<K: Kind, const DIM: usize>(
+/// The number of the dart to which a word leads; 0 where a link on its way is free.
+fn number_along<K: Kind, const DIM: usize>(
     links: &Links<K, DIM>,
-    word: LinkWord,
+    word: &LinkWord,
     dart: Dart,
-    end: Dart,
-) -> Option<Dart>
-    requires { IsWithin DIM word }
-    ensures some { IfSome result (λ next. (through (links_of links.now.rows) word dart ≡ next) × (next ≢ 0)) }
-    ensures none { IfNone result ((y : ℕ) → through (links_of links.now.rows) word dart ≡ y → y ≢ 0
-        → (y ≡ end) ⊎ (y ≡ dart)) }
+) -> u32
+    requires { IsWithin DIM word.now }
+    ensures { result ≡ through (links_of links.now.rows) word.now dart }
 {
-    let reached = follow(links, word, dart)?;
-    if reached == end || reached == dart {
-        return None;
+    let Some(second) = word.second else {
+        return links.number_at(dart, word.first);
+    };
+    match links.link(dart, word.first) {
+        Some(reached) => links.number_at(reached, second),
+        None => 0,
     }
-    Some(reached)
 }
 
-/// The dart at a link of a dart, unless it is the end, or the dart itself.
-fn onward_link<K: Kind, const DIM: usize>(
-    links: &Links<K, DIM>,
-    link: usize,
-    dart: Dart,
-    end: Dart,
-) -> Option<Dart>
-    requires { link ≤ DIM }
-    ensures some { IfSome result (λ next. (links_of links.now.rows link dart ≡ next) × (next ≢ 0)) }
-    ensures none { IfNone result ((y : ℕ) → links_of links.now.rows link dart ≡ y → y ≢ 0
-        → (y ≡ end) ⊎ (y ≡ dart)) }
+/// The dart of a number, unless it is the end, or the dart from which a word led to it.
+fn onward(number: u32, from: Dart, end: Dart) -> Option<Dart>
+    ensures some { IfSome result (λ next. (next ≡ number) × (number ≢ 0)) }
+    ensures none { IfNone result (number ≢ 0 → (number ≡ end) ⊎ (number ≡ from)) }
 {
-    let number = links.number_at(dart, link);
-    if number == end.number() || number == dart.number() {
+    if number == end.number() || number == from.number() {
         return None;
     }
     Dart::new(number)

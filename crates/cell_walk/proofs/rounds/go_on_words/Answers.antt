@@ -1,28 +1,33 @@
 use Rattle.std.proofs.Common.{length, ap, arith}
 use Rattle.std.proofs.lemmas.List.{length_push}
 use Rattle.map_defs.specs.Rows.{links_of}
+use Rattle.map_defs.specs.LinkWords.{through}
 use Rattle.cell_walk.proofs.CellDarts.{links-nothing}
 use Rattle.cell_walk.proofs.OnWays.{on_way-none, on_way-more, on_way-back}
+use Rattle.cell_walk.proofs.RoundDarts.{led-on, led-back}
 use Rattle.cell_walk.proofs.rounds.go_on_words.Goals as goal
 
 pub loop-next-init : goal.loop-next-init
 loop-next-init g c =
-    (c.requires.next, c.requires.after, on_way-none g.K.Kind.kind (links_of c.args.links.now.rows) c.args.way.next c.args.way.after c.args.dart c.args.darts.now.items c.requires.met)
+    (c.requires.next, c.requires.after, on_way-none g.K.Kind.kind (links_of c.args.links.now.rows) c.args.way.now.next c.args.way.now.after c.args.dart c.args.darts.now.items c.requires.met)
 
 pub loop-next-smaller : goal.loop-next-smaller
 loop-next-smaller g c = omega (arith, c.push.new.self.ok.0, ap length c.in_ok-push.ensures.items, length_push c.loop-next.darts.items c.in-Some.next)
 
 pub loop-next-preserved : goal.loop-next-preserved
 loop-next-preserved g c =
-    rw (c.turned-way.ensures, c.in_ok-push.ensures.items) (
+    let led = led-on c.number_along.result c.in-Some.next (through (links_of c.args.links.now.rows) c.loop-next.turn.0.now c.loop-next.at) c.number_along.ensures c.in-Some.ensures.some.0 c.in-Some.ensures.some.1 in
+    rw c.in_ok-push.ensures.items (
       c.loop-next.invariant.1,
       c.loop-next.invariant.0,
       on_way-more g.K.Kind.kind (links_of c.args.links.now.rows) (links-nothing g.K.Kind.kind g.row.DIM c.args.links.now.rows c.see_sound.ensures.sound) c.see_sound.ensures.sound.back
-          c.args.way.next c.args.way.after c.args.dart c.args.darts.now.items c.loop-next.way.next c.loop-next.way.after c.loop-next.at c.in-Some.next c.loop-next.darts.items
-          c.in-Some.ensures.some.0 c.in-Some.ensures.some.1 c.loop-next.invariant.2,
+          c.args.way.now.next c.args.way.now.after c.args.dart c.args.darts.now.items c.loop-next.turn.0.now c.loop-next.turn.1.now c.loop-next.at c.in-Some.next c.loop-next.darts.items
+          led.0 led.1 c.loop-next.invariant.2,
     )
 
 pub returns : goal.returns
 returns g c =
-    on_way-back g.K.Kind.kind (links_of c.args.links.now.rows) c.args.way.next c.args.way.after c.args.dart c.args.end c.args.darts.now.items c.loop-next.way.next c.loop-next.way.after c.loop-next.at c.loop-next.darts.items
-    c.requires.end c.in_default.ensures.none c.loop-next.invariant.2
+    on_way-back g.K.Kind.kind (links_of c.args.links.now.rows) c.args.way.now.next c.args.way.now.after c.args.dart c.args.end c.args.darts.now.items c.loop-next.turn.0.now c.loop-next.turn.1.now c.loop-next.at c.loop-next.darts.items
+    c.requires.end
+    (led-back c.number_along.result (through (links_of c.args.links.now.rows) c.loop-next.turn.0.now c.loop-next.at) c.loop-next.at c.args.end c.number_along.ensures c.in_default.ensures.none)
+    c.loop-next.invariant.2
