@@ -1,5 +1,5 @@
 -- Walks around the cells of a dimension, by ways or along words.
-use Rattle.std.proofs.Common.{◌≡◌, ◌≢◌, ℕ, ◌↔◌, List, Contains, refl, sym, ◌∙◌}
+use Rattle.std.proofs.Common.{◌≢◌, ℕ, ◌↔◌, List, refl, sym, ◌∙◌}
 use Rattle.map_defs.specs.Kind.{Kind}
 use Rattle.map_defs.specs.LinkWords.{LinkWord, IsCellWord, IsWithin}
 use Rattle.map_defs.specs.Cells.{InOrbit, Leads, InCell}
