@@ -1,4 +1,4 @@
-ghost use Rattle.std.specs.Prelude.{◌≡◌, ℕ, ◌≤◌, ◌<◌, ◌^◌, ◌↔◌, [], ◌∷◌, ◌++◌, length, take, slice_index, Contains, IsTrue, IfOk, OnOk};
+ghost use Rattle.std.specs.Prelude.{◌≡◌, ◌≢◌, ℕ, ◌≤◌, ◌<◌, ◌^◌, ◌↔◌, [], ◌∷◌, ◌++◌, length, take, slice_index, Contains, IsTrue, IfOk, IfSome, IfNone, OnOk};
 ghost use Rattle.std.specs.List.Sorted.{IsStrictlyIncreasing};
 
 use crate::seen::Seen;
@@ -65,6 +65,19 @@ impl<S: Seen> Found<S> {
         ensures { IsTrue result ↔ Contains self.now dart }
     {
         self.seen.contains(&self.darts, dart)
+    }
+
+    /// The dart of a number, if it is the number of a dart that was not found.
+    #[inline(always)]
+    pub(crate) fn unmet(&self, number: u32) -> Option<Dart>
+        ensures some { IfSome result (λ dart. (number ≡ dart) × (dart ≢ 0) × (Contains self.now dart → ⊥)) }
+        ensures none { IfNone result (number ≢ 0 → Contains self.now number) }
+    {
+        let dart = Dart::new(number)?;
+        if self.contains(dart) {
+            return None;
+        }
+        Some(dart)
     }
 
     /// Adds a dart that was not found before. There are never more than a vector can hold.

@@ -1,7 +1,7 @@
 //! Orbits that are paths or rings: walks in which two words take turns.
-ghost use Rattle.std.specs.Prelude.{◌≡◌, ◌≢◌, ℕ, ◌↔◌, ◌⊎◌, length, take, All, Contains, IsTrue, IfSome, IfNone, OnOk};
+ghost use Rattle.std.specs.Prelude.{◌≡◌, ◌≢◌, ℕ, ◌≤◌, ◌↔◌, ◌⊎◌, length, take, All, Contains, IsTrue, IfSome, IfNone, OnOk};
 ghost use Rattle.map_defs.specs.Rows.{links_of};
-ghost use Rattle.map_defs.specs.LinkWords.{LinkWord as MapWord, through, inverse_word, IsWithin};
+ghost use Rattle.map_defs.specs.LinkWords.{LinkWord as MapWord, one_link, two_links, through, inverse_word, IsWithin};
 ghost use Rattle.map_defs.specs.Cells.{InOrbit, Leads};
 ghost use Rattle.cell_walk.specs.Visits.{IsClosed};
 ghost use Rattle.cell_walk.specs.Ways.{IsEither, IsLink, AreWays, IsCourse, IsFollowed};
@@ -156,6 +156,94 @@ pub(crate) fn go_round<S: Seen, K: Kind, const DIM: usize>(
 
 /// Follows a way from a dart that was found, until it leads nowhere or to a dart that was found.
 fn follow_way<S: Seen, K: Kind, const DIM: usize>(
+    links: &Links<K, DIM>,
+    way: &Way,
+    dart: Dart,
+    found: &mut Found<S>,
+) -> Result<(), AllocError>
+    requires next { IsWithin DIM way.now.next }
+    requires after { IsWithin DIM way.now.after }
+    requires met { Contains found.old dart }
+    ensures { OnOk result (IsFollowed K.kind (links_of links.now.rows) way.now.next way.now.after dart found.old found.new) }
+{
+    match (way.next.second, way.after.second) {
+        (None, None) => follow_links(links, way.next.first, way.after.first, dart, found),
+        (Some(second), Some(_)) if way.next == way.after => {
+            follow_pair(links, way.next.first, second, dart, found)
+        }
+        _ => follow_words(links, way, dart, found),
+    }
+}
+
+/// Follows two links in turn from a dart that was found, `one` first, until they lead nowhere or to a dart that was found.
+fn follow_links<S: Seen, K: Kind, const DIM: usize>(
+    links: &Links<K, DIM>,
+    one: usize,
+    other: usize,
+    dart: Dart,
+    found: &mut Found<S>,
+) -> Result<(), AllocError>
+    requires one { one ≤ DIM }
+    requires other { other ≤ DIM }
+    requires met { Contains found.old dart }
+    ensures { OnOk result (IsFollowed K.kind (links_of links.now.rows) (one_link one) (one_link other) dart found.old found.new) }
+{
+    links.see_sound();
+    let mut next = one;
+    let mut after = other;
+    let mut at = dart;
+    while let Some(reached) = found.unmet(links.number_at(at, next)) {
+        found.put(reached)?;
+        at = reached;
+        let last = next;
+        next = after;
+        after = last;
+    }
+    Ok(())
+}
+
+/// Follows a word of two links again and again from a dart that was found, until it leads nowhere or to a dart that was found.
+fn follow_pair<S: Seen, K: Kind, const DIM: usize>(
+    links: &Links<K, DIM>,
+    first: usize,
+    second: usize,
+    dart: Dart,
+    found: &mut Found<S>,
+) -> Result<(), AllocError>
+    requires first { first ≤ DIM }
+    requires second { second ≤ DIM }
+    requires met { Contains found.old dart }
+    ensures { OnOk result (IsFollowed K.kind (links_of links.now.rows) (two_links first second) (two_links first second) dart found.old found.new) }
+{
+    links.see_sound();
+    let mut at = dart;
+    while let Some(reached) = found.unmet(number_through(links, first, second, at)) {
+        found.put(reached)?;
+        at = reached;
+    }
+    Ok(())
+}
+
+/// The number of the dart to which two links lead, one after the other; 0 where one on the way is free.
+#[inline(always)]
+fn number_through<K: Kind, const DIM: usize>(
+    links: &Links<K, DIM>,
+    first: usize,
+    second: usize,
+    dart: Dart,
+) -> u32
+    requires first { first ≤ DIM }
+    requires second { second ≤ DIM }
+    ensures { result ≡ through (links_of links.now.rows) (two_links first second) dart }
+{
+    match links.link(dart, first) {
+        Some(middle) => links.number_at(middle, second),
+        None => 0,
+    }
+}
+
+/// Follows a way along any words from a dart that was found, until it leads nowhere or to a dart that was found.
+fn follow_words<S: Seen, K: Kind, const DIM: usize>(
     links: &Links<K, DIM>,
     way: &Way,
     dart: Dart,

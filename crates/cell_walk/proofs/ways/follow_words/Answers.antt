@@ -3,7 +3,7 @@ use Rattle.std.proofs.lemmas.List.{length_push}
 use Rattle.map_defs.specs.Rows.{links_of}
 use Rattle.cell_walk.proofs.CellDarts.{links-nothing}
 use Rattle.cell_walk.proofs.OnWays.{on_way-none, on_way-more, on_way-all}
-use Rattle.cell_walk.proofs.ways.follow_way.Goals as goal
+use Rattle.cell_walk.proofs.ways.follow_words.Goals as goal
 
 pub loop-next-init : goal.loop-next-init
 loop-next-init g c =

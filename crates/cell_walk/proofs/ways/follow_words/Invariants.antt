@@ -2,7 +2,7 @@ use Rattle.std.proofs.Common.{◌-◌, length}
 use Rattle.map_defs.specs.Rows.{links_of}
 use Rattle.map_defs.specs.LinkWords.{IsWithin}
 use Rattle.cell_walk.proofs.OnWays.{IsOnWay}
-use Rattle.cell_walk.proofs.ways.follow_way.Given as goal
+use Rattle.cell_walk.proofs.ways.follow_words.Given as goal
 
 abbrev pub invariant-loop-next : goal.invariant-loop-next
 invariant-loop-next g l =

@@ -1,0 +1,30 @@
+use Rattle.std.proofs.Common.{length, Contains, sym, ap, subst, ◌∙◌, arith}
+use Rattle.std.proofs.lemmas.List.{length_push}
+use Rattle.map_defs.specs.LinkWords.{one_link}
+use Rattle.map_defs.specs.Rows.{links_of}
+use Rattle.cell_walk.proofs.CellDarts.{links-nothing}
+use Rattle.cell_walk.proofs.OnWays.{on_way-none, on_way-more, on_way-all}
+use Rattle.cell_walk.proofs.ways.follow_links.Goals as goal
+
+pub loop-reached-init : goal.loop-reached-init
+loop-reached-init g c =
+    (c.requires.one, c.requires.other, on_way-none g.K.Kind.kind (links_of c.args.links.now.rows) (one_link c.args.one) (one_link c.args.other) c.args.dart c.args.found.now c.requires.met)
+
+pub loop-reached-smaller : goal.loop-reached-smaller
+loop-reached-smaller g c = omega (arith, c.in_ok-put.ensures.few, ap length c.in_ok-put.ensures.added, length_push c.loop-reached.found c.in-Some.reached)
+
+pub loop-reached-preserved : goal.loop-reached-preserved
+loop-reached-preserved g c =
+    rw (c.in_ok-put.ensures.added) (
+      c.loop-reached.invariant.1,
+      c.loop-reached.invariant.0,
+      on_way-more g.K.Kind.kind (links_of c.args.links.now.rows) (links-nothing g.K.Kind.kind g.row.DIM c.args.links.now.rows c.see_sound.ensures.sound) c.see_sound.ensures.sound.back
+          (one_link c.args.one) (one_link c.args.other) c.args.dart c.args.found.now (one_link c.loop-reached.next) (one_link c.loop-reached.after) c.loop-reached.at c.in-Some.reached c.loop-reached.found
+          (sym c.number_at.ensures ∙ c.in-Some.ensures.some.0) c.in-Some.ensures.some.1 c.loop-reached.invariant.2,
+    )
+
+pub returns : goal.returns
+returns g c =
+    on_way-all g.K.Kind.kind (links_of c.args.links.now.rows) (one_link c.args.one) (one_link c.args.other) c.args.dart c.args.found.now
+    (one_link c.loop-reached.next) (one_link c.loop-reached.after) c.loop-reached.at c.loop-reached.found
+    (λ y leads dart. subst (Contains c.loop-reached.found) (c.number_at.ensures ∙ leads) (c.in_default.ensures.none (λ none. dart (sym leads ∙ sym c.number_at.ensures ∙ none)))) c.loop-reached.invariant.2
