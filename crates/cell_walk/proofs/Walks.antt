@@ -56,12 +56,16 @@ visited-nowhere L w x found none = record {
   all = λ y leads. absurd (leads.3 (sym leads.2 ∙ ap (λ v. through L v x) leads.1 ∙ none));
 }
 
--- a word of one link leads to the dart of a number, which is added
+-- a word leads to the dart of a number, which is added
+pub visited-reached : (L : Links) (w : LinkWord) (x number : ℕ) (old new : List ℕ) → number ≡ through L w x → (number ≡ 0 → new ≡ old) → (number ≢ 0 → IsDartAdded old new number) → IsVisited L (λ v. v ≡ w) x old new
+visited-reached L w x zero old new is none dart =
+    subst (IsVisited L (λ v. v ≡ w) x old) (sym (none refl)) (visited-nowhere L w x old (sym is))
+visited-reached L w x (suc n) old new is none dart =
+    visited-added L w x (suc n) old new (sym is) (λ zero_is. absurd (omega (arith, zero_is))) (dart (λ zero_is. absurd (omega (arith, zero_is))))
+
+-- so does a word of one link
 pub visited-number : (L : Links) (w : LinkWord) (x number : ℕ) (old new : List ℕ) → w.second ≡ None → number ≡ L w.first x → (number ≡ 0 → new ≡ old) → (number ≢ 0 → IsDartAdded old new number) → IsVisited L (λ v. v ≡ w) x old new
-visited-number L w x zero old new single is none dart =
-    subst (IsVisited L (λ v. v ≡ w) x old) (sym (none refl)) (visited-nowhere L w x old (one-step L w x single ∙ sym is))
-visited-number L w x (suc n) old new single is none dart =
-    visited-added L w x (suc n) old new (one-step L w x single ∙ sym is) (λ zero_is. absurd (omega (arith, zero_is))) (dart (λ zero_is. absurd (omega (arith, zero_is))))
+visited-number L w x number old new single is none dart = visited-reached L w x number old new (is ∙ sym (one-step L w x single)) none dart
 
 -- after the words before place k, the word at place k
 pub visited-more : (L : Links) (words : List LinkWord) (k : ℕ) (w : LinkWord) (x : ℕ) (a b c : List ℕ) → k < length words → w ≡ get_or words k w → IsVisited L (Contains (take k words)) x a b → IsVisited L (λ v. v ≡ w) x b c → IsVisited L (Contains (take (k + 1) words)) x a c

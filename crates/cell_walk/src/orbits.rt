@@ -1,4 +1,4 @@
-ghost use Rattle.std.specs.Prelude.{◌≡◌, ◌≢◌, ℕ, ◌+◌, ◌<◌, ◌↔◌, ◌⊎◌, length, take, Contains, IfOk, OnOk, All, IsNone, IfSome};
+ghost use Rattle.std.specs.Prelude.{◌≡◌, ◌≢◌, ℕ, ◌+◌, ◌<◌, ◌↔◌, ◌⊎◌, length, take, slice_index, Contains, IfOk, OnOk, All, IsNone, IfSome};
 ghost use Rattle.std.specs.List.Sorted.{IsStrictlyIncreasing};
 ghost use Rattle.map_defs.specs.Rows.{links_of};
 ghost use Rattle.map_defs.specs.LinkWords.{LinkWord as MapWord, through, IsWithin};
@@ -11,7 +11,7 @@ use crate::found::Found;
 use crate::rounds::round;
 use crate::seen::{Few, Seen};
 use crate::ways::{Course, course_along, go_round};
-use link_rows::Links;
+use link_rows::{Links, Row};
 use map_kind::{Dart, Kind, LinkWord};
 use std::alloc::{AllocError, Global};
 
@@ -190,7 +190,7 @@ fn spread_links<S: Seen, K: Kind, const DIM: usize>(
     Ok(())
 }
 
-/// Finds the darts to which the words lead from a dart.
+/// Finds the darts to which the words lead from a dart. Their first links are read from its row.
 pub(crate) fn visit<S: Seen, K: Kind, const DIM: usize>(
     links: &Links<K, DIM>,
     words: &[LinkWord],
@@ -200,10 +200,34 @@ pub(crate) fn visit<S: Seen, K: Kind, const DIM: usize>(
     requires { All (IsWithin DIM) words.now }
     ensures { OnOk result (IsVisited (links_of links.now.rows) (Contains words.now) dart found.old found.new) }
 {
+    links.see_sound();
+    let Some(row) = links.row(dart) else {
+        return Ok(());
+    };
     for word in words {
-        step(links, *word, dart, found)?;
+        add(number_from(links, row, *word), found)?;
     }
     Ok(())
+}
+
+/// The number of the dart to which a word leads from the dart whose row this is; 0 where a link on its way is free.
+fn number_from<K: Kind, const DIM: usize>(
+    links: &Links<K, DIM>,
+    row: &Row<DIM>,
+    word: LinkWord,
+) -> u32
+    requires { IsWithin DIM word }
+    ensures { (dart : ℕ) → ((link : ℕ) → slice_index row.now link ≡ links_of links.now.rows link dart)
+        → result ≡ through (links_of links.now.rows) word dart }
+{
+    links.see_sound();
+    let Some(reached) = Dart::new(row.entry(word.first)) else {
+        return 0;
+    };
+    match word.second {
+        Some(second) => links.number_at(reached, second),
+        None => reached.number(),
+    }
 }
 
 /// Finds the darts to which words of one link each lead from a dart: all are read from its row.
@@ -239,26 +263,6 @@ fn add<S: Seen>(number: u32, found: &mut Found<S>) -> Result<(), AllocError>
         return Ok(());
     }
     found.put(dart)
-}
-
-/// Finds the dart to which a word leads, if it leads to one.
-#[inline(always)]
-fn step<S: Seen, K: Kind, const DIM: usize>(
-    links: &Links<K, DIM>,
-    word: LinkWord,
-    dart: Dart,
-    found: &mut Found<S>,
-) -> Result<(), AllocError>
-    requires { IsWithin DIM word }
-    ensures { OnOk result (IsVisited (links_of links.now.rows) (λ w. w ≡ word) dart found.old found.new) }
-{
-    let Some(reached) = follow(links, word, dart) else {
-        return Ok(());
-    };
-    if found.contains(reached) {
-        return Ok(());
-    }
-    found.put(reached)
 }
 
 /// The dart to which a word leads; none exactly where a link on its way is free. The word's links are links of the map.

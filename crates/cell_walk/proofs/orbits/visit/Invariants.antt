@@ -4,4 +4,4 @@ use Rattle.cell_walk.specs.Visits.{IsVisited}
 use Rattle.cell_walk.proofs.orbits.visit.Given as goal
 
 abbrev pub invariant-loop-word : goal.invariant-loop-word
-invariant-loop-word g l = IsVisited (links_of l.links.rows) (Contains (take l.word-index l.words)) l.dart l.initial.found l.found
+invariant-loop-word g l = IsVisited (links_of l.links.rows) (Contains (take l.word-index l.words)) l.fn.dart l.initial.found l.found
