@@ -1,16 +1,16 @@
 -- A walk along two words that take turns: what was found on the way, and what is found when both ways have ended.
-use Rattle.std.proofs.Common.{◌≡◌, ◌≢◌, ℕ, zero, suc, ◌+◌, ◌≤◌, ◌<◌, ◌⊎◌, ◌↔◌, List, [], ◌∷◌, ◌++◌, length, take, Contains, All, refl, sym, ap, ◌∙◌, subst, inl, inr, arith}
+use Rattle.std.proofs.Common.{◌≡◌, ◌≢◌, ℕ, zero, suc, ◌+◌, ◌≤◌, ◌<◌, ◌⊎◌, ◌↔◌, List, [], ◌∷◌, ◌++◌, length, take, Contains, All, Option, refl, sym, ap, ◌∙◌, subst, inl, inr, arith}
 use Rattle.std.proofs.lemmas.List.{take_all, take_at, length-take, length_push, take-take}
 use Rattle.std.proofs.lemmas.List.Elements.{Contains-append_left, Contains-push, Contains-push_cases}
 use Rattle.map_defs.specs.Kind.{Kind, inverse}
 use Rattle.map_defs.specs.Links.{Links}
-use Rattle.map_defs.specs.LinkWords.{LinkWord, through, inverse_word, IsWithin}
+use Rattle.map_defs.specs.LinkWords.{LinkWord, one_link, through, inverse_word, IsWithin}
 use Rattle.map_defs.specs.Cells.{InOrbit, here, onward, Leads}
 use Rattle.link_laws.proofs.CellTurns.{word_turns}
 use Rattle.cell_walk.specs.Visits.{IsClosed}
 use Rattle.cell_walk.specs.declared.ways.Way.{Way}
 use Rattle.cell_walk.specs.declared.ways.Ways.{Ways}
-use Rattle.cell_walk.specs.Ways.{IsEither, TakesTurns, AreWays, IsFollowed}
+use Rattle.cell_walk.specs.Ways.{IsEither, IsLink, TakesTurns, AreWays, IsFollowed}
 use Rattle.cell_walk.proofs.CellDarts.{orbit-wider}
 use Rattle.cell_walk.proofs.Walks.{Contains-before}
 
@@ -284,3 +284,18 @@ orbit-alike L V W same d y = (
 
 pub within-alike : (n : ℕ) (words : List LinkWord) (W : LinkWord → Type 0) → ((w : LinkWord) → Contains words w ↔ W w) → All (IsWithin n) words → (w : LinkWord) → W w → IsWithin n w
 within-alike n words W same all w is = let has = (same w).1 is in subst (IsWithin n) has.2 (all has.0 w has.1)
+
+-- a word by its links
+abbrev word_of : ℕ → Option ℕ → LinkWord
+word_of first second = record { first = first; second = second }
+
+-- a word of one link is told by that link
+link-is : (w : LinkWord) (i : ℕ) → i ≡ w.first → IsLink w → one_link i ≡ w
+link-is w i is single = ap one_link is ∙ ap (word_of w.first) (sym single)
+
+-- a way whose words are one link each was followed along these links
+pub followed-links : (k : Kind) (L : Links) (way : Way) (one other d : ℕ) (old new : List ℕ) → one ≡ way.next.first → other ≡ way.after.first → IsLink way.next × IsLink way.after
+    → IsFollowed k L (one_link one) (one_link other) d old new → IsFollowed k L way.next way.after d old new
+followed-links k L way one other d old new first second single step =
+    subst (λ w. IsFollowed k L w way.after d old new) (link-is way.next one first single.0)
+    (subst (λ w. IsFollowed k L (one_link one) w d old new) (link-is way.after other second single.1) step)

@@ -147,6 +147,58 @@ pub(crate) fn go_round<S: Seen, K: Kind, const DIM: usize>(
         ⊎ InOrbit (Leads (links_of links.now.rows) (IsEither ways.now.forth.next ways.now.back.next)) dart y)) }
     ensures before { OnOk result (take (length found.old) found.new ≡ found.old) }
 {
+    if is_along_links(&ways.forth) && is_along_links(&ways.back) {
+        go_round_links(links, ways, dart, found)
+    } else {
+        go_round_words(links, ways, dart, found)
+    }
+}
+
+/// Whether both words of a way are one link each.
+fn is_along_links(way: &Way) -> bool
+    ensures { IsTrue result ↔ (IsLink way.now.next × IsLink way.now.after) }
+{
+    way.next.second.is_none() && way.after.second.is_none()
+}
+
+/// Finds the path or the ring of a dart along words of one link each.
+fn go_round_links<S: Seen, K: Kind, const DIM: usize>(
+    links: &Links<K, DIM>,
+    ways: &Ways,
+    dart: Dart,
+    found: &mut Found<S>,
+) -> Result<(), AllocError>
+    requires within { (w : MapWord) → IsEither ways.now.forth.next ways.now.back.next w → IsWithin DIM w }
+    requires turns { AreWays K.kind ways.now.forth.next ways.now.forth.after ways.now.back.next ways.now.back.after }
+    requires forth { IsLink ways.now.forth.next × IsLink ways.now.forth.after }
+    requires back { IsLink ways.now.back.next × IsLink ways.now.back.after }
+    requires closed { IsClosed (Leads (links_of links.now.rows) (IsEither ways.now.forth.next ways.now.back.next)) found.old }
+    requires fresh { Contains found.old dart → ⊥ }
+    ensures members { OnOk result ((y : ℕ) → Contains found.new y ↔ (Contains found.old y
+        ⊎ InOrbit (Leads (links_of links.now.rows) (IsEither ways.now.forth.next ways.now.back.next)) dart y)) }
+    ensures before { OnOk result (take (length found.old) found.new ≡ found.old) }
+{
+    let Ways { forth, back } = *ways;
+    found.put(dart)?;
+    follow_links(links, forth.next.first, forth.after.first, dart, found)?;
+    follow_links(links, back.next.first, back.after.first, dart, found)
+}
+
+/// Finds the path or the ring of a dart along any words.
+fn go_round_words<S: Seen, K: Kind, const DIM: usize>(
+    links: &Links<K, DIM>,
+    ways: &Ways,
+    dart: Dart,
+    found: &mut Found<S>,
+) -> Result<(), AllocError>
+    requires within { (w : MapWord) → IsEither ways.now.forth.next ways.now.back.next w → IsWithin DIM w }
+    requires turns { AreWays K.kind ways.now.forth.next ways.now.forth.after ways.now.back.next ways.now.back.after }
+    requires closed { IsClosed (Leads (links_of links.now.rows) (IsEither ways.now.forth.next ways.now.back.next)) found.old }
+    requires fresh { Contains found.old dart → ⊥ }
+    ensures members { OnOk result ((y : ℕ) → Contains found.new y ↔ (Contains found.old y
+        ⊎ InOrbit (Leads (links_of links.now.rows) (IsEither ways.now.forth.next ways.now.back.next)) dart y)) }
+    ensures before { OnOk result (take (length found.old) found.new ≡ found.old) }
+{
     found.put(dart)?;
     for followed in 0..2 {
         follow_way(links, ways.after(followed), dart, found)?;
@@ -167,7 +219,6 @@ fn follow_way<S: Seen, K: Kind, const DIM: usize>(
     ensures { OnOk result (IsFollowed K.kind (links_of links.now.rows) way.now.next way.now.after dart found.old found.new) }
 {
     match (way.next.second, way.after.second) {
-        (None, None) => follow_links(links, way.next.first, way.after.first, dart, found),
         (Some(second), Some(_)) if way.next == way.after => {
             follow_pair(links, way.next.first, second, dart, found)
         }

@@ -1,7 +1,7 @@
 use Rattle.std.proofs.Common.{arith}
 use Rattle.map_defs.specs.Rows.{links_of}
 use Rattle.cell_walk.proofs.OnWays.{followed-none, followed-more, followed-met, way-either, gone-round, round-before}
-use Rattle.cell_walk.proofs.ways.go_round.Goals as goal
+use Rattle.cell_walk.proofs.ways.go_round_words.Goals as goal
 
 pub loop-followed-init : goal.loop-followed-init
 loop-followed-init g c = followed-none g.K.Kind.kind (links_of c.args.links.now.rows) c.args.ways.now c.args.dart c.args.found.now c.put.new.self c.in_ok-put.ensures.added
