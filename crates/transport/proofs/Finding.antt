@@ -58,10 +58,10 @@ list_lacks few d false cases is has = false≢true (sym (cases has.0 d (omega ar
 pub least_in : (g : Group) (x : ℕ) → Contains g.darts x → Contains g.darts (least_of g)
 least_in g x h = held_at g.darts 0 (let l = h.1 in omega arith)
 
-some_in_front : (old : List Group) (g : Group) (x : ℕ) → IsInSome old x → IsInSome (old ++ g ∷ []) x
+pub some_in_front : (old : List Group) (g : Group) (x : ℕ) → IsInSome old x → IsInSome (old ++ g ∷ []) x
 some_in_front old g x (n, h, c) = (n, omega (arith, one_more no_group old g), rw (at_front no_group old g n h) c)
 
-some_in_back : (old : List Group) (g : Group) (x : ℕ) → Contains g.darts x → IsInSome (old ++ g ∷ []) x
+pub some_in_back : (old : List Group) (g : Group) (x : ℕ) → Contains g.darts x → IsInSome (old ++ g ∷ []) x
 some_in_back old g x c = (length old, omega (arith, one_more no_group old g), rw (at_back no_group old g) c)
 
 -- no cell before the next one holds the dart, as they are looked at one after the other
@@ -81,7 +81,7 @@ has_here cells x n g darts r low at are cases is = (n, low, subst (λ ds. Contai
 
 module _ (Cell : ℕ → ℕ → Type 0) (classes : AreClasses Cell) (i : ℕ) where
   -- a cell that is told by its dart d is whole
-  new_whole : (g : Group) (d : ℕ) → ((x : ℕ) → Contains g.darts x ↔ Cell d x) → (y x : ℕ) → Contains g.darts y → Contains g.darts x ↔ Cell y x
+  pub new_whole : (g : Group) (d : ℕ) → ((x : ℕ) → Contains g.darts x ↔ Cell d x) → (y x : ℕ) → Contains g.darts y → Contains g.darts x ↔ Cell y x
   new_whole g d darts y x h = (
     λ has. classes.join y d x (classes.turn d y ((darts y).0 h)) ((darts x).0 has),
     λ c. (darts x).1 (classes.join d y x ((darts y).0 h) c),

@@ -1,6 +1,7 @@
 pub mod Lists
 pub mod Marking
 pub mod Finding
+pub mod MarkFacts
 pub mod Gathering
 pub mod Telling
 pub mod Meeting

@@ -1,9 +1,10 @@
 -- What is found while the wanted darts are looked at one after the other.
-use Rattle.std.specs.Prelude.{ℕ, ◌≡◌, ◌≢◌, ◌<◌, ◌↔◌, ◌⊎◌, List, [], ◌∷◌, ◌++◌, length, None, slice_index, Contains}
+use Rattle.std.specs.Prelude.{ℕ, ◌≡◌, ◌≢◌, ◌+◌, ◌<◌, ◌≤◌, ◌↔◌, ◌⊎◌, List, [], ◌∷◌, ◌++◌, length, false, cond, None, slice_index, Contains}
 use Rattle.std.specs.List.Sorted.{IsStrictlyIncreasing}
 use Rattle.store_defs.specs.Groups.{Group, group_at, least_of}
 use Rattle.transport.specs.Pieces.{IsBareCell}
 use Rattle.transport.specs.Wanted.{Wanted, IsMarked}
+use Rattle.transport.specs.Marks.{Marks, mark_at, IsMarkedAt, is_among}
 
 -- some of the cells holds dart x
 abbrev pub IsInSome : List Group → ℕ → Type 0
@@ -43,3 +44,24 @@ pub record IsNewCell (Cell : ℕ → ℕ → Type 0) (i place : ℕ) (before aft
 abbrev pub IsCellAdded : (ℕ → ℕ → Type 0) → ℕ → ℕ → Wanted → Wanted → List Group → List Group → Type 0
 IsCellAdded Cell i place before after old new =
     (IsMarked before place × (after ≡ before) × (new ≡ old)) ⊎ ((g : Group) × (new ≡ old ++ g ∷ []) × IsNewCell Cell i place before after g)
+
+-- The first so many places are looked at: the cells of the darts that were marked there are found, and no dart of a cell that
+-- is found is marked.
+pub record AreMarkedFound (Cell : ℕ → ℕ → Type 0) (i looked : ℕ) (darts : List ℕ) (marks : Marks) (cells : List Group) : Type 0 where
+  pub each : (n : ℕ) → n < length cells → IsBareCell Cell i darts (group_at cells n)
+  pub apart : (m n : ℕ) → m < n → n < length cells → least_of (group_at cells m) ≢ least_of (group_at cells n)
+  pub marked : (place : ℕ) → IsMarkedAt marks place → Contains darts (place + marks.first) × (IsInSome cells (place + marks.first) → ⊥) × (looked ≤ place)
+  pub all : (d : ℕ) → Contains darts d → IsInSome cells d ⊎ ((place : ℕ) × IsMarkedAt marks place × (place + marks.first ≡ d))
+
+-- the cell of the dart at a place, whose darts are marked no more
+pub record IsMarkedCell (Cell : ℕ → ℕ → Type 0) (i place : ℕ) (before after : Marks) (g : Group) : Type 0 where
+  pub marked : IsMarkedAt before place
+  pub cell : IsCellOf Cell i (place + before.first) g
+  pub first : after.first ≡ before.first
+  pub size : length after.marks ≡ length before.marks
+  pub marks : (p : ℕ) → p < length before.marks → mark_at after p ≡ cond (is_among g.darts (p + before.first)) false (mark_at before p)
+
+-- the dart is not marked, or its cell stands at the end now
+abbrev pub IsCellAddedAt : (ℕ → ℕ → Type 0) → ℕ → ℕ → Marks → Marks → List Group → List Group → Type 0
+IsCellAddedAt Cell i place before after old new =
+    ((IsMarkedAt before place → ⊥) × (after ≡ before) × (new ≡ old)) ⊎ ((g : Group) × (new ≡ old ++ g ∷ []) × IsMarkedCell Cell i place before after g)

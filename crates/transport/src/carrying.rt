@@ -59,22 +59,23 @@ pub fn carry<K: Kind, H: Hook, const DIM: usize>(
     let mut groups = Vec::new(alloc);
     for dim in 0..links.dimension() + 1 {
         let cells = carried_cells(alloc, links, labels, pool, rules, hook, touched, dim)?;
-        groups = one_behind_another(groups, cells)?;
+        put_behind(&mut groups, cells)?;
     }
     Ok(groups)
 }
 
-/// The groups of both lists, one behind another. Where the first has none, it is the other list as it stands.
-fn one_behind_another(before: Vec<Group>, behind: Vec<Group>) -> Result<Vec<Group>, AllocError>
-    ensures { IfOk result (λ groups. groups.items ≡ before.items ++ behind.items) }
+/// Puts groups behind others. Where there are no others, they become the list as they stand.
+#[inline(always)]
+fn put_behind(groups: &mut Vec<Group>, cells: Vec<Group>) -> Result<(), AllocError>
+    ensures { OnOk result (groups.new.items ≡ groups.old.items ++ cells.items) }
 {
-    if before.is_empty() {
-        return Ok(behind);
+    if groups.is_empty() {
+        *groups = cells;
+        return Ok(());
     }
-    let mut groups = before;
-    let mut more = behind;
+    let mut more = cells;
     groups.append(&mut more)?;
-    Ok(groups)
+    Ok(())
 }
 
 /// The values under ids are within 64 bits: so it is in every pool.

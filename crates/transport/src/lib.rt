@@ -5,6 +5,7 @@ mod by_id;
 mod carrying;
 mod group;
 mod laws;
+mod marks;
 mod merging;
 mod pieces;
 mod tally;

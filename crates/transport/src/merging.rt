@@ -69,8 +69,9 @@ fn merge_many<R: Rule>(
     ensures { OnOk result (AreMerged (R.meaning rule.now) pool.now pieces.now (length pieces.now)
         cells.old.items cells.new.items) }
 {
-    let totals = tally_of(alloc, pieces)?;
-    let mut before = Tally::new(alloc, room_for(pieces.len()))?;
+    let room = room_for(pieces);
+    let totals = tally_of(alloc, room, pieces)?;
+    let mut before = Tally::new(alloc, room)?;
     for piece in pieces {
         let total = totals.count(piece.id);
         let passed = before.count(piece.id);
@@ -125,25 +126,35 @@ fn one_more_if(count: u32, another: bool) -> u32
     count
 }
 
-/// How many pieces have each id.
-fn tally_of(alloc: Global, pieces: &[Piece]) -> Result<Tally, AllocError>
+/// How many pieces have each id. The ids below `room` have places in the table.
+fn tally_of(alloc: Global, room: usize, pieces: &[Piece]) -> Result<Tally, AllocError>
     requires { length pieces.now < 2 ^ 32 }
     ensures { IfOk result (λ tally. (id : ℕ) → count_of tally id ≡ count_below (has_id pieces.now id) (length pieces.now)) }
 {
-    let mut tally = Tally::new(alloc, room_for(pieces.len()))?;
+    let mut tally = Tally::new(alloc, room)?;
     for piece in pieces {
         tally.add(piece.id)?;
     }
     Ok(tally)
 }
 
-/// How many ids have places in the table of a tally of so many pieces: four for each piece, so that an edit of a good part of
-/// a map counts most ids there.
-fn room_for(pieces: usize) -> usize
-    requires { pieces < 2 ^ 32 }
-    ensures { result ≤ 4 * pieces }
+/// How many ids have places in the table of a tally of these pieces: those up to the greatest, but no more than four for each
+/// piece, so that an edit of a good part of a map counts most ids there.
+fn room_for(pieces: &[Piece]) -> usize
+    requires { length pieces.now < 2 ^ 32 }
+    ensures { result ≤ 4 * length pieces.now }
 {
-    4 * pieces
+    let up_to_greatest = greatest_id(pieces) as usize + 1;
+    up_to_greatest.min(4 * pieces.len())
+}
+
+/// The greatest number of the ids of some pieces; 0 where there are none.
+fn greatest_id(pieces: &[Piece]) -> u32 {
+    let mut greatest = 0;
+    for piece in pieces {
+        greatest = greatest.max(piece.id.number());
+    }
+    greatest
 }
 
 /// The value so far, merged with that of the next piece, if it has one.

@@ -14,7 +14,7 @@ loop-dim-preserved g c =
     subst (λ (groups : List Group). AreAllOf
     (IsCarriedCell g.K.Kind.kind (links_of c.args.links.now.rows) (IsLive c.args.links.now.rows) (id_of c.args.labels.now) c.args.pool.now (g.H.Hook.hook c.args.hook.now) c.args.rules.now (darts_in c.args.touched.now))
     (IsWanted c.args.rules.now (darts_in c.args.touched.now)) (λ i. i < c.loop-dim.dim + 1) groups)
-    (sym c.in_ok-groups.ensures)
+    (sym c.in_ok-put_behind.ensures)
     (all_joined _ _ c.loop-dim.dim c.loop-dim.groups.items c.in_ok-cells.cells.items c.loop-dim.invariant c.in_ok-cells.ensures)
 
 pub returns-clause-cells : goal.returns-clause-cells

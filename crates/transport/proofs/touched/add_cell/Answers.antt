@@ -16,7 +16,8 @@ returns g c =
         dim = refl;
         bare = refl;
         ascending = c.in_ok-darts.ensures.ascending;
-        darts = subst (λ (d : ℕ). (x : ℕ) → Contains c.in_ok-darts.darts.items x ↔ InCell g.K.Kind.kind (links_of c.args.links.now.rows) c.args.dim d x) c.dart.ensures c.in_ok-darts.ensures.members;
+        darts = subst (λ (i : ℕ). (x : ℕ) → Contains c.in_ok-darts.darts.items x ↔ InCell g.K.Kind.kind (links_of c.args.links.now.rows) i (slice_index c.args.wanted.now.darts c.args.place) x) c.requires.walk
+            (subst (λ (d : ℕ). (x : ℕ) → Contains c.in_ok-darts.darts.items x ↔ InCell g.K.Kind.kind (links_of c.args.links.now.rows) c.args.walk.now d x) c.dart.ensures c.in_ok-darts.ensures.members);
       };
       same = c.mark.ensures.darts;
       marks = subst (λ (l : List ℕ). (p : ℕ) → p < length c.args.wanted.now.darts → IsMarked c.mark.new.self p ↔ (IsMarked c.args.wanted.now p ⊎ Contains l (slice_index c.args.wanted.now.darts p))) c.deref.ensures.value c.mark.ensures.marks;
