@@ -61,7 +61,7 @@ same_place-flips p q = go (same_place p q) (same_place q p) refl refl
     go false true is at = sym is ∙ turned q p at
 
 module _ (triples : List Triple) (apart : IsDistinct (λ p q. is_of p.x p.t q) triples) where
-  clash : (i j : ℕ) (d : Triple) → i < j → j < length triples → (get_or triples i d).x ≡ (get_or triples j d).x → (get_or triples i d).t ≡ (get_or triples j d).t → ⊥
+  pub clash : (i j : ℕ) (d : Triple) → i < j → j < length triples → (get_or triples i d).x ≡ (get_or triples j d).x → (get_or triples i d).t ≡ (get_or triples j d).t → ⊥
   clash i j d lt within ex et =
       false≢true (sym (apart_from_distinct same_place triples i j d apart lt within) ∙ is_of-same (get_or triples i d).x (get_or triples i d).t (get_or triples j d) (sym ex) (sym et))
 

@@ -1,5 +1,5 @@
--- Edits that change links alone, one for each triple of an ascending list: they fit, and what they make of the links.
-use Rattle.std.proofs.Common.{◌≡◌, ℕ, ◌≤◌, ◌<◌, List, [], length, get_or, map, ap, ◌∙◌, inl, inr, arith}
+-- Edits that change links alone, one for each triple of a list in which no dart and link stands twice: they fit, and what they make of the links.
+use Rattle.std.proofs.Common.{◌≡◌, ℕ, ◌≤◌, ◌<◌, List, [], length, get_or, map, ap, ◌∙◌, arith}
 use Rattle.std.specs.Prelude.{All, is_some}
 use Rattle.std.specs.List.{AllPairs}
 use Rattle.std.proofs.lemmas.List.{get_or-map, length-map}
@@ -10,7 +10,8 @@ use Rattle.map_defs.specs.Rows.{Rows, links_of, IsLive, IsSound}
 use Rattle.map_defs.specs.Edits.{Change, Edit, with_births, after_edit, Fits}
 use Rattle.edit_laws.proofs.RowWrites.{births-links, births-wide, births-old, live-within}
 use Rattle.edit_laws.proofs.EditLinks.{touched, untouched}
-use Rattle.sewing.specs.Triples.{Triple, Lists, ComesBefore, IsAscending}
+use Rattle.sewing.specs.Triples.{Triple, Lists}
+use Rattle.sewing.specs.PairSteps.{AreApart}
 
 -- changes of links, and nothing else
 abbrev pub relinks : List Change → Edit
@@ -49,7 +50,7 @@ module _ (k : Kind) (n : ℕ) (rows : Rows) (sound : IsSound k n rows) (cs : Lis
 abbrev pub changes : (Triple → ℕ) → (Triple → ℕ) → List Triple → List Change
 changes old new pairs = map (λ p. record { dart = p.x; link = p.t; old = old p; new = new p }) pairs
 
-module _ (k : Kind) (n : ℕ) (rows : Rows) (sound : IsSound k n rows) (old new : Triple → ℕ) (pairs : List Triple) (up : IsAscending pairs)
+module _ (k : Kind) (n : ℕ) (rows : Rows) (sound : IsSound k n rows) (old new : Triple → ℕ) (pairs : List Triple) (apart : AreApart pairs)
     (live : (x y t : ℕ) → Lists pairs x y t → IsLive rows x) (within : (x y t : ℕ) → Lists pairs x y t → t ≤ n)
     (stands : (x y t : ℕ) → Lists pairs x y t → links_of rows t x ≡ old (record { x = x; y = y; t = t })) where
   change : Triple → Change
@@ -58,10 +59,6 @@ module _ (k : Kind) (n : ℕ) (rows : Rows) (sound : IsSound k n rows) (old new 
   each : (P : Change → Type 0) → ((x y t : ℕ) → Lists pairs x y t → P (record { dart = x; link = t; old = old (record { x = x; y = y; t = t }); new = new (record { x = x; y = y; t = t }) })) → All P (changes old new pairs)
   each P f = All-map P (λ p. record { dart = p.x; link = p.t; old = old p; new = new p }) pairs
       (λ i d low. let p : Triple = get_or pairs i d in f p.x p.y p.t (Contains-get_or pairs i d low))
-
-  place_once : (a b : Triple) → ComesBefore a b → a.x ≡ b.x → a.t ≡ b.t → ⊥
-  place_once a b (inl below) same _ = omega arith
-  place_once a b (inr same) _ same_link = omega (arith, same.1)
 
   pub are-changes : AreChanges n rows (changes old new pairs)
   are-changes = record {
@@ -75,7 +72,7 @@ module _ (k : Kind) (n : ℕ) (rows : Rows) (sound : IsSound k n rows) (old new 
           get_or-map (λ (p : Triple). let c : Change = record { dart = p.x; link = p.t; old = old p; new = new p } in c) pairs i d z (omega arith),
           get_or-map (λ (p : Triple). let c : Change = record { dart = p.x; link = p.t; old = old p; new = new p } in c) pairs j d z low,
         )
-        (place_once (get_or pairs i d) (get_or pairs j d) (up i j d first low));
+        (apart i j d first low);
   }
 
   pub changed-at : (x y t : ℕ) → Lists pairs x y t → links_of (after_edit n (relinks (changes old new pairs)) rows) t x ≡ new (record { x = x; y = y; t = t })

@@ -13,7 +13,8 @@ use Rattle.link_laws.proofs.RowFacts.{linked_live}
 use Rattle.link_laws.proofs.Relink.{IsEither}
 use Rattle.link_laws.proofs.Sewn.{sewn_triple, sewing_keeps}
 use Rattle.link_laws.proofs.Unsewn.{unsewing_keeps}
-use Rattle.sewing.specs.Triples.{Triple, Lists, IsAscending}
+use Rattle.sewing.specs.Triples.{Triple, Lists}
+use Rattle.sewing.specs.PairSteps.{AreApart}
 use Rattle.sewing.proofs.PairFacts.{pairs-live}
 use Rattle.sewing.proofs.PartedPairs.{parted-pair, freed-pair}
 use Rattle.sewing.proofs.PlanChanges.{relinks, changes, relinks-fit, are-changes, changed-at, changed-else}
@@ -27,7 +28,7 @@ either_within k n i t dim low (inl is) = rw is low
 either_within k n i t dim low (inr is) = rw is (inverse_within k n i dim low)
 
 module _ (k : Kind) (n : ℕ) (rows : Rows) (sound : IsSound k n rows) (dim : 2 ≤ n) (w : Laws k (links_of rows)) (i : ℕ) (low : i ≤ n) where
-  module _ (d e : ℕ) (live_d : IsLive rows d) (live_e : IsLive rows e) (can : IsSewable k (links_of rows) i d e) (pairs : List Triple) (up : IsAscending pairs)
+  module _ (d e : ℕ) (live_d : IsLive rows d) (live_e : IsLive rows e) (can : IsSewable k (links_of rows) i d e) (pairs : List Triple) (apart : AreApart pairs)
       (same : (x y t : ℕ) → Lists pairs x y t ↔ SewnPairs k (links_of rows) i d e x y t) where
     live : (x y t : ℕ) → Lists pairs x y t → IsLive rows x
     live x y t has = (pairs-live k n rows sound (IsDistant k i) (JustOne d e i) (λ u v s is. (rw is.0 live_d, rw is.1 live_e)) x y t ((same x y t).0 has)).0
@@ -39,8 +40,8 @@ module _ (k : Kind) (n : ℕ) (rows : Rows) (sound : IsSound k n rows) (dim : 2 
 
     pub plan-sewn : IsSewn k i d e (links_of rows) (links_of (after_edit n (relinks (changes (λ p. 0) (λ p. p.y) pairs)) rows))
     plan-sewn = record {
-      joined = λ x y t p. changed-at k n rows sound (λ p. 0) (λ p. p.y) pairs up live (λ u v s has. (facts u v s has).0) (λ u v s has. (facts u v s has).1) x y t ((same x y t).1 p);
-      kept = λ x t none. changed-else k n rows sound (λ p. 0) (λ p. p.y) pairs up live (λ u v s has. (facts u v s has).0) (λ u v s has. (facts u v s has).1) x t (λ y has. none y ((same x y t).0 has));
+      joined = λ x y t p. changed-at k n rows sound (λ p. 0) (λ p. p.y) pairs apart live (λ u v s has. (facts u v s has).0) (λ u v s has. (facts u v s has).1) x y t ((same x y t).1 p);
+      kept = λ x t none. changed-else k n rows sound (λ p. 0) (λ p. p.y) pairs apart live (λ u v s has. (facts u v s has).0) (λ u v s has. (facts u v s has).1) x t (λ y has. none y ((same x y t).0 has));
     }
 
     pub plan-sewn-laws : Laws k (links_of (after_edit n (relinks (changes (λ p. 0) (λ p. p.y) pairs)) rows))
@@ -49,9 +50,9 @@ module _ (k : Kind) (n : ℕ) (rows : Rows) (sound : IsSound k n rows) (dim : 2 
 
     pub plan-sewn-fits : Fits k n rows (relinks (changes (λ p. 0) (λ p. p.y) pairs))
     plan-sewn-fits = relinks-fit k n rows sound (changes (λ p. 0) (λ p. p.y) pairs)
-        (are-changes k n rows sound (λ p. 0) (λ p. p.y) pairs up live (λ u v s has. (facts u v s has).0) (λ u v s has. (facts u v s has).1)) plan-sewn-laws
+        (are-changes k n rows sound (λ p. 0) (λ p. p.y) pairs apart live (λ u v s has. (facts u v s has).0) (λ u v s has. (facts u v s has).1)) plan-sewn-laws
 
-  module _ (d : ℕ) (linked : links_of rows i d ≢ 0) (pairs : List Triple) (up : IsAscending pairs)
+  module _ (d : ℕ) (linked : links_of rows i d ≢ 0) (pairs : List Triple) (apart : AreApart pairs)
       (same : (x y t : ℕ) → Lists pairs x y t ↔ SewnPairs k (links_of rows) i d (links_of rows i d) x y t) where
     parted : (x y t : ℕ) → Lists pairs x y t → IsLive rows x × (t ≤ n) × (links_of rows t x ≡ y)
     parted x y t has =
@@ -61,10 +62,10 @@ module _ (k : Kind) (n : ℕ) (rows : Rows) (sound : IsSound k n rows) (dim : 2 
     pub plan-unsewn : IsUnsewn k i d (links_of rows) (links_of (after_edit n (relinks (changes (λ p. p.y) (λ p. 0) pairs)) rows))
     plan-unsewn = record {
       freed = λ x t f.
-          changed-at k n rows sound (λ p. p.y) (λ p. 0) pairs up (λ u v s has. (parted u v s has).0) (λ u v s has. (parted u v s has).1) (λ u v s has. (parted u v s has).2)
+          changed-at k n rows sound (λ p. p.y) (λ p. 0) pairs apart (λ u v s has. (parted u v s has).0) (λ u v s has. (parted u v s has).1) (λ u v s has. (parted u v s has).2)
           x (links_of rows t x) t ((same x (links_of rows t x) t).1 (freed-pair k (links_of rows) w i d linked x t f));
       kept = λ x t none.
-          changed-else k n rows sound (λ p. p.y) (λ p. 0) pairs up (λ u v s has. (parted u v s has).0) (λ u v s has. (parted u v s has).1) (λ u v s has. (parted u v s has).2)
+          changed-else k n rows sound (λ p. p.y) (λ p. 0) pairs apart (λ u v s has. (parted u v s has).0) (λ u v s has. (parted u v s has).1) (λ u v s has. (parted u v s has).2)
           x t (λ y has. none (parted-pair k (links_of rows) w i d linked x y t ((same x y t).0 has)).freed);
     }
 
@@ -73,4 +74,4 @@ module _ (k : Kind) (n : ℕ) (rows : Rows) (sound : IsSound k n rows) (dim : 2 
 
     pub plan-unsewn-fits : Fits k n rows (relinks (changes (λ p. p.y) (λ p. 0) pairs))
     plan-unsewn-fits = relinks-fit k n rows sound (changes (λ p. p.y) (λ p. 0) pairs)
-        (are-changes k n rows sound (λ p. p.y) (λ p. 0) pairs up (λ u v s has. (parted u v s has).0) (λ u v s has. (parted u v s has).1) (λ u v s has. (parted u v s has).2)) plan-unsewn-laws
+        (are-changes k n rows sound (λ p. p.y) (λ p. 0) pairs apart (λ u v s has. (parted u v s has).0) (λ u v s has. (parted u v s has).1) (λ u v s has. (parted u v s has).2)) plan-unsewn-laws

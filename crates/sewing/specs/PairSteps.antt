@@ -1,6 +1,6 @@
 -- What the walk of a pairing has found so far.
 use Rattle.std.specs.Prelude.{ℕ, ◌≡◌, ◌≢◌, ◌⊎◌, ◌↔◌, Bool, nat_eq, ◌&&◌, List, [], ◌∷◌, ◌++◌, length, take, drop, Contains, Option, Some}
-use Rattle.std.specs.List.{IsDistinct}
+use Rattle.std.specs.List.{AllPairs, IsDistinct}
 use Rattle.map_defs.specs.Kind.{Kind, inverse}
 use Rattle.map_defs.specs.Links.{Links}
 use Rattle.map_defs.specs.Pairs.{InPairs, IsGood}
@@ -18,6 +18,10 @@ is_of x t triple = nat_eq triple.x x && nat_eq triple.t t
 pub record IsKept (partner : ℕ × ℕ → Option ℕ) (triples : List Triple) : Type 0 where
   pub apart : IsDistinct (λ p q. is_of p.x p.t q) triples
   pub told : TellsTriples partner (drop 16 triples)
+
+-- no two triples are of one dart and link
+abbrev pub AreApart : List Triple → Type 0
+AreApart triples = AllPairs (λ p q. p.x ≡ q.x → p.t ≡ q.t → ⊥) triples
 
 -- the same said of the other dart
 abbrev pub turn : Kind → Triple → Triple

@@ -1,6 +1,6 @@
 ghost use Rattle.std.specs.Prelude.{◌≡◌, ℕ, ◌<◌, ◌↔◌, [], ◌∷◌, ◌++◌, length, take, position, slice_get, Some, IfOk, OnOk, IsErrOf};
 ghost use Rattle.sewing.specs.Triples.{Lists, IsAscending};
-ghost use Rattle.sewing.specs.PairSteps.{IsPairAdded, FailsToPair, is_of};
+ghost use Rattle.sewing.specs.PairSteps.{IsPairAdded, FailsToPair, AreApart, is_of};
 
 use crate::pairing::PairFault;
 use crate::triple::Triple;
@@ -52,7 +52,8 @@ impl Book {
 
     /// How many triples were found.
     pub(crate) fn len(&self) -> usize
-        ensures { result ≡ length self.now }
+        ensures length { result ≡ length self.now }
+        ensures one { (x y z t : ℕ) → Lists self.now x y t → Lists self.now x z t → y ≡ z }
     {
         self.triples.len()
     }
@@ -81,11 +82,20 @@ impl Book {
         self.put_both::<K>(triple)
     }
 
+    /// The triples that were found, in the order in which they were found. It takes no memory.
+    pub(crate) fn into_triples(self) -> Vec<Triple>
+        ensures triples { result.items ≡ self }
+        ensures apart { AreApart self }
+    {
+        let Book { triples, more } = self;
+        drop(more);
+        triples
+    }
+
     /// The triples that were found, ascending by `x`, then by `t`. It takes no memory.
     pub(crate) fn into_ascending(self) -> Vec<Triple>
         ensures members { (x y t : ℕ) → Lists result.items x y t ↔ Lists self x y t }
         ensures ascending { IsAscending result.items }
-        ensures one { (x y z t : ℕ) → Lists self x y t → Lists self x z t → y ≡ z }
     {
         let Book { mut triples, more } = self;
         drop(more);

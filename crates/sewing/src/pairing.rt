@@ -63,6 +63,25 @@ pub fn pair<K: Kind, const DIM: usize>(
     ensures unpaired { IsErrOf result PairFault.Unpaired → IsGood K.kind (links_of links.now.rows) (Contains set.now)
         (InPairs K.kind (links_of links.now.rows) (Contains set.now) (Lists seeds.now)) → ⊥ }
 {
+    Ok(paired(alloc, links, seeds, set)?.into_ascending())
+}
+
+/// A book of the pairs that grow from some seeds along a set of links. `Unpaired` comes exactly where they cannot be joined,
+/// memory aside.
+pub(crate) fn paired<K: Kind, const DIM: usize>(
+    alloc: Global,
+    links: &Links<K, DIM>,
+    seeds: &[Triple],
+    set: &[usize],
+) -> Result<Book, PairFault>
+    requires { All (λ j. j ≤ DIM) set.now }
+    ensures members { IfOk result (λ book. (x y t : ℕ) → Lists book x y t
+        ↔ InPairs K.kind (links_of links.now.rows) (Contains set.now) (Lists seeds.now) x y t) }
+    ensures good { OnOk result (IsGood K.kind (links_of links.now.rows) (Contains set.now)
+        (InPairs K.kind (links_of links.now.rows) (Contains set.now) (Lists seeds.now))) }
+    ensures unpaired { IsErrOf result PairFault.Unpaired → IsGood K.kind (links_of links.now.rows) (Contains set.now)
+        (InPairs K.kind (links_of links.now.rows) (Contains set.now) (Lists seeds.now)) → ⊥ }
+{
     let mut book = listed::<K>(alloc, seeds)?;
     let mut next = 0;
     while next < book.len() {
@@ -70,7 +89,7 @@ pub fn pair<K: Kind, const DIM: usize>(
         // The triple turned round stands behind it, and leads to the same triples.
         next += 2;
     }
-    Ok(book.into_ascending())
+    Ok(book)
 }
 
 /// A book of these triples, each with the triple turned round.

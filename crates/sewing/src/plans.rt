@@ -5,9 +5,10 @@ ghost use Rattle.map_defs.specs.Laws.{Laws};
 ghost use Rattle.map_defs.specs.Edits.{Fits, after_edit};
 ghost use Rattle.map_defs.specs.Pairs.{IsGood};
 ghost use Rattle.map_defs.specs.Sewing.{SewnPairs, IsSewable, IsSewn, IsUnsewn};
-ghost use Rattle.sewing.specs.Triples.{Lists, IsAscending};
+ghost use Rattle.sewing.specs.Triples.{Lists};
+ghost use Rattle.sewing.specs.PairSteps.{AreApart};
 
-use crate::pairing::{PairFault, pair};
+use crate::pairing::{PairFault, paired};
 use crate::triple::Triple;
 use link_rows::{Change, Edit, Links};
 use map_kind::{Dart, Kind, Refusal, Refused};
@@ -144,8 +145,8 @@ fn are_free<K: Kind, const DIM: usize>(
     links.link(one, link).is_none() && links.link(other, K::inverse(link)).is_none()
 }
 
-/// The pairs that are joined where `one` is sewn to `other` at a link, or parted where they are joined there. `Unpaired`
-/// comes exactly where they cannot be joined.
+/// The pairs that are joined where `one` is sewn to `other` at a link, or parted where they are joined there, in no order.
+/// `Unpaired` comes exactly where they cannot be joined.
 fn sewn_pairs<K: Kind, const DIM: usize>(
     alloc: Global,
     links: &Links<K, DIM>,
@@ -155,7 +156,7 @@ fn sewn_pairs<K: Kind, const DIM: usize>(
 ) -> Result<Vec<Triple>, PairFault>
     ensures members { IfOk result (λ pairs. (x y t : ℕ) → Lists pairs.items x y t
         ↔ SewnPairs K.kind (links_of links.now.rows) link one other x y t) }
-    ensures ascending { IfOk result (λ pairs. IsAscending pairs.items) }
+    ensures apart { IfOk result (λ pairs. AreApart pairs.items) }
     ensures good { OnOk result (IsGood K.kind (links_of links.now.rows) (IsDistant K.kind link)
         (SewnPairs K.kind (links_of links.now.rows) link one other)) }
     ensures unpaired { IsErrOf result PairFault.Unpaired → IsGood K.kind (links_of links.now.rows) (IsDistant K.kind link)
@@ -169,7 +170,7 @@ fn sewn_pairs<K: Kind, const DIM: usize>(
         y: other,
         t: link,
     };
-    pair(alloc, links, &[seed], &distant[..count])
+    Ok(paired(alloc, links, &[seed], &distant[..count])?.into_triples())
 }
 
 /// The links from 0 to `dim` that are distant from a link: the first of the list, and how many they are.

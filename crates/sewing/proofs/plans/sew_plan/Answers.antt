@@ -14,7 +14,7 @@ returns-in_ok-joining-in-Ok-clause-fits g c =
     let can : IsSewable g.K.Kind.kind (links_of c.args.links.now.rows) c.args.link c.args.one c.args.other = record { near = free.0; far = free.1; good = c.in-Ok.ensures.good } in
     rw (c.new.ensures.items, list)
     (plan-sewn-fits g.K.Kind.kind g.row.DIM c.args.links.now.rows c.sewn_pairs.ensures.sound c.sewn_pairs.ensures.low c.requires.laws c.args.link c.requires.link c.args.one c.args.other
-    c.requires.one c.requires.other can pairs c.in-Ok.ensures.ascending c.in-Ok.ensures.members)
+    c.requires.one c.requires.other can pairs c.in-Ok.ensures.apart c.in-Ok.ensures.members)
 
 pub returns-in_ok-joining-in-Ok-clause-sewn : goal.returns-in_ok-joining-in-Ok-clause-sewn
 returns-in_ok-joining-in-Ok-clause-sewn g c =
@@ -24,7 +24,7 @@ returns-in_ok-joining-in-Ok-clause-sewn g c =
     let can : IsSewable g.K.Kind.kind (links_of c.args.links.now.rows) c.args.link c.args.one c.args.other = record { near = free.0; far = free.1; good = c.in-Ok.ensures.good } in
     rw (c.new.ensures.items, list)
     (plan-sewn g.K.Kind.kind g.row.DIM c.args.links.now.rows c.sewn_pairs.ensures.sound c.sewn_pairs.ensures.low c.requires.laws c.args.link c.requires.link c.args.one c.args.other
-    c.requires.one c.requires.other can pairs c.in-Ok.ensures.ascending c.in-Ok.ensures.members)
+    c.requires.one c.requires.other can pairs c.in-Ok.ensures.apart c.in-Ok.ensures.members)
 
 pub returns-in_ok-joining-in-Ok-clause-laws : goal.returns-in_ok-joining-in-Ok-clause-laws
 returns-in_ok-joining-in-Ok-clause-laws g c =
@@ -34,4 +34,4 @@ returns-in_ok-joining-in-Ok-clause-laws g c =
     let can : IsSewable g.K.Kind.kind (links_of c.args.links.now.rows) c.args.link c.args.one c.args.other = record { near = free.0; far = free.1; good = c.in-Ok.ensures.good } in
     rw (c.new.ensures.items, list)
     (plan-sewn-laws g.K.Kind.kind g.row.DIM c.args.links.now.rows c.sewn_pairs.ensures.sound c.sewn_pairs.ensures.low c.requires.laws c.args.link c.requires.link c.args.one c.args.other
-    c.requires.one c.requires.other can pairs c.in-Ok.ensures.ascending c.in-Ok.ensures.members)
+    c.requires.one c.requires.other can pairs c.in-Ok.ensures.apart c.in-Ok.ensures.members)

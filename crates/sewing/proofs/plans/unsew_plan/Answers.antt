@@ -20,7 +20,7 @@ returns-in_ok-parting-in-Ok-clause-fits g c =
     let linked : links_of c.args.links.now.rows c.args.link c.args.dart ≢ 0 = λ e. false≢true (sym (c.in-Some.ensures.free.1 e)) in
     rw (c.new.ensures.items, list)
     (plan-unsewn-fits g.K.Kind.kind g.row.DIM c.args.links.now.rows c.link.ensures.sound c.link.ensures.low c.requires.laws c.args.link c.requires.link c.args.dart linked
-    pairs c.in-Ok.ensures.ascending (rw c.in-Some.ensures.linked at c.in-Ok.ensures.members))
+    pairs c.in-Ok.ensures.apart (rw c.in-Some.ensures.linked at c.in-Ok.ensures.members))
 
 pub returns-in_ok-parting-in-Ok-clause-unsewn : goal.returns-in_ok-parting-in-Ok-clause-unsewn
 returns-in_ok-parting-in-Ok-clause-unsewn g c =
@@ -29,7 +29,7 @@ returns-in_ok-parting-in-Ok-clause-unsewn g c =
     let linked : links_of c.args.links.now.rows c.args.link c.args.dart ≢ 0 = λ e. false≢true (sym (c.in-Some.ensures.free.1 e)) in
     rw (c.new.ensures.items, list)
     (plan-unsewn g.K.Kind.kind g.row.DIM c.args.links.now.rows c.link.ensures.sound c.link.ensures.low c.requires.laws c.args.link c.requires.link c.args.dart linked
-    pairs c.in-Ok.ensures.ascending (rw c.in-Some.ensures.linked at c.in-Ok.ensures.members))
+    pairs c.in-Ok.ensures.apart (rw c.in-Some.ensures.linked at c.in-Ok.ensures.members))
 
 pub returns-in_ok-parting-in-Ok-clause-laws : goal.returns-in_ok-parting-in-Ok-clause-laws
 returns-in_ok-parting-in-Ok-clause-laws g c =
@@ -38,4 +38,4 @@ returns-in_ok-parting-in-Ok-clause-laws g c =
     let linked : links_of c.args.links.now.rows c.args.link c.args.dart ≢ 0 = λ e. false≢true (sym (c.in-Some.ensures.free.1 e)) in
     rw (c.new.ensures.items, list)
     (plan-unsewn-laws g.K.Kind.kind g.row.DIM c.args.links.now.rows c.link.ensures.sound c.link.ensures.low c.requires.laws c.args.link c.requires.link c.args.dart linked
-    pairs c.in-Ok.ensures.ascending (rw c.in-Some.ensures.linked at c.in-Ok.ensures.members))
+    pairs c.in-Ok.ensures.apart (rw c.in-Some.ensures.linked at c.in-Ok.ensures.members))

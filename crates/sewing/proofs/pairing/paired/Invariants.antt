@@ -2,7 +2,7 @@ use Rattle.std.proofs.Common.{◌-◌, Contains}
 use Rattle.map_defs.specs.Rows.{links_of}
 use Rattle.sewing.specs.Triples.{Lists}
 use Rattle.sewing.proofs.PairWalks.{IsWalked}
-use Rattle.sewing.proofs.pairing.pair.Given as goal
+use Rattle.sewing.proofs.pairing.paired.Given as goal
 
 abbrev pub invariant-loop-next : goal.invariant-loop-next
 invariant-loop-next g l = IsWalked g.K.Kind.kind (links_of l.links.rows) (Contains l.set) (Lists l.seeds) l.next l.book
