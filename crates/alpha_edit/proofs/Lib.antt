@@ -1,4 +1,5 @@
 mod VertexPlan
 mod EdgePlan
+mod OneSidedCorner
 mod CellEnds
 mod CellPlans
