@@ -20,7 +20,7 @@ use Rattle.store_defs.specs.Stores.{Store}
 use Rattle.store_defs.specs.Labelings.{Labeling, id_of, KeepsIds, KeepsPlaces, HasPlaces as HasIdPlaces}
 use Rattle.store_defs.specs.Groups.{Group, group_at, rule_at, labelled_value, AreTouchedCells, HasCarriedValue}
 use Rattle.label_laws.specs.Stored.{stored_value, AreSmall}
-use Rattle.label_laws.specs.Touching.{Spares}
+use Rattle.label_laws.specs.Touching.{AreGrafted, Spares}
 use Rattle.label_laws.specs.Changing.{AreTaken, AreRelabelled, IsGroupedBelow}
 use Rattle.label_laws.specs.Contents.{content_of, all_rules, IsCarriedOn}
 use Rattle.label_laws.specs.Maps.{IsStoredMap}
@@ -54,7 +54,7 @@ module _ (k : Kind) (n : ℕ) (rows : Rows) (l m : Labeling) (p q : Store) (rule
     }
 
   -- more places, the same ids
-  pub stored-grown : KeepsIds l m → KeepsPlaces l m → l.made ≤ m.made → q.slots ≡ p.slots → IsStoredMap k n rows m q rules
+  pub stored-grown : KeepsIds l m → KeepsPlaces l m → made rows ≤ m.made → q.slots ≡ p.slots → IsStoredMap k n rows m q rules
   stored-grown ids places long slots = record {
     flat = s.flat;
     high = s.high;
@@ -65,7 +65,7 @@ module _ (k : Kind) (n : ℕ) (rows : Rows) (l m : Labeling) (p q : Store) (rule
     ruled = s.ruled;
     bare = λ i d none. ids i d ∙ s.bare i d none;
     placed = λ i some. (places i).1 (s.placed i some);
-    long = omega (arith, s.long, long);
+    long = long;
   }
 
 -- New darts come in behind.
@@ -238,15 +238,17 @@ module _ (k : Kind) (n : ℕ) (rows : Rows) (l m : Labeling) (p : Store) (rules 
       ap (λ (rs : List (Option Rule)). record (content_of k n rows m p Next) { rules = rs }) full
       ∙ ap (λ (c : Content). record c { rules = slice_set (all_rules n rules) i (Some rule) }) (content-alike k n rows l m p p rules ids refl)
 
--- The links change, and the cells that were touched are relabelled.
-module _ (k : Kind) (n : ℕ) (old new : Rows) (l m : Labeling) (p q : Store) (rules : List (Option Rule)) (s : IsStoredMap k n old l p rules) (laws : Laws k (links_of new))
+-- The links change, darts that were born join cells, and the cells that were touched are relabelled.
+module _ (k : Kind) (n : ℕ) (old new : Rows) (l g m : Labeling) (p q : Store) (rules : List (Option Rule)) (s : IsStoredMap k n old l p rules) (laws : Laws k (links_of new))
+    (older : ℕ) (first : (x : ℕ) → IsLive old x → x ≤ older) (was : (x : ℕ) → IsLive new x → x ≤ older → IsLive old x)
+    (grafts : AreGrafted k new older (λ i. IsSome (rule_at rules i)) l g)
     (Ended : ℕ → Type 0) (ends : (d : ℕ) → Ended d → IsLive new d → ⊥) (lives-on : (d : ℕ) → IsLive old d → IsLive new d ⊎ Ended d)
     (touched : ℕ → List ℕ) (live : (i d : ℕ) → Contains (touched i) d → IsLive new d) (groups : List Group) (t : AreTouchedCells k (links_of new) rules touched groups)
-    (spares : (i : ℕ) → IsSome (rule_at rules i) → Spares k i old new l (Contains (touched i)))
-    (r : AreRelabelled (λ i d. ((i < n + 1) × Ended d) ⊎ IsGroupedBelow (length groups) groups i d) groups l m p q) (long : made new ≤ l.made)
+    (spares : (i : ℕ) → IsSome (rule_at rules i) → Spares k i new g (Contains (touched i)))
+    (r : AreRelabelled (λ i d. ((i < n + 1) × Ended d) ⊎ IsGroupedBelow (length groups) groups i d) groups g m p q) (long : made new ≤ l.made)
     (begun : 0 < length new) (sound : IsSound k n new) where
   after : (m.made ≡ l.made) × KeepsPlaces l m
-  after = places-after k n old new s.laws laws l p s.stored Ended ends lives-on rules s.bare (λ i some. ruled-low n i rules s.ruled some) touched live groups t spares r.0 r.1 r.2 m q r.3
+  after = places-after k n old new s.laws laws l p s.stored older first was rules g grafts Ended ends lives-on s.bare (λ i some. ruled-low n i rules s.ruled some) touched live groups t spares r.0 r.1 r.2 m q r.3
 
   pub relinked-stored : IsStoredMap k n new m q rules
   relinked-stored = record {
@@ -255,24 +257,24 @@ module _ (k : Kind) (n : ℕ) (old new : Rows) (l m : Labeling) (p q : Store) (r
     begun = begun;
     sound = sound;
     laws = laws;
-    stored = stored-after k n old new s.laws laws l p s.stored Ended ends lives-on rules s.bare (λ i some. ruled-low n i rules s.ruled some) touched live groups t spares r.0 r.1 r.2 m q r.3;
+    stored = stored-after k n old new s.laws laws l p s.stored older first was rules g grafts Ended ends lives-on s.bare (λ i some. ruled-low n i rules s.ruled some) touched live groups t spares r.0 r.1 r.2 m q r.3;
     ruled = s.ruled;
-    bare = bare-after k n old new s.laws laws l p s.stored Ended ends lives-on rules s.bare (λ i some. ruled-low n i rules s.ruled some) touched live groups t spares r.0 r.1 r.2 m q r.3;
+    bare = bare-after k n old new s.laws laws l p s.stored older first was rules g grafts Ended ends lives-on s.bare (λ i some. ruled-low n i rules s.ruled some) touched live groups t spares r.0 r.1 r.2 m q r.3;
     placed = λ i some. (after.1 i).1 (s.placed i some);
     long = omega (arith, long, after.0);
   }
 
-  -- the values of all other places stay
-  pub relinked-outside : (i d : ℕ) → (((i < n + 1) × Ended d) ⊎ IsGroupedBelow (length groups) groups i d → ⊥) → stored_value q m i d ≡ stored_value p l i d
-  relinked-outside = stored_value-outside k n old new s.laws laws l p s.stored Ended ends lives-on rules s.bare (λ i some. ruled-low n i rules s.ruled some) touched live groups t spares r.0 r.1 r.2 m q r.3
+  -- the values of all other places stay, but those of darts that were born
+  pub relinked-outside : (i d : ℕ) → d ≤ older → (((i < n + 1) × Ended d) ⊎ IsGroupedBelow (length groups) groups i d → ⊥) → stored_value q m i d ≡ stored_value p l i d
+  relinked-outside = stored_value-outside k n old new s.laws laws l p s.stored older first was rules g grafts Ended ends lives-on s.bare (λ i some. ruled-low n i rules s.ruled some) touched live groups t spares r.0 r.1 r.2 m q r.3
 
-  module _ (hook : Hook) (whole : AreWhole hook) (small : AreSmall rules p) (carried : (g : ℕ) → g < length groups → HasCarriedValue k (links_of new) (IsLive new) (id_of l) p hook rules (group_at groups g)) where
+  module _ (hook : Hook) (whole : AreWhole hook) (small : AreSmall rules p) (carried : (h : ℕ) → h < length groups → HasCarriedValue k (links_of new) (IsLive new) (id_of g) p hook rules (group_at groups h)) where
     values-carried : (i : ℕ) (o : Option Rule) → rule_at rules i ≡ o → AreCarriedBy hook (content_of k n old l p rules) (content_of k n new m q rules) i o
     values-carried i None e = λ d. value-shown k n new m q rules relinked-stored i d ∙ ap (labelled_value q) (relinked-stored.bare i d e)
     values-carried i (Some rule) e =
         carried-alike k i _ (links_of old) (IsLive old) (λ x. stored_value p l i x) _ (links_of new) (IsLive new) (λ x. stored_value q m i x) _
         (λ x. value-shown k n old l p rules s i x) (λ x. value-shown k n new m q rules relinked-stored i x)
-        (carried-after k n old new s.laws laws l p s.stored Ended ends lives-on rules s.bare (λ i some. ruled-low n i rules s.ruled some) touched live groups t spares r.0 r.1 r.2 m q r.3 hook whole small carried i rule e)
+        (carried-after k n old new s.laws laws l p s.stored older first was rules g grafts Ended ends lives-on s.bare (λ i some. ruled-low n i rules s.ruled some) touched live groups t spares r.0 r.1 r.2 m q r.3 hook whole small carried i rule e)
 
     pub relinked-carried : IsCarriedOn hook (content_of k n old l p rules) new (content_of k n new m q rules)
     relinked-carried = record {

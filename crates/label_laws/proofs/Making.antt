@@ -22,12 +22,12 @@ use Rattle.label_laws.specs.Stored.{AreSmall, stored_value}
 use Rattle.label_laws.specs.Changing.{AreTaken, AreRelabelled, IsGroupedBelow}
 use Rattle.label_laws.specs.Contents.{content_of, IsCarriedOn}
 use Rattle.label_laws.specs.Maps.{IsStoredMap}
-use Rattle.label_laws.specs.Touching.{CanLabel, AreAllTouched}
+use Rattle.label_laws.specs.Touching.{CanLabel, AreGrafted, AreAllTouched}
 use Rattle.label_laws.proofs.Taking.{taken-as}
 use Rattle.label_laws.proofs.Showing.{ruled-low}
 use Rattle.label_laws.proofs.Same.{content-alike}
 use Rattle.label_laws.proofs.LineSteps.{stored-grown, born-stored, born-content, ended-stored, ended-content, relinked-stored, relinked-outside, relinked-carried, ended-outside}
-use Rattle.label_laws.proofs.Remaking.{not-ended}
+use Rattle.label_laws.proofs.Remaking.{lived, not-ended}
 
 out-more : (x : ℕ) (ds : List ℕ) (d : ℕ) → x ≢ d → All (λ (y : ℕ). d ≢ y) ds → All (λ (y : ℕ). d ≢ y) (x ∷ ds)
 out-more x ds d other none zero z h = λ e. other (sym e)
@@ -74,28 +74,37 @@ module _ (k : Kind) (n : ℕ) (rows : Rows) (e : Edit) (l : Labeling) (p : Store
       pub grown-stored : IsStoredMap k n rows m q rules
       grown-stored = stored-grown k n rows l m p q rules s ids places (omega (arith, grown)) slots
 
-      -- the groups that were touched can be labelled
-      module _ (groups : List Group) (touched : AreAllTouched k rows New rules m groups) where
-        group-live : (g d : ℕ) → g < length groups → Contains (group_at groups g).darts d → IsLive New d
-        group-live g d lt here =
-            let cell = touched.2.cells g lt in
-            let some = cell.reached in
-            cell_live k (IsLive rows) (links_of rows) (links_of New) s.laws laws (IsLive New) (rows_lead_to_live k New laws) (group_at groups g).dim some.0 (touched.1 (group_at groups g).dim some.0 some.1) ((cell.whole some.0 d some.2).0 here)
+      -- some darts that were born joined cells, and the groups that were touched can be labelled
+      module _ (g : Labeling) (grafts : AreGrafted k New (made rows) (λ i. IsSome (rule_at rules i)) m g) (groups : List Group) (touched : AreAllTouched k New rules g groups) where
+        first : (x : ℕ) → IsLive rows x → x ≤ made rows
+        first x live = let within = live-within rows x live in omega arith
 
-        pub ended-within : (d : ℕ) → Contains e.deaths d → d ≤ m.made
+        was : (x : ℕ) → IsLive New x → x ≤ made rows → IsLive rows x
+        was x live low = elim (lived k n rows e s.sound s.begun fits (Contains e.deaths) (λ y. ((λ h. h), λ h. h)) x live) [
+          | inl before ↦ before
+          | inr born ↦ absurd (let high : made rows < x = born.0 in omega arith)
+        ]
+
+        group-live : (h d : ℕ) → h < length groups → Contains (group_at groups h).darts d → IsLive New d
+        group-live h d lt here =
+            let cell = touched.2.cells h lt in
+            let some = cell.reached in
+            cell_live k (IsLive rows) (links_of rows) (links_of New) s.laws laws (IsLive New) (rows_lead_to_live k New laws) (group_at groups h).dim some.0 (touched.1 (group_at groups h).dim some.0 some.1) ((cell.whole some.0 d some.2).0 here)
+
+        pub ended-within : (d : ℕ) → Contains e.deaths d → d ≤ g.made
         ended-within d here =
             let living : IsLive rows d = subst (IsLive rows) here.2 (fits.living here.0 d here.1) in
             let within = live-within rows d living in
-            omega (arith, grown)
+            omega (arith, grown, grafts.made)
 
-        pub groups-labelled : (g : ℕ) → g < length groups → CanLabel n m (group_at groups g)
-        groups-labelled g lt =
-            let some = (touched.2.cells g lt).ruled in
-            let low = ruled-low n (group_at groups g).dim rules s.ruled some in
+        pub groups-labelled : (h : ℕ) → h < length groups → CanLabel n g (group_at groups h)
+        groups-labelled h lt =
+            let some = (touched.2.cells h lt).ruled in
+            let low = ruled-low n (group_at groups h).dim rules s.ruled some in
             record {
               low = omega arith;
-              places = (places (group_at groups g).dim).1 (s.placed (group_at groups g).dim some);
-              darts_in = λ d here. (let within = live-within New d (group-live g d lt here) in let long : made New ≤ m.made = labels-long in omega arith);
+              places = (grafts.places (group_at groups h).dim).1 ((places (group_at groups h).dim).1 (s.placed (group_at groups h).dim some));
+              darts_in = λ d here. (let within = live-within New d (group-live h d lt here) in let long : made New ≤ m.made = labels-long in omega (arith, grafts.made));
             }
 
         live-or-ended : (d : ℕ) → IsLive rows d → IsLive New d ⊎ Contains e.deaths d
@@ -107,24 +116,24 @@ module _ (k : Kind) (n : ℕ) (rows : Rows) (e : Edit) (l : Labeling) (p : Store
         gone-for-good : (d : ℕ) → Contains e.deaths d → IsLive New d → ⊥
         gone-for-good d gone live = not-ended k n rows e s.sound s.begun fits (Contains e.deaths) (λ x. ((λ h. h), λ h. h)) d live gone
 
-        module _ (m' : Labeling) (q' : Store) (r : AreRelabelled (λ i d. ((i < n + 1) × Contains e.deaths d) ⊎ IsGroupedBelow (length groups) groups i d) groups m m' q q') where
+        module _ (m' : Labeling) (q' : Store) (r : AreRelabelled (λ i d. ((i < n + 1) × Contains e.deaths d) ⊎ IsGroupedBelow (length groups) groups i d) groups g m' q q') where
           begun-new : 0 < length New
           begun-new = let more : length New ≡ length rows + e.births = long-new in omega (arith, s.begun, more)
 
           pub relink-stored : IsStoredMap k n New m' q' rules
           relink-stored =
-              relinked-stored k n rows New m m' q q' rules grown-stored laws (Contains e.deaths) gone-for-good live-or-ended touched.0 touched.1 groups touched.2 touched.3 r labels-long begun-new sound-new
+              relinked-stored k n rows New m g m' q q' rules grown-stored laws (made rows) first was grafts (Contains e.deaths) gone-for-good live-or-ended touched.0 touched.1 groups touched.2 touched.3 r labels-long begun-new sound-new
 
-          -- the values of places whose ids are not given anew stay
-          pub relink-outside : (i d : ℕ) → (((i < n + 1) × Contains e.deaths d) ⊎ IsGroupedBelow (length groups) groups i d → ⊥) → stored_value q' m' i d ≡ stored_value q m i d
+          -- the values of places whose ids are not given anew stay, but those of darts that were born
+          pub relink-outside : (i d : ℕ) → d ≤ made rows → (((i < n + 1) × Contains e.deaths d) ⊎ IsGroupedBelow (length groups) groups i d → ⊥) → stored_value q' m' i d ≡ stored_value q m i d
           relink-outside =
-              relinked-outside k n rows New m m' q q' rules grown-stored laws (Contains e.deaths) gone-for-good live-or-ended touched.0 touched.1 groups touched.2 touched.3 r labels-long begun-new sound-new
+              relinked-outside k n rows New m g m' q q' rules grown-stored laws (made rows) first was grafts (Contains e.deaths) gone-for-good live-or-ended touched.0 touched.1 groups touched.2 touched.3 r labels-long begun-new sound-new
 
-          pub relink-carried : (hook : Hook) → AreWhole hook → AreSmall rules q → ((g : ℕ) → g < length groups → HasCarriedValue k (links_of New) (IsLive New) (id_of m) q hook rules (group_at groups g))
+          pub relink-carried : (hook : Hook) → AreWhole hook → AreSmall rules q → ((h : ℕ) → h < length groups → HasCarriedValue k (links_of New) (IsLive New) (id_of g) q hook rules (group_at groups h))
               → IsCarriedOn hook (content_of k n rows l p rules) New (content_of k n New m' q' rules)
           relink-carried hook whole small carried =
               subst (λ (c : Content). IsCarriedOn hook c New (content_of k n New m' q' rules)) (content-alike k n rows l m p q rules ids slots)
-              (relinked-carried k n rows New m m' q q' rules grown-stored laws (Contains e.deaths) gone-for-good live-or-ended touched.0 touched.1 groups touched.2 touched.3 r labels-long begun-new sound-new hook whole small carried)
+              (relinked-carried k n rows New m g m' q q' rules grown-stored laws (made rows) first was grafts (Contains e.deaths) gone-for-good live-or-ended touched.0 touched.1 groups touched.2 touched.3 r labels-long begun-new sound-new hook whole small carried)
 
 -- A dart without links ends.
 module _ (k : Kind) (n : ℕ) (rows : Rows) (dart : ℕ) (l m : Labeling) (p q : Store) (rules : List (Option Rule)) (s : IsStoredMap k n rows l p rules)
@@ -165,8 +174,8 @@ module _ (k : Kind) (n : ℕ) (rows : Rows) (dart : ℕ) (l m : Labeling) (p q :
   end-content = ended-content k n rows After l m p q rules s dart live alone after-is sound-one laws-one taken-one
 
 -- without rules no cell is looked for
-pub none-touched : (k : Kind) (old new : Rows) (rules : List (Option Rule)) (l : Labeling) → rules ≡ [] → AreAllTouched k old new rules l []
-none-touched k old new rules l none = (
+pub none-touched : (k : Kind) (new : Rows) (rules : List (Option Rule)) (l : Labeling) → rules ≡ [] → AreAllTouched k new rules l []
+none-touched k new rules l none = (
   λ i. [],
   λ i x h. absurd (let lt : h.0 < 0 = h.1 in omega arith),
   record { cells = λ g lt. absurd (omega arith); all = λ i t some _. absurd (no-rule i some); ascending = λ a b _ lt. absurd (omega arith) },

@@ -1,14 +1,28 @@
--- Which darts are said to live does not matter but for those in old valued cells.
-use Rattle.std.proofs.Common.{ℕ, List, slice_index, slice_index_or, Option, None}
+-- Which darts are said to live does not matter, as long as each piece has a least dart that lives either way.
+use Rattle.std.proofs.Common.{ℕ, ◌⊎◌, ◌<◌, inl, inr, List, slice_index, slice_index_or, Option, None, arith}
 use Rattle.map_defs.specs.Values.{Value, Meaning}
 use Rattle.map_defs.specs.Carry.{NamesPiece, ArePieces, Gets, IsCarried}
 
-module _ (Live Other : ℕ → Type 0) (Old New : ℕ → ℕ → Type 0) (to : (m x : ℕ) → Old m x → Live x → Other x) (from : (m x : ℕ) → Old m x → Other x → Live x) where
+-- Old and New run on along themselves. What lives by Other lives, and what lives does by Other, or has a lesser dart of its piece
+-- that does.
+module _ (Live Other : ℕ → Type 0) (Old New : ℕ → ℕ → Type 0)
+    (old-on : (a b c : ℕ) → Old a b → Old b c → Old a c) (old-own : (a b : ℕ) → Old a b → Old b b) (new-on : (a b c : ℕ) → New a b → New b c → New a c)
+    (to : (x : ℕ) → Live x → Old x x → Other x ⊎ ((y : ℕ) × Other y × Old x y × New x y × (y < x))) (from : (x : ℕ) → Other x → Live x) where
   names-to : (m : ℕ) → NamesPiece Live Old New m → NamesPiece Other Old New m
-  names-to m p = record { live = to m m p.valued p.live; valued = p.valued; least = λ x l o n. p.least x (from m x o l) o n }
+  names-to m p = elim (to m p.live p.valued) [
+    | inl here ↦ record { live = here; valued = p.valued; least = λ x l o n. p.least x (from x l) o n }
+    | inr y ↦ absurd (let least = p.least y.0 (from y.0 y.1) y.2 y.3 in let lesser : y.0 < m = y.4 in omega arith)
+  ]
 
   names-from : (m : ℕ) → NamesPiece Other Old New m → NamesPiece Live Old New m
-  names-from m p = record { live = from m m p.valued p.live; valued = p.valued; least = λ x l o n. p.least x (to m x o l) o n }
+  names-from m p = record {
+    live = from m p.live;
+    valued = p.valued;
+    least = λ x l o n. (elim (to x l (old-own m x o)) [
+      | inl here ↦ p.least x here o n
+      | inr y ↦ (let least = p.least y.0 y.1 (old-on m x y.0 o y.2) (new-on m x y.0 n y.3) in let lesser : y.0 < x = y.4 in omega arith)
+    ]);
+  }
 
   pieces : (Cell : ℕ → Type 0) (p : List ℕ) → ArePieces Live Old New Cell p → ArePieces Other Old New Cell p
   pieces Cell p a = record {

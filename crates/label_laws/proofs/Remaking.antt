@@ -22,7 +22,7 @@ dead rows d none live = false≢true (sym (ap is_some none) ∙ live)
 module _ (k : Kind) (n : ℕ) (rows : Rows) (e : Edit) (sound : IsSound k n rows) (begun : 0 < length rows) (fits : Fits k n rows e)
     (Ended : ℕ → Type 0) (ended : (d : ℕ) → Ended d ↔ Contains e.deaths d) where
   -- a dart that lives after the edit lived before it or was born
-  lived : (d : ℕ) → IsLive (after_edit n e rows) d → IsLive rows d ⊎ ((made rows < d) × (d ≤ made rows + e.births))
+  pub lived : (d : ℕ) → IsLive (after_edit n e rows) d → IsLive rows d ⊎ ((made rows < d) × (d ≤ made rows + e.births))
   lived d live = elim (none-or-some (row_at (with_changes n e rows) d)) [
     | inl none ↦ absurd (dead (after_edit n e rows) d (buried-none e.deaths (with_changes n e rows) d none) live)
     | inr some ↦

@@ -11,17 +11,18 @@ use Rattle.store_defs.specs.Groups.{labelled_value}
 use Rattle.label_laws.specs.Stored.{stored_value, AreStored}
 use Rattle.label_laws.specs.Changing.{AreTaken, AreGiven}
 
--- The cells that have ids at places outside go on as they were: their darts live, and none of them is of those places.
-pub record AreSpared (k : Kind) (L N : Links) (LiveAfter : ℕ → Type 0) (Place : ℕ → ℕ → Type 0) (l : Labeling) : Type 0 where
+-- The ids at places outside tell cells: the cell of each is all that has its id, its darts live, and none of them is of those places.
+pub record AreLeft (k : Kind) (N : Links) (LiveAfter : ℕ → Type 0) (Place : ℕ → ℕ → Type 0) (l : Labeling) (p : Store) : Type 0 where
   pub lives : (i d c : ℕ) → (Place i d → ⊥) → id_of l i d ≡ Some c → LiveAfter d
-  pub cells : (i d c x : ℕ) → (Place i d → ⊥) → id_of l i d ≡ Some c → InCell k N i d x ↔ InCell k L i d x
-  pub clear : (i d c x : ℕ) → (Place i d → ⊥) → id_of l i d ≡ Some c → InCell k L i d x → Place i x → ⊥
+  pub held : (i d c : ℕ) → (Place i d → ⊥) → id_of l i d ≡ Some c → IsHeld p c
+  pub dims : (i d j e c : ℕ) → id_of l i d ≡ Some c → id_of l j e ≡ Some c → j ≡ i
+  pub cells : (i d c x : ℕ) → (Place i d → ⊥) → id_of l i d ≡ Some c → InCell k N i d x ↔ (id_of l i x ≡ Some c)
+  pub clear : (i d c x : ℕ) → (Place i d → ⊥) → id_of l i d ≡ Some c → id_of l i x ≡ Some c → Place i x → ⊥
 
 pub held-some : (p : Store) (c : ℕ) → value_of p c ≡ None → IsHeld p c → ⊥
 held-some p c none held = false≢true (subst (λ (o : Option Value). IsSome o) none held)
 
-module _ (k : Kind) (L N : Links) (Live LiveAfter : ℕ → Type 0) (Place : ℕ → ℕ → Type 0) (l m : Labeling) (p q : Store)
-    (s : AreStored k L Live l p) (t : AreTaken Place l m p q) where
+module _ (k : Kind) (N : Links) (LiveAfter : ℕ → Type 0) (Place : ℕ → ℕ → Type 0) (l m : Labeling) (p q : Store) (t : AreTaken Place l m p q) where
   -- an id that is left was there, at a place that was not taken
   pub left : (i d c : ℕ) → id_of m i d ≡ Some c → (Place i d → ⊥) × (id_of l i d ≡ Some c)
   left i d c e = go (t.each i d)
@@ -33,38 +34,62 @@ module _ (k : Kind) (L N : Links) (Live LiveAfter : ℕ → Type 0) (Place : ℕ
   pub stays : (i d c : ℕ) → (Place i d → ⊥) → id_of l i d ≡ Some c → id_of m i d ≡ Some c
   stays i d c out e = elim (t.each i d) [ inl h ↦ absurd (out h.0) | inr h ↦ h.1 ∙ e ]
 
-  module _ (a : AreSpared k L N LiveAfter Place l) where
+  module _ (a : AreLeft k N LiveAfter Place l p) where
     pub same-value : (i d c : ℕ) → (Place i d → ⊥) → id_of l i d ≡ Some c → value_of q c ≡ value_of p c
     same-value i d c out e = go (t.values c)
       where
         go : (value_of q c ≡ value_of p c) ⊎ ((i : ℕ) × (d : ℕ) × Place i d × (id_of l i d ≡ Some c)) → value_of q c ≡ value_of p c
         go (inl f) = f
         go (inr g) =
-            let both = s.apart i d g.0 g.1 c e g.3 in
-            absurd (a.clear i d c g.1 out e both.1 (subst (λ (j : ℕ). Place j g.1) both.0 g.2))
+            let dim : g.0 ≡ i = a.dims i d g.0 g.1 c e g.3 in
+            absurd (a.clear i d c g.1 out e (subst (λ (j : ℕ). id_of l j g.1 ≡ Some c) dim g.3) (subst (λ (j : ℕ). Place j g.1) dim g.2))
 
     stored_value-same : (o : Option ℕ) → ((c : ℕ) → o ≡ Some c → value_of q c ≡ value_of p c) → labelled_value q o ≡ labelled_value p o
     stored_value-same None same = refl
     stored_value-same (Some c) same = same c refl
 
     -- what is not taken keeps its value
-    pub stored_value-stays : (i d : ℕ) → (Place i d → ⊥) → stored_value q m i d ≡ stored_value p l i d
-    stored_value-stays i d out = elim (t.each i d) [
+    pub left-value : (i d : ℕ) → (Place i d → ⊥) → stored_value q m i d ≡ stored_value p l i d
+    left-value i d out = elim (t.each i d) [
       | inl h ↦ absurd (out h.0)
       | inr h ↦ ap (labelled_value q) h.1 ∙ stored_value-same (id_of l i d) (λ c e. same-value i d c out e)
     ]
 
-    pub stored-taken : AreStored k N LiveAfter m q
-    stored-taken = record {
+    pub stored-left : AreStored k N LiveAfter m q
+    stored-left = record {
       live = λ i d c e. let h = left i d c e in a.lives i d c h.0 h.1;
-      held = λ i d c e. let h = left i d c e in subst (λ (o : Option Value). IsSome o) (sym (same-value i d c h.0 h.1)) (s.held i d c h.1);
+      held = λ i d c e. let h = left i d c e in subst (λ (o : Option Value). IsSome o) (sym (same-value i d c h.0 h.1)) (a.held i d c h.0 h.1);
       whole = λ i d x c e cell. (let h = left i d c e in
-          let old = (a.cells i d c x h.0 h.1).0 cell in
-          stays i x c (a.clear i d c x h.0 h.1 old) (s.whole i d x c h.1 old));
+          let there = (a.cells i d c x h.0 h.1).0 cell in
+          stays i x c (a.clear i d c x h.0 h.1 there) there);
       apart = λ i d j x c e f. (let h = left i d c e in
-          let both = s.apart i d j x c h.1 (left j x c f).1 in
-          (both.0, (a.cells i d c x h.0 h.1).1 both.1));
+          let there = (left j x c f).1 in
+          let dim : j ≡ i = a.dims i d j x c h.1 there in
+          (dim, (a.cells i d c x h.0 h.1).1 (subst (λ (n : ℕ). id_of l n x ≡ Some c) dim there)));
     }
+
+-- The cells that have ids at places outside go on as they were: their darts live, and none of them is of those places.
+pub record AreSpared (k : Kind) (L N : Links) (LiveAfter : ℕ → Type 0) (Place : ℕ → ℕ → Type 0) (l : Labeling) : Type 0 where
+  pub lives : (i d c : ℕ) → (Place i d → ⊥) → id_of l i d ≡ Some c → LiveAfter d
+  pub cells : (i d c x : ℕ) → (Place i d → ⊥) → id_of l i d ≡ Some c → InCell k N i d x ↔ InCell k L i d x
+  pub clear : (i d c x : ℕ) → (Place i d → ⊥) → id_of l i d ≡ Some c → InCell k L i d x → Place i x → ⊥
+
+module _ (k : Kind) (L N : Links) (Live LiveAfter : ℕ → Type 0) (Place : ℕ → ℕ → Type 0) (l m : Labeling) (p q : Store)
+    (s : AreStored k L Live l p) (t : AreTaken Place l m p q) (a : AreSpared k L N LiveAfter Place l) where
+  spared-left : AreLeft k N LiveAfter Place l p
+  spared-left = record {
+    lives = a.lives;
+    held = λ i d c out e. s.held i d c e;
+    dims = λ i d j e c here there. (s.apart i d j e c here there).0;
+    cells = λ i d c x out e. ((λ cell. s.whole i d x c e ((a.cells i d c x out e).0 cell)), λ f. (a.cells i d c x out e).1 (s.apart i d i x c e f).1);
+    clear = λ i d c x out e f. a.clear i d c x out e (s.apart i d i x c e f).1;
+  }
+
+  pub stored_value-stays : (i d : ℕ) → (Place i d → ⊥) → stored_value q m i d ≡ stored_value p l i d
+  stored_value-stays = left-value k N LiveAfter Place l m p q t spared-left
+
+  pub stored-taken : AreStored k N LiveAfter m q
+  stored-taken = stored-left k N LiveAfter Place l m p q t spared-left
 
 module _ (k : Kind) (N : Links) (Live : ℕ → Type 0) (i : ℕ) (Darts : ℕ → Type 0) (value : Value) (l m : Labeling) (p q : Store)
     (s : AreStored k N Live l p) (g : AreGiven i Darts value l m p q)

@@ -52,7 +52,7 @@ module _ (k : Kind) (n : ℕ) (rows : Rows) (l : Labeling) (p : Store) (rules : 
     module _ (value : Value) (r : Store) (slots : r.slots ≡ p.slots) (some : IsSome (rule_at rules i)) (has : id_of l i d ≡ None) (m : Labeling) (q : Store)
         (g : AreGiven i (Contains darts) value l m r q) where
       roomy : IsStoredMap k n rows l r rules
-      roomy = stored-grown k n rows l l p r rules s (λ _ _. refl) (same-places l) (omega arith) slots
+      roomy = stored-grown k n rows l l p r rules s (λ _ _. refl) (same-places l) s.long slots
 
       given : IsSetIn k (links_of rows) (IsLive rows) i d (Some value) l m r q
       given = set-given k (links_of rows) s.laws (IsLive rows) l r roomy.stored i d value has cell-lives darts are m q g
