@@ -1,5 +1,6 @@
 -- What an edit makes of a map with values, and the step that is told.
-use Rattle.std.proofs.Common.{◌≡◌, ℕ, ◌+◌, ◌<◌, ◌≤◌, ◌⊎◌, Bool, IsTrue, List, [], ◌∷◌, ◌++◌, length, max, map, Option, Some, refl, sym, ◌∙◌, inl, arith, Contains}
+use Rattle.std.proofs.Common.{◌≡◌, ℕ, ◌+◌, ◌<◌, ◌≤◌, ◌⊎◌, Bool, IsTrue, IsSome, List, [], ◌∷◌, ◌++◌, length, max, map, Option, Some, None, refl, sym, ap, ◌∙◌, inl, inr, arith, Contains}
+use Rattle.std.proofs.lemmas.Bool.{cases_lt}
 use Rattle.map_defs.specs.Kind.{Kind}
 use Rattle.map_defs.specs.Laws.{Laws}
 use Rattle.map_defs.specs.Rows.{Rows, IsLive, links_of, made, made_max}
@@ -12,17 +13,20 @@ use Rattle.journal_laws.specs.Ordering.{IsRowsDifference}
 use Rattle.journal_laws.proofs.Led.{led-follows}
 use Rattle.edit_laws.proofs.EditPlain.{death_edit, death-fits}
 use Rattle.edit_laws.proofs.KeptLaws.{death-keeps}
+use Rattle.edit_laws.proofs.EditSound.{length-after}
+use Rattle.edit_laws.proofs.RowWrites.{live-within}
 use Rattle.store_defs.specs.Stores.{Store}
-use Rattle.store_defs.specs.Labelings.{Labeling, KeepsIds, KeepsPlaces}
-use Rattle.store_defs.specs.Groups.{Group}
+use Rattle.store_defs.specs.Labelings.{Labeling, id_of, KeepsIds, KeepsPlaces}
+use Rattle.store_defs.specs.Groups.{Group, rule_at, labelled_value}
 use Rattle.label_laws.specs.Contents.{content_of, all_rules}
 use Rattle.label_laws.specs.Maps.{IsStoredMap}
 use Rattle.label_laws.specs.Changing.{AreTaken, AreRelabelled, IsGroupedBelow}
-use Rattle.label_laws.specs.Touching.{AreAllTouched}
-use Rattle.label_laws.proofs.Showing.{value-shown, places-shown, kept-shown}
+use Rattle.label_laws.specs.Stored.{stored_value}
+use Rattle.label_laws.specs.Touching.{AreGrafted, AreAllTouched}
+use Rattle.label_laws.proofs.Showing.{value-shown, places-shown, kept-shown, id-low, stored_value-dead}
 use Rattle.label_laws.proofs.Same.{stored_value-alike}
 use Rattle.label_laws.proofs.Making.{led, bear-stored, relink-stored, relink-outside, end-stored, end-outside}
-use Rattle.valued_map.specs.Told.{IsStep, IsBegun, IsSorted, finished, step_of, IsRelabelledPlace, AreOldValues, AreNewValues}
+use Rattle.valued_map.specs.Told.{IsStep, IsBegun, IsSorted, finished, step_of, IsRelabelledPlace, IsRevaluedPlace, AreOldValues, AreNewValues}
 use Rattle.valued_map.proofs.Parts.{parts-differ, no-values-differ, no-rules-differ, none-ordered, told-finished}
 use Rattle.valued_map.proofs.SortedEdit.{sorted-difference}
 use Rattle.valued_map.proofs.ListedValues.{olds-differ}
@@ -69,27 +73,47 @@ module _ (k : Kind) (n : ℕ) (rows : Rows) (e : Edit) (l : Labeling) (p : Store
         told = told-finished asked Before (content_of k n New m p rules) e [] [] draft begun bear-differs;
       }
 
-    -- links that change, and values with them
+    -- links that change, darts that were born and joined cells, and values with them
     module _ (m : Labeling) (ids : KeepsIds l m) (places : KeepsPlaces l m) (grown : m.made ≡ max l.made (made rows + e.births)) (q : Store) (slots : q.slots ≡ p.slots)
-        (groups : List Group) (touched : AreAllTouched k rows New rules m groups) (m' : Labeling) (q' : Store)
-        (r : AreRelabelled (λ i d. ((i < n + 1) × Contains e.deaths d) ⊎ IsGroupedBelow (length groups) groups i d) groups m m' q q')
-        (olds values : List ValueChange) (old : IsTrue asked → AreOldValues (IsRelabelledPlace n e.deaths groups) m q olds) (new : AreNewValues m' q' olds values) where
+        (g : Labeling) (grafts : AreGrafted k New (made rows) (λ i. IsSome (rule_at rules i)) m g) (groups : List Group) (touched : AreAllTouched k New rules g groups) (m' : Labeling) (q' : Store)
+        (r : AreRelabelled (λ i d. ((i < n + 1) × Contains e.deaths d) ⊎ IsGroupedBelow (length groups) groups i d) groups g m' q q')
+        (olds values : List ValueChange) (old : IsTrue asked → AreOldValues (IsRevaluedPlace n (made rows) e groups) m q olds) (new : AreNewValues m' q' olds values) where
       abbrev After : Content
       After = content_of k n New m' q' rules
 
       stored-relinked : IsStoredMap k n New m' q' rules
-      stored-relinked = relink-stored k n rows e l p rules s fits few laws m ids places grown q slots groups touched m' q' r
+      stored-relinked = relink-stored k n rows e l p rules s fits few laws m ids places grown q slots g grafts groups touched m' q' r
 
-      outside-stays : (i d : ℕ) → (IsRelabelledPlace n e.deaths groups i d → ⊥) → value_at Before i d ≡ value_at After i d
-      outside-stays i d out =
-          value-shown k n rows l p rules s i d ∙ sym (stored_value-alike l m p q ids slots i d)
-          ∙ sym (relink-outside k n rows e l p rules s fits few laws m ids places grown q slots groups touched m' q' r i d out)
-          ∙ sym (value-shown k n New m' q' rules stored-relinked i d)
+      -- no dimension above has ids
+      above-none : (i d : ℕ) → (i < n + 1 → ⊥) → stored_value q' m' i d ≡ None
+      above-none i d high = go (id_of m' i d) refl
+        where
+          go : (o : Option ℕ) → id_of m' i d ≡ o → stored_value q' m' i d ≡ None
+          go None is = ap (labelled_value q') is
+          go (Some c) is = absurd (high (id-low k n New m' q' rules stored-relinked i d c is))
+
+      -- a place beyond those that were made has no value
+      beyond-none : (i d : ℕ) → made rows < d → (IsRevaluedPlace n (made rows) e groups i d → ⊥) → stored_value q' m' i d ≡ None
+      beyond-none i d high out = elim (cases_lt i (n + 1)) [
+        | inr above ↦ above-none i d (λ low. omega arith)
+        | inl low ↦ elim (cases_lt d (made rows + e.births + 1)) [
+          | inl born ↦ absurd (out (inr (low, high, born)))
+          | inr past ↦ stored_value-dead k n New m' q' rules stored-relinked i d (λ live. (let within = live-within New d live in let more : length New ≡ length rows + e.births = length-after n e rows in omega (arith, more, s.begun)))
+        ]
+      ]
+
+      outside-stays : (i d : ℕ) → (IsRevaluedPlace n (made rows) e groups i d → ⊥) → value_at Before i d ≡ value_at After i d
+      outside-stays i d out = value-shown k n rows l p rules s i d ∙ same (cases_lt (made rows) d) ∙ sym (value-shown k n New m' q' rules stored-relinked i d)
+        where
+          same : (made rows < d) ⊎ (d ≤ made rows) → stored_value p l i d ≡ stored_value q' m' i d
+          same (inr low) = sym (stored_value-alike l m p q ids slots i d)
+              ∙ sym (relink-outside k n rows e l p rules s fits few laws m ids places grown q slots g grafts groups touched m' q' r i d low (λ h. out (inl h)))
+          same (inl high) = stored_value-dead k n rows l p rules s i d (λ live. (let within = live-within rows d live in omega arith)) ∙ sym (beyond-none i d high out)
 
       relink-differs : (sorted : Edit) → IsTrue asked → IsSorted e sorted → IsDifference Before After (step_of (made rows) sorted values [])
       relink-differs sorted some order =
           parts-differ Before After sorted values [] (edit-differs sorted order)
-          (olds-differ (IsRelabelledPlace n e.deaths groups) m m' q q' olds values Before After
+          (olds-differ (IsRevaluedPlace n (made rows) e groups) m m' q q' olds values Before After
           (λ i d. value-shown k n rows l p rules s i d ∙ sym (stored_value-alike l m p q ids slots i d))
           (value-shown k n New m' q' rules stored-relinked) outside-stays (old some) new)
           (new.ordered (old some).ordered)

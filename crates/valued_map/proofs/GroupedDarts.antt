@@ -3,7 +3,8 @@ use Rattle.std.proofs.Common.{◌≡◌, ℕ, ◌+◌, ◌<◌, ◌≤◌, ◌�
 use Rattle.std.proofs.lemmas.Bool.{cases_eq}
 use Rattle.std.proofs.lemmas.List.Elements.{Contains-append_left, Contains-append_right, Contains-append_cases}
 use Rattle.store_defs.specs.Groups.{Group, group_at}
-use Rattle.valued_map.specs.Told.{IsRelabelledPlace}
+use Rattle.map_defs.specs.Edits.{Edit}
+use Rattle.valued_map.specs.Told.{IsRelabelledPlace, IsRevaluedPlace}
 
 -- d is a dart of one of the first k groups, of this dimension
 abbrev pub InGroups : ℕ → List Group → ℕ → ℕ → Type 0
@@ -85,3 +86,17 @@ place-all n ended groups low i d = (to, back)
     back : IsRelabelledPlace n ended groups i d → IsPlaceIn ended groups (n + 1) i d
     back (inl (within, gone)) = (within, inl gone)
     back (inr (h, lt, dim, there)) = (let small = low h lt in omega arith, inr (h, lt, sym dim, there))
+
+-- the places of darts that end and of those that an edit bore, beside those of groups
+pub renewed-places : (n older : ℕ) (e : Edit) (renewed : List ℕ) (groups : List Group) → ((d : ℕ) → Contains renewed d ↔ (Contains e.deaths d ⊎ ((older < d) × (d < older + e.births + 1))))
+    → (i d : ℕ) → IsRelabelledPlace n renewed groups i d ↔ IsRevaluedPlace n older e groups i d
+renewed-places n older e renewed groups are i d = (to, from)
+  where
+    to : IsRelabelledPlace n renewed groups i d → IsRevaluedPlace n older e groups i d
+    to (inl (low, there)) = elim ((are d).0 there) [ inl gone ↦ inl (inl (low, gone)) | inr born ↦ inr (low, born.0, born.1) ]
+    to (inr grouped) = inl (inr grouped)
+
+    from : IsRevaluedPlace n older e groups i d → IsRelabelledPlace n renewed groups i d
+    from (inl (inl (low, gone))) = inl (low, (are d).1 (inl gone))
+    from (inl (inr grouped)) = inr grouped
+    from (inr (low, high, within)) = inl (low, (are d).1 (inr (high, within)))

@@ -1,37 +1,29 @@
--- Edits that only join, and the cells that the darts spare which an edit changed.
-use Rattle.std.proofs.Common.{ℕ, ◌≡◌, ◌≢◌, ◌⊎◌, ◌<◌, List, length, get_or, Contains, Bool, true, false, IsTrue, IsSome, Option, Some, None, inl, inr, refl, sym, ap, ◌∙◌, arith}
+-- Darts that were born and joined cells by their ids, and the cells that the darts spare which an edit changed.
+use Rattle.std.proofs.Common.{ℕ, ◌≡◌, ◌≢◌, ◌⊎◌, ◌+◌, ◌-◌, ◌<◌, ◌≤◌, List, Contains, IsSome, Option, Some, None, inl, inr, refl, sym, ap, subst, ◌∙◌, arith}
+use Rattle.std.specs.Prelude.{IfSome}
+use Rattle.std.proofs.lemmas.Bool.{cases_eq, cases_lt}
 use Rattle.map_defs.specs.Kind.{Kind}
+use Rattle.map_defs.specs.LinkWords.{LinkWord, through, through_second, IsCellWord, IsWithin}
 use Rattle.map_defs.specs.Links.{Links}
-use Rattle.map_defs.specs.LinkWords.{LinkWord, through, through_second, IsWithin}
-use Rattle.map_defs.specs.Rows.{Rows, IsSound, links_of, entry_of}
-use Rattle.link_laws.proofs.RowFacts.{rows_dimension}
-use Rattle.valued_map.proofs.Rerouting.{word-within}
-use Rattle.map_defs.specs.Edits.{Change, Edit, IsLed}
+use Rattle.map_defs.specs.Rows.{Rows, IsLive, IsSound, links_of, made, entry_of}
+use Rattle.map_defs.specs.Cells.{here, onward, InCell}
+use Rattle.map_defs.specs.Edits.{Edit, IsLed}
 use Rattle.map_defs.specs.Laws.{Laws}
 use Rattle.map_defs.specs.Values.{Rule}
-use Rattle.store_defs.specs.Stores.{Store}
-use Rattle.store_defs.specs.Labelings.{Labeling}
-use Rattle.store_defs.specs.Groups.{darts_in, rule_at}
+use Rattle.link_laws.proofs.RowFacts.{rows_dimension}
 use Rattle.edit_laws.proofs.RowWrites.{live-within}
+use Rattle.edit_laws.proofs.EditSound.{after-sound}
+use Rattle.value_laws.proofs.MapValues.{cell_trans}
+use Rattle.store_defs.specs.Stores.{Store, IsHeld}
+use Rattle.store_defs.specs.Labelings.{Labeling, id_of, IsRelabelled, KeepsIds, KeepsPlaces}
+use Rattle.store_defs.specs.Groups.{darts_in, rule_at}
 use Rattle.label_laws.specs.Maps.{IsStoredMap}
-use Rattle.label_laws.specs.Touching.{Spares, OnlyJoins}
-use Rattle.label_laws.proofs.Sparing.{rerouted-spare, joined-spare}
-use Rattle.std.proofs.lemmas.Bool.{false≢true}
-use Rattle.valued_map.specs.Changing.{IsChangedIn}
-use Rattle.valued_map.proofs.Adding.{change_at, no_change, find-link, same-else, lived, long}
-
--- an edit without births, whose changes are of free links, only joins
-pub only-joins : (k : Kind) (n : ℕ) (e : Edit) (old new : Rows) → IsLed k n e old new → e.births ≡ 0 → ((j : ℕ) → j < length e.changes → (change_at e.changes j).old ≡ 0) → OnlyJoins old new
-only-joins k n e old new led none free = record {
-  lived = λ x live. lived k n e old new led x live (let at = live-within new x live in let l = long k n e old new led in omega (arith, none));
-  stays = λ t x linked. go t x linked (find-link e.changes x t);
-}
-  where
-    go : (t x : ℕ) → links_of old t x ≢ 0 → ((j : ℕ) × (j < length e.changes) × ((change_at e.changes j).dart ≡ x) × ((change_at e.changes j).link ≡ t)) ⊎ ((j : ℕ) (z : Change) → j < length e.changes → x ≡ (get_or e.changes j z).dart → t ≡ (get_or e.changes j z).link → ⊥) → links_of new t x ≡ links_of old t x
-    go t x linked (inr unchanged) = same-else k n e old new led t x unchanged
-    go t x linked (inl (j, lt, dart, link)) =
-        let stood : links_of old (change_at e.changes j).link (change_at e.changes j).dart ≡ (change_at e.changes j).old = led.fits.stands j no_change lt in
-        absurd (linked (ap (links_of old t) (sym dart) ∙ ap (λ (i : ℕ). links_of old i (change_at e.changes j).dart) (sym link) ∙ stood ∙ free j lt))
+use Rattle.label_laws.specs.Stored.{AreStored}
+use Rattle.label_laws.specs.Touching.{AreGrafted, IsSettledAlong, IsUnsettled, IsBornApart, Spares}
+use Rattle.label_laws.proofs.Sparing.{settled-spare}
+use Rattle.valued_map.specs.Changing.{AreAdded, LeadsApart, IsUnsettledFrom, IsChangedIn}
+use Rattle.valued_map.proofs.Adding.{added-then, added-told, lived, long}
+use Rattle.valued_map.proofs.Rerouting.{AreChangedBelow, word-within}
 
 -- a word that leads somewhere has links of the map alone
 pub leading-within : (k : Kind) (n : ℕ) (rows : Rows) → IsSound k n rows → (w : LinkWord) (x : ℕ) → through (links_of rows) w x ≢ 0 → IsWithin n w
@@ -46,16 +38,176 @@ leading-within k n rows sound w x leads =
     stops None = refl
     stops (Some j) = refl
 
--- The listed darts spare the other cells: where the edit only joins, since the rerouted darts from which a word leads apart are
--- listed, and else since all rerouted darts are.
-pub changed-spare : (k : Kind) (n : ℕ) (e : Edit) (rows : Rows) (rules : List (Option Rule)) (labels : Labeling) (joins : Bool) (lists : List (List ℕ))
-    → (IsTrue joins → (kind : Kind) (dim : ℕ) (old new : Rows) → IsLed kind dim e old new → OnlyJoins old new)
-    → ((i x : ℕ) → IsChangedIn k n e rows rules labels joins i x → Contains (darts_in lists i) x)
-    → (old : Rows) (pool : Store) → IsLed k n e old rows → IsStoredMap k n old labels pool rules → Laws k (links_of rows) → (i : ℕ) → IsSome (rule_at rules i)
-    → Spares k i old rows labels (Contains (darts_in lists i))
-changed-spare k n e rows rules labels true lists join all old pool led stored laws i ruled =
-    joined-spare k i old rows stored.laws laws labels pool stored.stored (join refl k n old rows led) (Contains (darts_in lists i))
-    (λ x rerouted apart. all i x ((old, led, stored.laws, laws, rerouted), ruled, λ _. apart))
-changed-spare k n e rows rules labels false lists join all old pool led stored laws i ruled =
-    rerouted-spare k i old rows stored.laws laws labels pool stored.stored (Contains (darts_in lists i))
-    (λ x rerouted. all i x ((old, led, stored.laws, laws, rerouted), ruled, λ yes. absurd (false≢true yes)))
+pub if-some : (o : Option ℕ) (P : ℕ → Type 0) → ((id : ℕ) → o ≡ Some id → P id) → IfSome o P
+if-some None P all = tt
+if-some (Some id) P all = all id refl
+
+-- a dart more was given an id, or not, and was looked at
+pub born-more : (k : Kind) (i : ℕ) (rows : Rows) (older : ℕ) (l m : Labeling) (number : ℕ) → ((j d : ℕ) → d ≢ number → id_of m j d ≡ id_of l j d) → (xs ys zs : List ℕ)
+    → AreAdded rows (λ x. (x < number) × IsBornApart k i rows older l x) xs ys → AreAdded rows (λ x. (x ≡ number) × LeadsApart k i rows m x) ys zs
+    → AreAdded rows (λ x. (x < number + 1) × IsBornApart k i rows older m x) xs zs
+born-more k i rows older l m number others xs ys zs before more =
+    added-told rows (λ x. ((x < number) × IsBornApart k i rows older l x) ⊎ ((x ≡ number) × LeadsApart k i rows m x)) (λ x. (x < number + 1) × IsBornApart k i rows older m x) xs zs told
+    (added-then rows (λ x. (x < number) × IsBornApart k i rows older l x) (λ x. (x ≡ number) × LeadsApart k i rows m x) xs ys zs before more)
+  where
+    told : (x : ℕ) → (x < number + 1) × IsBornApart k i rows older m x → IsLive rows x → ((x < number) × IsBornApart k i rows older l x) ⊎ ((x ≡ number) × LeadsApart k i rows m x)
+    told x (below, (live, (v, cell, high, less, apart))) _ = elim (cases_eq x number) [
+      | inl same ↦ inr (same, (v, cell, ((λ none. let up : older < 0 = subst (λ (z : ℕ). older < z) none high in omega arith), less, apart)))
+      | inr other ↦ inl (
+        omega arith,
+        (
+          live,
+          (
+            v,
+            cell,
+            high,
+            less,
+            λ alike. apart (others i (through (links_of rows) v x) (λ same. let under : number < x = subst (λ (z : ℕ). z < x) same less in omega arith) ∙ alike ∙ sym (others i x other)),
+          ),
+        ),
+      )
+    ]
+
+module _ (k : Kind) (rows : Rows) (older : ℕ) where
+  pub grafts-none : (Dims : ℕ → Type 0) (l : Labeling) → AreGrafted k rows older Dims l l
+  grafts-none Dims l = record { each = λ i d. inl refl; made = refl; places = λ i. ((λ h. h), λ h. h) }
+
+  pub grafts-as : (Dims Other : ℕ → Type 0) (l m : Labeling) → ((i : ℕ) → Dims i → Other i) → AreGrafted k rows older Dims l m → AreGrafted k rows older Other l m
+  grafts-as Dims Other l m told g = record {
+    each = λ i d. (elim (g.each i d) [ inl same ↦ inl same | inr given ↦ inr (told i given.0, given.1, given.2, given.3, given.4, given.5, given.6) ]);
+    made = g.made;
+    places = g.places;
+  }
+
+  pub grafts-then : (Dims : ℕ → Type 0) (l m n : Labeling) → AreGrafted k rows older Dims l m → AreGrafted k rows older Dims m n → AreGrafted k rows older Dims l n
+  grafts-then Dims l m n a b = record {
+    each = each;
+    made = b.made ∙ a.made;
+    places = λ i. ((λ h. (a.places i).0 ((b.places i).0 h)), λ h. (b.places i).1 ((a.places i).1 h));
+  }
+    where
+      each : (i d : ℕ) → (id_of n i d ≡ id_of l i d)
+          ⊎ (Dims i × (older < d) × (c : ℕ) × (e : ℕ) × (id_of n i d ≡ Some c) × InCell k (links_of rows) i d e × (id_of l i e ≡ Some c))
+      each i d = elim (b.each i d) [
+        | inl same ↦ elim (a.each i d) [
+          | inl before ↦ inl (same ∙ before)
+          | inr given ↦ inr (given.0, given.1, given.2, given.3, same ∙ given.4, given.5, given.6)
+        ]
+        | inr given ↦ elim (a.each i given.3) [
+          | inl before ↦ inr (given.0, given.1, given.2, given.3, given.4, given.5, sym before ∙ given.6)
+          | inr further ↦ inr (given.0, given.1, further.2, further.3, given.4 ∙ sym given.6 ∙ further.4, cell_trans k (links_of rows) i d given.3 further.3 given.5 further.5, further.6)
+        ]
+      ]
+
+  -- one dart is given the id of a dart to which a word leads it
+  pub grafts-one : (dim dart id : ℕ) (l m : Labeling) → older < dart → IsRelabelled l m dim dart (Some id) → m.made ≡ l.made → KeepsPlaces l m
+      → ((w : LinkWord) × IsCellWord k dim w × (through (links_of rows) w dart ≢ 0) × (id_of l dim (through (links_of rows) w dart) ≡ Some id))
+      → AreGrafted k rows older (λ i. i ≡ dim) l m
+  grafts-one dim dart id l m high given made-is places (w, word, there, is) = record { each = each; made = made-is; places = places }
+    where
+      each : (i d : ℕ) → (id_of m i d ≡ id_of l i d)
+          ⊎ ((i ≡ dim) × (older < d) × (c : ℕ) × (e : ℕ) × (id_of m i d ≡ Some c) × InCell k (links_of rows) i d e × (id_of l i e ≡ Some c))
+      each i d = elim (cases_eq i dim) [
+        | inr other ↦ inl (given.others i d (inl other))
+        | inl dims ↦ elim (cases_eq d dart) [
+          | inr other ↦ inl (given.others i d (inr other))
+          | inl darts ↦ inr (
+            dims,
+            subst (λ (x : ℕ). older < x) (sym darts) high,
+            id,
+            through (links_of rows) w dart,
+            ap (λ (j : ℕ). id_of m j d) dims ∙ ap (id_of m dim) darts ∙ given.here,
+            subst (λ (j : ℕ). InCell k (links_of rows) j d (through (links_of rows) w dart)) (sym dims)
+                (subst (λ (x : ℕ). InCell k (links_of rows) dim x (through (links_of rows) w dart)) (sym darts) (onward here (w, word, refl, there))),
+            ap (λ (j : ℕ). id_of l j (through (links_of rows) w dart)) dims ∙ is,
+          )
+        ]
+      ]
+
+-- a dimension in which the ids stay has the same darts changed
+pub changed-alike : (k : Kind) (n : ℕ) (e : Edit) (rows : Rows) (rules : List (Option Rule)) (l m : Labeling) (i : ℕ) → ((d : ℕ) → id_of m i d ≡ id_of l i d)
+    → (x : ℕ) → IsChangedIn k n e rows rules m i x → IsChangedIn k n e rows rules l i x
+changed-alike k n e rows rules l m i same x (ruled, inl (old, led, w, wn, (before, after, (v, cell, moved, unsettled)))) = (
+  ruled,
+  inl (
+    old,
+    led,
+    w,
+    wn,
+    (
+      before,
+      after,
+      (
+        v,
+        cell,
+        moved,
+        λ s. unsettled (record {
+          alike = λ there. same (through (links_of rows) v x) ∙ s.alike there ∙ sym (same x);
+          kept = s.kept;
+        }),
+      ),
+    ),
+  ),
+)
+changed-alike k n e rows rules l m i same x (ruled, inr (live, (v, cell, high, less, apart))) =
+    (ruled, inr (live, (v, cell, high, less, λ alike. apart (same (through (links_of rows) v x) ∙ alike ∙ sym (same x)))))
+
+-- and so the lists of the dimensions before stay right where darts are given ids of one dimension
+pub changed-later : (k : Kind) (n : ℕ) (e : Edit) (rows : Rows) (rules : List (Option Rule)) (older : ℕ) (l m : Labeling) (dim : ℕ) (lists : List (List ℕ))
+    → AreGrafted k rows older (λ i. (i ≡ dim) × IsSome (rule_at rules i)) l m → AreChangedBelow k n e rows rules l dim lists → AreChangedBelow k n e rows rules m dim lists
+changed-later k n e rows rules older l m dim lists grafts a = record {
+  size = a.size;
+  only = a.only;
+  all = λ i x low wanted. a.all i x low (changed-alike k n e rows rules l m i (same i low) x wanted);
+}
+  where
+    same : (i : ℕ) → i < dim → (d : ℕ) → id_of m i d ≡ id_of l i d
+    same i low d = elim (grafts.each i d) [ inl stays ↦ stays | inr given ↦ absurd (let here : i ≡ dim = given.0.0 in omega arith) ]
+
+-- a dart that was not made has no id
+pub unlabelled : (k : Kind) (n : ℕ) (rows : Rows) (l : Labeling) (p : Store) (rules : List (Option Rule)) → IsStoredMap k n rows l p rules → (i d : ℕ) → made rows < d → id_of l i d ≡ None
+unlabelled k n rows l p rules s i d high = go (id_of l i d) refl
+  where
+    go : (o : Option ℕ) → id_of l i d ≡ o → id_of l i d ≡ None
+    go None e = e
+    go (Some c) e = absurd (let within = live-within rows d (s.stored.live i d c e) in omega arith)
+
+-- the ids of darts that were born are cut off again
+pub ungrafted : (k : Kind) (n : ℕ) (rows new : Rows) (l g cut : Labeling) (p : Store) (rules : List (Option Rule)) → IsStoredMap k n rows l p rules → (Dims : ℕ → Type 0)
+    → AreGrafted k new (made rows) Dims l g → (top : ℕ) → top ≡ made rows → ((i d : ℕ) → d ≤ top → id_of cut i d ≡ id_of g i d) → ((i d : ℕ) → top < d → id_of cut i d ≡ None) → KeepsIds l cut
+ungrafted k n rows new l g cut p rules s Dims grafts top is kept gone i d = elim (cases_lt (made rows) d) [
+  | inl high ↦ gone i d (omega (arith, is)) ∙ sym (unlabelled k n rows l p rules s i d high)
+  | inr low ↦ kept i d (omega (arith, is)) ∙ (elim (grafts.each i d) [ inl same ↦ same | inr given ↦ absurd (let high : made rows < d = given.1 in omega arith) ])
+]
+
+-- an id that a dart has stands for a value, as it did
+pub grafted-held : (k : Kind) (L : Links) (Live : ℕ → Type 0) (rows : Rows) (older : ℕ) (Dims : ℕ → Type 0) (l g : Labeling) (p : Store) → AreStored k L Live l p → AreGrafted k rows older Dims l g
+    → (i d c : ℕ) → id_of g i d ≡ Some c → IsHeld p c
+grafted-held k L Live rows older Dims l g p s grafts i d c e = elim (grafts.each i d) [
+  | inl same ↦ s.held i d c (sym same ∙ e)
+  | inr given ↦ s.held i given.3 c (given.6 ∙ sym given.4 ∙ e)
+]
+
+module _ (k : Kind) (n : ℕ) (e : Edit) (old rows : Rows) (led : IsLed k n e old rows) where
+  pub led-sound : IsSound k n rows
+  led-sound = subst (IsSound k n) led.after (after-sound k n old e led.begun led.sound led.fits led.few)
+
+  -- so many darts were made before the edit
+  pub before-made : made rows - e.births ≡ made old
+  before-made = let more = long k n e old rows led in let begun = led.begun in omega (arith, more)
+
+-- The listed darts spare the other cells.
+pub changed-spare : (k : Kind) (n : ℕ) (e : Edit) (rows : Rows) (rules : List (Option Rule)) (l g : Labeling) (lists : List (List ℕ))
+    → AreGrafted k rows (made rows - e.births) (λ i. IsSome (rule_at rules i)) l g
+    → ((i x : ℕ) → IsChangedIn k n e rows rules g i x → Contains (darts_in lists i) x)
+    → (old : Rows) (pool : Store) → IsLed k n e old rows → IsStoredMap k n old l pool rules → Laws k (links_of rows) → (i : ℕ) → IsSome (rule_at rules i)
+    → Spares k i rows g (Contains (darts_in lists i))
+changed-spare k n e rows rules l g lists grafts all old pool led stored laws i ruled =
+    settled-spare k n i old rows stored.laws laws (led-sound k n e old rows led) l pool stored.stored (made rows - e.births) first was (λ j. IsSome (rule_at rules j)) g grafts (Contains (darts_in lists i))
+    (λ x unsettled. all i x (ruled, inl (old, led, stored.laws, laws, unsettled))) (λ x apart. all i x (ruled, inr apart))
+  where
+    first : (x : ℕ) → IsLive old x → x ≤ made rows - e.births
+    first x live = let at = live-within old x live in let more = long k n e old rows led in let begun = led.begun in omega (arith, more)
+
+    was : (x : ℕ) → IsLive rows x → x ≤ made rows - e.births → IsLive old x
+    was x live low = lived k n e old rows led x live (let more = long k n e old rows led in let begun = led.begun in omega (arith, more))

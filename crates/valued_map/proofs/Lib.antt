@@ -6,6 +6,7 @@ pub mod Adding
 pub mod DimLists
 pub mod Rerouting
 pub mod Joining
+pub mod Settling
 pub mod CellIds
 pub mod Turns
 pub mod Earlier

@@ -1,9 +1,11 @@
 -- Which numbers name live darts, and which links a live dart has.
-use Rattle.std.proofs.Common.{◌≡◌, ℕ, ◌+◌, ◌<◌, ◌≤◌, List, [], ◌∷◌, ◌++◌, length, get_or, take, All, is_some, inl, inr, ap, sym, subst, ◌∙◌, arith}
+use Rattle.std.proofs.Common.{◌≡◌, ℕ, ◌+◌, ◌<◌, ◌≤◌, List, [], ◌∷◌, ◌++◌, length, get_or, take, All, is_some, Option, Some, None, inl, inr, ap, sym, subst, ◌∙◌, arith}
 use Rattle.std.proofs.lemmas.List.{take_more}
 use Rattle.std.proofs.lemmas.List.Elements.{All-push}
 use Rattle.std.proofs.lemmas.Bool.{cases_lt, false≢true}
 use Rattle.map_defs.specs.Kind.{Kind}
+use Rattle.map_defs.specs.LinkWords.{through_second, IsCellWord}
+use Rattle.map_defs.specs.Cells.{InOrbit, here, onward, Leads}
 use Rattle.map_defs.specs.Rows.{Rows, row_at, links_of, IsLive, IsSound, made}
 use Rattle.edit_laws.proofs.RowWrites.{live-within}
 use Rattle.link_laws.proofs.RowFacts.{rows_dimension}
@@ -29,3 +31,15 @@ live-more rows numbers i darts next x within is live pushed so all =
       pushed ∙ (ap (λ (xs : List ℕ). xs ++ x ∷ []) so ∙ ap (λ (y : ℕ). take i numbers ++ y ∷ []) is) ∙ sym more,
       subst (All (IsLive rows)) (sym more) (All-push (IsLive rows) (take i numbers) (get_or numbers i 0) all live),
     )
+
+-- the darts of a live dart's cell were made
+pub cell-made : (k : Kind) (n : ℕ) (rows : Rows) → IsSound k n rows → (i d : ℕ) → IsLive rows d → {x : ℕ} → InOrbit (Leads (links_of rows) (IsCellWord k i)) d x → x ≤ made rows
+cell-made k n rows sound i d live here = live-made rows d live
+cell-made k n rows sound i d live (onward {x = x} {y = y} o st) = live-made rows y (go st.0.first st.0.second st.2)
+  where
+    linked : (t z : ℕ) → links_of rows t z ≡ y → IsLive rows y
+    linked t z e = subst (IsLive rows) e (sound.live t z (λ none. st.3 (sym e ∙ none)))
+
+    go : (f : ℕ) (s : Option ℕ) → through_second (links_of rows) s (links_of rows f x) ≡ y → IsLive rows y
+    go f None e = linked f x e
+    go f (Some j) e = linked j (links_of rows f x) e

@@ -14,8 +14,8 @@ use Rattle.edit_laws.proofs.EditLinks.{links-at}
 use Rattle.link_laws.proofs.RowFacts.{rows_dimension, rows_lead_to_live}
 use Rattle.map_defs.specs.Values.{Rule}
 use Rattle.store_defs.specs.Labelings.{Labeling}
-use Rattle.label_laws.specs.Touching.{IsReroutedDart}
-use Rattle.valued_map.specs.Changing.{IsReroutedAt, IsFollowed, IsReroutedFrom, IsChangedIn}
+use Rattle.label_laws.specs.Touching.{IsSettledAlong, IsUnsettled}
+use Rattle.valued_map.specs.Changing.{IsUnsettledAt, IsFollowed, IsUnsettledFrom, IsChangedIn}
 use Rattle.valued_map.proofs.DimLists.{AreListedBelow}
 use Rattle.valued_map.proofs.Heads.{among-more}
 use Rattle.valued_map.proofs.LiveDarts.{zero-dead}
@@ -56,18 +56,18 @@ came-before k n e old new led sound d link live x at was older made-is above =
     lived : IsLive old x
     lived = subst (IsLive old) back (led.sound.live (inverse k link) d (λ none. let zero : x ≡ 0 = sym back ∙ none in omega (arith, zero)))
 
--- the change is of a dart that lived before and lives on, and reroutes x along a word of the i-cells
-abbrev pub IsReroutedOf : Kind → ℕ → Edit → Rows → ℕ → Change → ℕ → Type 0
-IsReroutedOf k n e rows i c x = (c.dart + e.births ≤ made rows) × IsLive rows c.dart × ((w : LinkWord) × (IsCellWord k i w × IsWithin n w) × IsReroutedAt k n e rows w c x)
+-- the change is of a dart that lived before and lives on, and leaves x unsettled along a word of the i-cells
+abbrev pub IsUnsettledOf : Kind → ℕ → Edit → Rows → ℕ → Labeling → Change → ℕ → Type 0
+IsUnsettledOf k n e rows i labels c x = (c.dart + e.births ≤ made rows) × IsLive rows c.dart × ((w : LinkWord) × (IsCellWord k i w × IsWithin n w) × IsUnsettledAt k n e rows i labels w c x)
 
 -- one of the first `below` changes does
-abbrev pub AreReroutedBelow : Kind → ℕ → Edit → Rows → ℕ → ℕ → ℕ → Type 0
-AreReroutedBelow k n e rows i below x = (j : ℕ) × (j < below) × IsReroutedOf k n e rows i (change_at e.changes j) x
+abbrev pub AreUnsettledBelow : Kind → ℕ → Edit → Rows → ℕ → Labeling → ℕ → ℕ → Type 0
+AreUnsettledBelow k n e rows i labels below x = (j : ℕ) × (j < below) × IsUnsettledOf k n e rows i labels (change_at e.changes j) x
 
-pub rerouted-more : (k : Kind) (n : ℕ) (e : Edit) (rows : Rows) (i j x : ℕ) → AreReroutedBelow k n e rows i (j + 1) x
-    → AreReroutedBelow k n e rows i j x ⊎ IsReroutedOf k n e rows i (change_at e.changes j) x
-rerouted-more k n e rows i j x (h, lt, rest) = elim (cases_eq h j) [
-  | inl same ↦ inr (subst (λ (m : ℕ). IsReroutedOf k n e rows i (change_at e.changes m) x) same rest)
+pub unsettled-more : (k : Kind) (n : ℕ) (e : Edit) (rows : Rows) (i : ℕ) (labels : Labeling) (j x : ℕ) → AreUnsettledBelow k n e rows i labels (j + 1) x
+    → AreUnsettledBelow k n e rows i labels j x ⊎ IsUnsettledOf k n e rows i labels (change_at e.changes j) x
+unsettled-more k n e rows i labels j x (h, lt, rest) = elim (cases_eq h j) [
+  | inl same ↦ inr (subst (λ (m : ℕ). IsUnsettledOf k n e rows i labels (change_at e.changes m) x) same rest)
   | inr other ↦ inl (h, omega arith, rest)
 ]
 
@@ -100,8 +100,8 @@ word-within n L N free-old free-new nil-old nil-new v x apart = (first, second v
       | inr low ↦ omega arith
     ]
 
--- The darts that are rerouted are so by a change.
-module _ (k : Kind) (n : ℕ) (e : Edit) (old new : Rows) (led : IsLed k n e old new) (sound : IsSound k n new) (w : Laws k (links_of old)) (wn : Laws k (links_of new)) (i : ℕ) where
+-- The darts that are not settled are so by a change.
+module _ (k : Kind) (n : ℕ) (e : Edit) (old new : Rows) (led : IsLed k n e old new) (sound : IsSound k n new) (w : Laws k (links_of old)) (wn : Laws k (links_of new)) (i : ℕ) (labels : Labeling) where
   abbrev L : Links
   L = links_of old
 
@@ -109,31 +109,26 @@ module _ (k : Kind) (n : ℕ) (e : Edit) (old new : Rows) (led : IsLed k n e old
   N = links_of new
 
   abbrev Goal : ℕ → Type 0
-  Goal x = AreReroutedBelow k n e new i (length e.changes) x
+  Goal x = AreUnsettledBelow k n e new i labels (length e.changes) x
 
-  -- a change tells the link before and after
+  -- a change tells the link before
   old-at : (j : ℕ) → j < length e.changes → L (change_at e.changes j).link (change_at e.changes j).dart ≡ (change_at e.changes j).old
   old-at j lt = led.fits.stands j no_change lt
-
-  new-at : (j : ℕ) → j < length e.changes → N (change_at e.changes j).link (change_at e.changes j).dart ≡ (change_at e.changes j).new
-  new-at j lt = ap (λ (r : Rows). links_of r (change_at e.changes j).link (change_at e.changes j).dart) (sym led.after) ∙ links-at k n old e led.sound led.fits j no_change lt
 
   stays : (x : ℕ) → IsLive old x → x + e.births ≤ made new
   stays x live = let within : x < length old = live-within old x live in let more : length new ≡ length old + e.births = long k n e old new led in omega (arith, more)
 
-  module _ (x : ℕ) (before : IsLive old x) (after : IsLive new x) (v : LinkWord) (cell : IsCellWord k i v) (apart : through N v x ≢ through L v x) where
+  module _ (x : ℕ) (before : IsLive old x) (after : IsLive new x) (v : LinkWord) (cell : IsCellWord k i v) (apart : through N v x ≢ through L v x)
+      (unsettled : IsSettledAlong k i old new labels v x → ⊥) where
+    inside : IsWithin n v
+    inside = word-within n L N (rows_dimension n old led.sound.wide) (rows_dimension n new sound.wide) w.nil wn.nil v x apart
+
     -- the first link of the word changed
     by-first : (j : ℕ) → j < length e.changes → (change_at e.changes j).dart ≡ x → (change_at e.changes j).link ≡ v.first → Goal x
-    by-first j lt dart link = (j, lt, (subst (λ d. d + e.births ≤ made new) (sym dart) (stays x before), subst (IsLive new) (sym dart) after, (v, (cell, word-within n L N (rows_dimension n old led.sound.wide) (rows_dimension n new sound.wide) w.nil wn.nil v x apart), inl (old, led, (sym link, sym dart, other)))))
+    by-first j lt dart link = (j, lt, (subst (λ d. d + e.births ≤ made new) (sym dart) (stays x before), subst (IsLive new) (sym dart) after, (v, (cell, inside), inl (old, led, (sym link, sym dart, was, unsettled)))))
       where
         was : L v.first x ≡ (change_at e.changes j).old
         was = ap (L v.first) (sym dart) ∙ ap (λ t. L t (change_at e.changes j).dart) (sym link) ∙ old-at j lt
-
-        is : N v.first x ≡ (change_at e.changes j).new
-        is = ap (N v.first) (sym dart) ∙ ap (λ t. N t (change_at e.changes j).dart) (sym link) ∙ new-at j lt
-
-        other : through_second L v.second (change_at e.changes j).old ≢ through_second N v.second (change_at e.changes j).new
-        other same = apart (ap (through_second N v.second) is ∙ sym same ∙ sym (ap (through_second L v.second) was))
 
     -- it did not, so the second did
     by-second : N v.first x ≡ L v.first x → (s : Option ℕ) → v.second ≡ s → Goal x
@@ -160,34 +155,34 @@ module _ (k : Kind) (n : ℕ) (e : Edit) (old new : Rows) (led : IsLed k n e old
           (
             subst (λ d. d + e.births ≤ made new) (sym dart) (stays (N v.first x) lived-there),
             subst (IsLive new) (sym dart) live-there,
-            (v, (cell, word-within n L N (rows_dimension n old led.sound.wide) (rows_dimension n new sound.wide) w.nil wn.nil v x apart), inr (old, led, (some ∙ ap Some (sym link), sym dart, sym same ∙ sym dart))),
+            (v, (cell, inside), inr (old, led, (some ∙ ap Some (sym link), sym dart, sym same ∙ sym dart, old-at j lt, unsettled))),
           ),
         )
 
-    rerouted-by : Goal x
-    rerouted-by = go (find-link e.changes x v.first)
+    unsettled-by : Goal x
+    unsettled-by = go (find-link e.changes x v.first)
       where
         go : ((j : ℕ) × (j < length e.changes) × ((change_at e.changes j).dart ≡ x) × ((change_at e.changes j).link ≡ v.first)) ⊎ ((j : ℕ) (z : Change) → j < length e.changes → x ≡ (get_or e.changes j z).dart → v.first ≡ (get_or e.changes j z).link → ⊥) → Goal x
         go (inl (j, lt, dart, link)) = by-first j lt dart link
         go (inr none) = by-second (same-else k n e old new led v.first x none) v.second refl
 
-  pub touched-are-rerouted : (x : ℕ) → IsReroutedDart k i old new x → Goal x
-  touched-are-rerouted x (before, after, (v, cell, apart)) = rerouted-by x before after v cell apart
+  pub unsettled-by-change : (x : ℕ) → IsUnsettled k i old new labels x → Goal x
+  unsettled-by-change x (before, after, (v, cell, apart, unsettled)) = unsettled-by x before after v cell apart unsettled
 
--- a change that reroutes a dart is of a link that a word of the cells follows
-followed-at : (k : Kind) (n : ℕ) (e : Edit) (rows : Rows) (i : ℕ) (c : Change) (x : ℕ) → IsReroutedOf k n e rows i c x → IsFollowed k i c.link
-followed-at k n e rows i c x (stays, live, (w, cell, inl (old, led, (link, dart, other)))) = (w, cell.0, inl link)
-followed-at k n e rows i c x (stays, live, (w, cell, inr (old, led, (link, now, was)))) = (w, cell.0, inr link)
+-- a change that leaves a dart unsettled is of a link that a word of the cells follows
+followed-at : (k : Kind) (n : ℕ) (e : Edit) (rows : Rows) (i : ℕ) (labels : Labeling) (c : Change) (x : ℕ) → IsUnsettledOf k n e rows i labels c x → IsFollowed k i c.link
+followed-at k n e rows i labels c x (stays, live, (w, cell, inl (old, led, (link, dart, was, off)))) = (w, cell.0, inl link)
+followed-at k n e rows i labels c x (stays, live, (w, cell, inr (old, led, (link, now, was, stood, off)))) = (w, cell.0, inr link)
 
--- where no change of an older dart that is live is of such a link, no dart is rerouted
-pub none-rerouted : (k : Kind) (n : ℕ) (e : Edit) (rows : Rows) (i : ℕ) → IsSound k n rows → (older : ℕ) → older + e.births ≡ made rows
-    → ((c : Change) → Contains e.changes c → c.dart ≤ older → IsLive rows c.dart → IsFollowed k i c.link → ⊥) → (x : ℕ) → IsReroutedFrom k n e rows i x → ⊥
-none-rerouted k n e rows i sound older made-is none x (old, led, w, wn, rerouted) =
-    let a : AreReroutedBelow k n e rows i (length e.changes) x = touched-are-rerouted k n e old rows led sound w wn i x rerouted in
+-- where no change of an older dart that is live is of such a link, each dart is settled
+pub none-unsettled : (k : Kind) (n : ℕ) (e : Edit) (rows : Rows) (i : ℕ) (labels : Labeling) → IsSound k n rows → (older : ℕ) → older + e.births ≡ made rows
+    → ((c : Change) → Contains e.changes c → c.dart ≤ older → IsLive rows c.dart → IsFollowed k i c.link → ⊥) → (x : ℕ) → IsUnsettledFrom k n e rows i labels x → ⊥
+none-unsettled k n e rows i labels sound older made-is none x (old, led, w, wn, unsettled) =
+    let a : AreUnsettledBelow k n e rows i labels (length e.changes) x = unsettled-by-change k n e old rows led sound w wn i labels x unsettled in
     let c : Change = change_at e.changes a.0 in
     let stays : c.dart + e.births ≤ made rows = a.2.0 in
-    none c (a.0, a.1, get_or_default e.changes a.0 c no_change a.1) (omega (arith, stays, made-is)) a.2.1 (followed-at k n e rows i c x a.2)
+    none c (a.0, a.1, get_or_default e.changes a.0 c no_change a.1) (omega (arith, stays, made-is)) a.2.1 (followed-at k n e rows i labels c x a.2)
 
 -- the darts changed in each of the first dimensions, by the lists of these
-abbrev pub AreChangedBelow : Kind → ℕ → Edit → Rows → List (Option Rule) → Labeling → Bool → ℕ → List (List ℕ) → Type 0
-AreChangedBelow k n e rows rules labels joins = AreListedBelow (λ i. IsLive rows) (IsChangedIn k n e rows rules labels joins)
+abbrev pub AreChangedBelow : Kind → ℕ → Edit → Rows → List (Option Rule) → Labeling → ℕ → List (List ℕ) → Type 0
+AreChangedBelow k n e rows rules labels = AreListedBelow (λ i. IsLive rows) (IsChangedIn k n e rows rules labels)

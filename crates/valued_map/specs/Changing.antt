@@ -1,14 +1,14 @@
 -- How a line changes a map.
-use Rattle.std.specs.Prelude.{ℕ, ◌≡◌, ◌≢◌, ◌⊎◌, List, Option, Some, Bool, Contains, IsSome, IsTrue}
+use Rattle.std.specs.Prelude.{ℕ, ◌≡◌, ◌≢◌, ◌-◌, ◌<◌, ◌⊎◌, List, Option, Some, Contains, IsSome}
 use Rattle.map_defs.specs.Kind.{Kind}
-use Rattle.map_defs.specs.LinkWords.{LinkWord, through_second, IsCellWord}
-use Rattle.map_defs.specs.Rows.{Rows, IsLive, links_of}
+use Rattle.map_defs.specs.LinkWords.{LinkWord, through, IsCellWord}
+use Rattle.map_defs.specs.Rows.{Rows, IsLive, links_of, made}
 use Rattle.map_defs.specs.Laws.{Laws}
 use Rattle.map_defs.specs.Edits.{Change, Edit, IsLed}
 use Rattle.map_defs.specs.Values.{Rule}
-use Rattle.store_defs.specs.Labelings.{Labeling}
+use Rattle.store_defs.specs.Labelings.{Labeling, id_of}
 use Rattle.store_defs.specs.Groups.{rule_at}
-use Rattle.label_laws.specs.Touching.{IsReroutedDart, LeadsApart}
+use Rattle.label_laws.specs.Touching.{IsSettledAlong, IsUnsettled, IsBornApart}
 
 -- The darts that meet Wanted and are live were added, and no dart that is not live.
 pub record AreAdded (rows : Rows) (Wanted : ℕ → Type 0) (old new : List ℕ) : Type 0 where
@@ -16,28 +16,37 @@ pub record AreAdded (rows : Rows) (Wanted : ℕ → Type 0) (old new : List ℕ)
   pub live : (x : ℕ) → Contains new x → Contains old x ⊎ IsLive rows x
   pub all : (x : ℕ) → Wanted x → IsLive rows x → Contains new x
 
--- A change of a link in an edit that led to the rows reroutes x along a word: the word follows the link from x first, and then
--- leads elsewhere than before;
-abbrev pub IsFirstRerouted : Kind → ℕ → Edit → Rows → LinkWord → Change → ℕ → Type 0
-IsFirstRerouted k n e rows w c x = (old : Rows) × IsLed k n e old rows
-    × ((w.first ≡ c.link) × (x ≡ c.dart) × (through_second (links_of old) w.second c.old ≢ through_second (links_of rows) w.second c.new))
+-- A change of a link in an edit that led to the rows may leave x unsettled along a word: the word follows the link from x first;
+abbrev pub IsFirstUnsettled : Kind → ℕ → Edit → Rows → ℕ → Labeling → LinkWord → Change → ℕ → Type 0
+IsFirstUnsettled k n e rows i labels w c x = (old : Rows) × IsLed k n e old rows
+    × ((w.first ≡ c.link) × (x ≡ c.dart) × (links_of old w.first x ≡ c.old) × (IsSettledAlong k i old rows labels w x → ⊥))
 
 -- or it leads x by its first link to the changed dart, before and after, and then follows the changed link.
-abbrev pub IsThenRerouted : Kind → ℕ → Edit → Rows → LinkWord → Change → ℕ → Type 0
-IsThenRerouted k n e rows w c x = (old : Rows) × IsLed k n e old rows
-    × ((w.second ≡ Some c.link) × (links_of rows w.first x ≡ c.dart) × (links_of old w.first x ≡ c.dart))
+abbrev pub IsThenUnsettled : Kind → ℕ → Edit → Rows → ℕ → Labeling → LinkWord → Change → ℕ → Type 0
+IsThenUnsettled k n e rows i labels w c x = (old : Rows) × IsLed k n e old rows
+    × ((w.second ≡ Some c.link) × (links_of rows w.first x ≡ c.dart) × (links_of old w.first x ≡ c.dart) × (links_of old c.link c.dart ≡ c.old)
+    × (IsSettledAlong k i old rows labels w x → ⊥))
 
-abbrev pub IsReroutedAt : Kind → ℕ → Edit → Rows → LinkWord → Change → ℕ → Type 0
-IsReroutedAt k n e rows w c x = IsFirstRerouted k n e rows w c x ⊎ IsThenRerouted k n e rows w c x
+abbrev pub IsUnsettledAt : Kind → ℕ → Edit → Rows → ℕ → Labeling → LinkWord → Change → ℕ → Type 0
+IsUnsettledAt k n e rows i labels w c x = IsFirstUnsettled k n e rows i labels w c x ⊎ IsThenUnsettled k n e rows i labels w c x
 
 -- some word along which i-cells run follows the link
 abbrev pub IsFollowed : Kind → ℕ → ℕ → Type 0
 IsFollowed k i link = (w : LinkWord) × IsCellWord k i w × ((w.first ≡ link) ⊎ (w.second ≡ Some link))
 
--- the edit led to the rows from lawful ones, and rerouted x along a word of the i-cells
-abbrev pub IsReroutedFrom : Kind → ℕ → Edit → Rows → ℕ → ℕ → Type 0
-IsReroutedFrom k n e rows i x = (old : Rows) × IsLed k n e old rows × Laws k (links_of old) × Laws k (links_of rows) × IsReroutedDart k i old rows x
+-- the edit led to the rows from lawful ones, and x is not settled along a word of the i-cells
+abbrev pub IsUnsettledFrom : Kind → ℕ → Edit → Rows → ℕ → Labeling → ℕ → Type 0
+IsUnsettledFrom k n e rows i labels x = (old : Rows) × IsLed k n e old rows × Laws k (links_of old) × Laws k (links_of rows) × IsUnsettled k i old rows labels x
 
--- the dimension has a rule, and where the edit only joins, a word leads x to a dart with another id
-abbrev pub IsChangedIn : Kind → ℕ → Edit → Rows → List (Option Rule) → Labeling → Bool → ℕ → ℕ → Type 0
-IsChangedIn k n e rows rules labels joins i x = IsReroutedFrom k n e rows i x × IsSome (rule_at rules i) × (IsTrue joins → LeadsApart k i rows labels x)
+-- the word leads x to a lesser dart with another id
+abbrev pub IsApartAlong : Rows → Labeling → ℕ → LinkWord → ℕ → Type 0
+IsApartAlong rows labels i w x = (through (links_of rows) w x ≢ 0) × (through (links_of rows) w x < x) × (id_of labels i (through (links_of rows) w x) ≢ id_of labels i x)
+
+-- a word along which i-cells run does
+abbrev pub LeadsApart : Kind → ℕ → Rows → Labeling → ℕ → Type 0
+LeadsApart k i rows labels x = (w : LinkWord) × IsCellWord k i w × IsApartAlong rows labels i w x
+
+-- the dimension has a rule, and x is not settled there, or was born and lies apart
+abbrev pub IsChangedIn : Kind → ℕ → Edit → Rows → List (Option Rule) → Labeling → ℕ → ℕ → Type 0
+IsChangedIn k n e rows rules labels i x = IsSome (rule_at rules i)
+    × (IsUnsettledFrom k n e rows i labels x ⊎ IsBornApart k i rows (made rows - e.births) labels x)

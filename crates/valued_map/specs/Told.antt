@@ -8,7 +8,7 @@ use Rattle.machine_defs.specs.Difference.{Difference, ValueChange, RuleChange, I
 use Rattle.machine_defs.specs.Kept.{IsLawfulContent}
 use Rattle.journal_laws.specs.Following.{Follows}
 use Rattle.store_defs.specs.Stores.{Store}
-use Rattle.store_defs.specs.Labelings.{Labeling}
+use Rattle.store_defs.specs.Labelings.{Labeling, id_of}
 use Rattle.store_defs.specs.Groups.{Group, rule_at}
 use Rattle.label_laws.specs.Stored.{stored_value}
 use Rattle.label_laws.specs.Changing.{IsGroupedBelow}
@@ -57,6 +57,14 @@ finished (Some step) values rules = Some (record { first = step.first; edit = st
 -- the places whose ids a change of links gives anew: those of darts that ended, and those of the darts of groups
 abbrev pub IsRelabelledPlace : ℕ → List ℕ → List Group → ℕ → ℕ → Type 0
 IsRelabelledPlace n ended groups i d = ((i < n + 1) × Contains ended d) ⊎ IsGroupedBelow (length groups) groups i d
+
+-- the places whose values an edit may change: those whose ids are given anew, and those of the darts that it bore
+abbrev pub IsRevaluedPlace : ℕ → ℕ → Edit → List Group → ℕ → ℕ → Type 0
+IsRevaluedPlace n older e groups i d = IsRelabelledPlace n e.deaths groups i d ⊎ ((i < n + 1) × (older < d) × (d < older + e.births + 1))
+
+-- the dart had the id that it has before others came in, or it is one of those, which are beyond the number `older`, and had none
+abbrev pub IsBefore : ℕ → Labeling → Labeling → ℕ → ℕ → Type 0
+IsBefore older before labels i d = (d ≤ older → id_of labels i d ≡ id_of before i d) × (older < d → id_of before i d ≡ None)
 
 -- The values that the darts of these places have, in the order of a log, each once.
 pub record AreOldValues (Place : ℕ → ℕ → Type 0) (labels : Labeling) (pool : Store) (values : List ValueChange) : Type 0 where

@@ -1,16 +1,16 @@
 //! The values that an edit carries to the new cells, and room for values.
-ghost use Rattle.std.specs.Prelude.{◌≡◌, ℕ, ◌≤◌, ◌<◌, length, OnOk, IfOk};
-ghost use Rattle.map_defs.specs.Rows.{Rows, IsLive, links_of};
+ghost use Rattle.std.specs.Prelude.{◌≡◌, ℕ, ◌≤◌, ◌<◌, length, IsSome, OnOk, IfOk};
+ghost use Rattle.map_defs.specs.Rows.{Rows, IsLive, links_of, made};
 ghost use Rattle.map_defs.specs.Laws.{Laws};
 ghost use Rattle.map_defs.specs.Edits.{IsLed};
 ghost use Rattle.store_defs.specs.Stores.{HasRepresentable};
 ghost use Rattle.store_defs.specs.Labelings.{id_of};
-ghost use Rattle.store_defs.specs.Groups.{group_at, HasCarriedValue};
+ghost use Rattle.store_defs.specs.Groups.{group_at, rule_at, HasCarriedValue};
 ghost use Rattle.label_laws.specs.Maps.{IsStoredMap};
 ghost use Rattle.label_laws.specs.Stored.{AreSmall};
-ghost use Rattle.label_laws.specs.Touching.{AreAllTouched};
+ghost use Rattle.label_laws.specs.Touching.{AreGrafted, AreAllTouched};
 
-use crate::joined::changed_darts;
+use crate::changed::changed_darts;
 use crate::rules::has_places;
 use attr_pool::{Labels, Pool};
 use attr_rules::Hook;
@@ -20,11 +20,11 @@ use std::alloc::{AllocError, Global};
 use transport::{Group, RuleRow, carry};
 
 /// The cells that the edit may have changed, with the values that are carried to them, and room in the pool for these
-/// values. Where no dimension has a rule there are none, and nothing is looked at.
+/// values. Darts that were born are given the ids of cells that they joined. Where no dimension has a rule nothing is looked at.
 pub(crate) fn carried<K: Kind, H: Hook, const DIM: usize>(
     alloc: Global,
     links: &Links<K, DIM>,
-    labels: &Labels<DIM>,
+    labels: &mut Labels<DIM>,
     pool: &mut Pool,
     rules: &RuleRow,
     hook: &H,
@@ -32,13 +32,16 @@ pub(crate) fn carried<K: Kind, H: Hook, const DIM: usize>(
 ) -> Result<Vec<Group>, AllocError>
     requires ready { H.ready hook.now }
     requires led { (old : Rows) × IsLed K.kind DIM edit.now old links.now.rows
-        × IsStoredMap K.kind DIM old labels.now pool.old rules.now }
+        × IsStoredMap K.kind DIM old labels.old pool.old rules.now }
+    requires long { made links.now.rows ≤ labels.old.made }
     requires laws { Laws K.kind (links_of links.now.rows) }
+    ensures grafted { (old : Rows) → IsLed K.kind DIM edit.now old links.now.rows
+        → AreGrafted K.kind links.now.rows (made old) (λ i. IsSome (rule_at rules.now i)) labels.old labels.new }
     ensures cells { IfOk result (λ groups. (old : Rows) → IsLed K.kind DIM edit.now old links.now.rows
-        → IsStoredMap K.kind DIM old labels.now pool.old rules.now
-        → AreAllTouched K.kind old links.now.rows rules.now labels.now groups.items) }
+        → IsStoredMap K.kind DIM old labels.old pool.old rules.now
+        → AreAllTouched K.kind links.now.rows rules.now labels.new groups.items) }
     ensures values { IfOk result (λ groups. (n : ℕ) → n < length groups.items
-        → HasCarriedValue K.kind (links_of links.now.rows) (IsLive links.now.rows) (id_of labels.now) pool.old
+        → HasCarriedValue K.kind (links_of links.now.rows) (IsLive links.now.rows) (id_of labels.new) pool.old
         (H.hook hook.now) rules.now (group_at groups.items n)) }
     ensures room { IfOk result (λ groups. length groups.items ≤ pool.new.spare) }
     ensures slots { pool.new.slots ≡ pool.old.slots }

@@ -1,21 +1,21 @@
 //! How an edit of the links is made, and the values with it.
-ghost use Rattle.std.specs.Prelude.{◌≡◌, ℕ, ◌+◌, ◌-◌, ◌≤◌, ◌++◌, ◌<◌, List, Some, map, length, OnOk, OnErr, IfOk, IsTrue};
+ghost use Rattle.std.specs.Prelude.{◌≡◌, ℕ, ◌+◌, ◌-◌, ◌≤◌, ◌++◌, ◌<◌, List, Some, IsSome, map, length, OnOk, OnErr, IfOk, IsTrue};
 ghost use Rattle.map_defs.specs.Rows.{Rows, IsLive, links_of, made, live_count};
 ghost use Rattle.map_defs.specs.Laws.{Laws};
 ghost use Rattle.map_defs.specs.Edits.{Fits, after_edit, IsLed};
 ghost use Rattle.machine_defs.specs.State.{with_born, without_dart};
 ghost use Rattle.store_defs.specs.Labelings.{id_of};
-ghost use Rattle.store_defs.specs.Groups.{group_at, HasCarriedValue};
+ghost use Rattle.store_defs.specs.Groups.{group_at, rule_at, HasCarriedValue};
 ghost use Rattle.label_laws.specs.Maps.{IsStoredMap};
 ghost use Rattle.label_laws.specs.Contents.{IsCarriedOn};
 ghost use Rattle.label_laws.specs.Stored.{AreSmall};
-ghost use Rattle.label_laws.specs.Touching.{AreAllTouched};
-ghost use Rattle.valued_map.specs.Told.{AreOldValues, IsRelabelledPlace, IsStep};
+ghost use Rattle.label_laws.specs.Touching.{AreGrafted, AreAllTouched};
+ghost use Rattle.valued_map.specs.Told.{AreOldValues, IsRevaluedPlace, IsStep};
 
 use crate::carrying::carried;
 use crate::ids::{end_ids, relabel};
 use crate::map::ValuedMap;
-use crate::told::{begin_step, finish_step, new_values, old_values};
+use crate::told::{begin_step, finish_step, new_values, old_values, renewed};
 use attr_pool::{Labels, Pool};
 use attr_rules::Hook;
 use link_rows::{Edit, Links, MADE_MAX};
@@ -83,7 +83,7 @@ impl<K: Kind, const DIM: usize> ValuedMap<K, DIM> {
         match moved(
             alloc,
             &self.links,
-            &self.labels,
+            &mut self.labels,
             &mut self.pool,
             &self.rules,
             hook,
@@ -98,6 +98,7 @@ impl<K: Kind, const DIM: usize> ValuedMap<K, DIM> {
             Err(error) => {
                 drop(draft);
                 self.links.reverse(edit);
+                self.labels.cut(made);
                 Err(error)
             }
         }
@@ -123,8 +124,17 @@ impl<K: Kind, const DIM: usize> ValuedMap<K, DIM> {
             deaths: vec![in alloc; dart]?,
             changes: Vec::new(alloc),
         };
-        let draft = begin_step(alloc, self.links.made(), &edit, asked)?;
-        let olds = old_values(alloc, &self.labels, &self.pool, &edit.deaths, &[], asked)?;
+        let made = self.links.made();
+        let draft = begin_step(alloc, made, &edit, asked)?;
+        let olds = old_values(
+            alloc,
+            &self.labels,
+            &self.pool,
+            made,
+            &edit.deaths,
+            &[],
+            asked,
+        )?;
         self.links.apply(&edit);
         end_ids(&mut self.labels, &mut self.pool, &edit.deaths);
         let values = new_values(&self.labels, &self.pool, olds);
@@ -132,12 +142,13 @@ impl<K: Kind, const DIM: usize> ValuedMap<K, DIM> {
     }
 }
 
-/// The cells whose darts the edit touched, with the values that are carried to them, and room in the pool for these
-/// values; and where it is asked for, the values that change with them, as they were.
+/// The cells that the edit may have changed, with the values that are carried to them, and room in the pool for these values;
+/// and where it is asked for, the values that change with them, as they were. Darts that were born are given the ids of cells
+/// that they joined.
 fn moved<K: Kind, H: Hook, const DIM: usize>(
     alloc: Global,
     links: &Links<K, DIM>,
-    labels: &Labels<DIM>,
+    labels: &mut Labels<DIM>,
     pool: &mut Pool,
     rules: &RuleRow,
     hook: &H,
@@ -146,21 +157,27 @@ fn moved<K: Kind, H: Hook, const DIM: usize>(
 ) -> Result<(Vec<Group>, Vec<ValueChange>), AllocError>
     requires ready { H.ready hook.now }
     requires led { (old : Rows) × IsLed K.kind DIM edit.now old links.now.rows
-        × IsStoredMap K.kind DIM old labels.now pool.old rules.now }
+        × IsStoredMap K.kind DIM old labels.old pool.old rules.now }
+    requires long { made links.now.rows ≤ labels.old.made }
     requires laws { Laws K.kind (links_of links.now.rows) }
+    ensures grafted { (old : Rows) → IsLed K.kind DIM edit.now old links.now.rows
+        → AreGrafted K.kind links.now.rows (made old) (λ i. IsSome (rule_at rules.now i)) labels.old labels.new }
     ensures cells { IfOk result (λ moved. (old : Rows) → IsLed K.kind DIM edit.now old links.now.rows
-        → IsStoredMap K.kind DIM old labels.now pool.old rules.now
-        → AreAllTouched K.kind old links.now.rows rules.now labels.now moved.0.items) }
+        → IsStoredMap K.kind DIM old labels.old pool.old rules.now
+        → AreAllTouched K.kind links.now.rows rules.now labels.new moved.0.items) }
     ensures values { IfOk result (λ moved. (n : ℕ) → n < length moved.0.items
-        → HasCarriedValue K.kind (links_of links.now.rows) (IsLive links.now.rows) (id_of labels.now) pool.old
+        → HasCarriedValue K.kind (links_of links.now.rows) (IsLive links.now.rows) (id_of labels.new) pool.old
         (H.hook hook.now) rules.now (group_at moved.0.items n)) }
     ensures room { IfOk result (λ moved. length moved.0.items ≤ pool.new.spare) }
     ensures slots { pool.new.slots ≡ pool.old.slots }
     ensures small { OnOk result (AreSmall rules.now pool.old) }
-    ensures olds { IfOk result (λ moved. IsTrue asked
-        → AreOldValues (IsRelabelledPlace DIM edit.now.deaths moved.0.items) labels.now pool.new moved.1.items) }
+    ensures olds { IfOk result (λ moved. IsTrue asked → (old : Rows) → IsLed K.kind DIM edit.now old links.now.rows
+        → IsStoredMap K.kind DIM old labels.old pool.old rules.now
+        → AreOldValues (IsRevaluedPlace DIM (made old) edit.now moved.0.items) labels.old pool.new moved.1.items) }
 {
     let groups = carried(alloc, links, labels, pool, rules, hook, edit)?;
-    let olds = old_values(alloc, labels, pool, &edit.deaths, &groups, asked)?;
+    let older = links.made() - edit.births;
+    let renewed = renewed(alloc, edit, older, asked)?;
+    let olds = old_values(alloc, labels, pool, older, &renewed, &groups, asked)?;
     Ok((groups, olds))
 }

@@ -7,9 +7,9 @@
 
 mod carrying;
 mod change;
+mod changed;
 mod dual;
 mod ids;
-mod joined;
 mod list;
 mod load;
 mod map;
@@ -20,6 +20,7 @@ mod restore;
 mod restored_cells;
 mod rules;
 mod same;
+mod settled;
 mod told;
 mod touched;
 mod value;

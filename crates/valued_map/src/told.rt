@@ -1,18 +1,20 @@
 //! What a change is told as. Where it is not asked for, nothing is looked at, and no memory is taken.
-ghost use Rattle.std.specs.Prelude.{◌≡◌, ◌≢◌, ℕ, ◌+◌, ◌≤◌, ◌<◌, ◌⊎◌, ◌↔◌, ◌==◌, ◌++◌, [], if◌then◌else◌, map, length, IsTrue, Contains, AllPairs, IfOk, OnOk};
+ghost use Rattle.std.specs.Prelude.{◌≡◌, ◌≢◌, ℕ, ◌+◌, ◌≤◌, ◌<◌, ◌⊎◌, ◌↔◌, ◌==◌, ◌++◌, [], ◌∷◌, if◌then◌else◌, map, length, IsTrue, Contains, AllPairs, IfOk, OnOk};
 ghost use Rattle.std.specs.List.Sorted.{IsStrictlyIncreasing};
 ghost use Rattle.map_defs.specs.Rows.{links_of, IsLive};
 ghost use Rattle.map_defs.specs.Cells.{InCell};
 ghost use Rattle.map_defs.specs.Edits.{Change as LinkChange};
 ghost use Rattle.machine_defs.specs.Difference.{IsLinkBefore};
+ghost use Rattle.store_defs.specs.Labelings.{Labeling};
 ghost use Rattle.store_defs.specs.Groups.{group_at};
-ghost use Rattle.valued_map.specs.Told.{IsBegun, finished, first_number, IsSorted, IsRelabelledPlace, AreOldValues, AreNewValues, old_value};
+ghost use Rattle.label_laws.specs.Stored.{stored_value};
+ghost use Rattle.valued_map.specs.Told.{IsBegun, finished, first_number, IsSorted, IsBefore, IsRelabelledPlace, AreOldValues, AreNewValues, old_value};
 
 use crate::ids::stored_value;
 use attr_pool::{Labels, Pool};
 use cell_walk::cell;
 use link_rows::{Change, Edit, Links, MADE_MAX};
-use map_kind::{Dart, Kind};
+use map_kind::{Dart, Kind, Value};
 use std::alloc::{AllocError, Global};
 use transport::Group;
 use undo_journal::{RuleChange, Step, ValueChange};
@@ -114,44 +116,79 @@ fn changes_in_order(alloc: Global, changes: &[Change]) -> Result<Vec<Change>, Al
     Ok(kept)
 }
 
-/// The values that the darts have whose ids a change of links gives anew, in the order of a log. It costs these darts
-/// times a logarithm, and the groups, for each dimension.
+/// The darts that an edit ends, and those that it bore after so many, if they are asked for.
+pub(crate) fn renewed(
+    alloc: Global,
+    edit: &Edit,
+    older: u32,
+    asked: bool,
+) -> Result<Vec<Dart>, AllocError>
+    requires { older + edit.now.births ≤ MADE_MAX }
+    ensures { IfOk result (λ darts. IsTrue asked → (d : ℕ) → Contains darts.items d
+        ↔ (Contains edit.now.deaths d ⊎ ((older < d) × (d < older + edit.now.births + 1)))) }
+{
+    if !asked {
+        return Ok(Vec::new(alloc));
+    }
+    let mut darts = Vec::from_slice(alloc, &edit.deaths)?;
+    for number in older + 1..older + edit.births + 1 {
+        add_numbered(number, &mut darts)?;
+    }
+    Ok(darts)
+}
+
+/// Adds the dart of a number.
+fn add_numbered(number: u32, darts: &mut Vec<Dart>) -> Result<(), AllocError>
+    requires { 0 < number }
+    ensures { OnOk result (darts.new.items ≡ darts.old.items ++ number ∷ []) }
+{
+    let Some(dart) = Dart::new(number) else {
+        unreachable!();
+    };
+    darts.push(dart)?;
+    Ok(())
+}
+
+/// The values that the darts had before an edit whose ids it gives anew, in the order of a log: those of some darts, in all
+/// dimensions, and those of groups. Darts beyond the number `older` had none. It costs these darts times a logarithm, and the
+/// groups, for each dimension.
 pub(crate) fn old_values<const DIM: usize>(
     alloc: Global,
     labels: &Labels<DIM>,
     pool: &Pool,
-    ended: &[Dart],
+    older: u32,
+    renewed: &[Dart],
     groups: &[Group],
     asked: bool,
 ) -> Result<Vec<ValueChange>, AllocError>
     requires high { DIM ≤ 8 }
     requires groups { (n : ℕ) → n < length groups.now → (group_at groups.now n).dim ≤ DIM }
-    ensures { IfOk result (λ values. IsTrue asked
-        → AreOldValues (IsRelabelledPlace DIM ended.now groups.now) labels.now pool.now values.items) }
+    ensures { IfOk result (λ values. IsTrue asked → (before : Labeling) → ((i d : ℕ) → IsBefore older before labels.now i d)
+        → AreOldValues (IsRelabelledPlace DIM renewed.now groups.now) before pool.now values.items) }
 {
     if !asked {
         return Ok(Vec::new(alloc));
     }
     let mut values = Vec::new(alloc);
     for dim in 0..DIM + 1 {
-        let darts = darts_in(alloc, dim, ended, groups)?;
-        add_values(labels, pool, dim, &darts, &mut values)?;
+        let darts = darts_in(alloc, dim, renewed, groups)?;
+        add_values(labels, pool, older, dim, &darts, &mut values)?;
     }
     Ok(values)
 }
 
-/// The darts that ended, and those of the groups of a dimension, ascending, each once.
+/// Some darts, and those of the groups of a dimension, ascending, each once.
 fn darts_in(
     alloc: Global,
     dim: usize,
-    ended: &[Dart],
+    renewed: &[Dart],
     groups: &[Group],
 ) -> Result<Vec<Dart>, AllocError>
     ensures members { IfOk result (λ darts. (d : ℕ) → Contains darts.items d
-        ↔ (Contains ended.now d ⊎ ((n : ℕ) × (n < length groups.now) × ((group_at groups.now n).dim ≡ dim) × Contains (group_at groups.now n).darts d))) }
+        ↔ (Contains renewed.now d ⊎ ((n : ℕ) × (n < length groups.now) × ((group_at groups.now n).dim ≡ dim) × Contains (group_at groups.now n).darts d))) }
     ensures ascending { IfOk result (λ darts. IsStrictlyIncreasing darts.items) }
 {
-    let mut darts = Vec::from_slice(alloc, ended)?;
+    let mut darts = Vec::from_slice(alloc, renewed)?;
     for group in groups {
         add_group(dim, group, &mut darts)?;
     }
@@ -188,22 +225,24 @@ pub(crate) fn cell_values<K: Kind, const DIM: usize>(
     }
     let mut values = Vec::new(alloc);
     let darts = cell(alloc, links, dim, dart)?;
-    add_values(labels, pool, dim, &darts, &mut values)?;
+    add_values(labels, pool, links.made(), dim, &darts, &mut values)?;
     Ok(values)
 }
 
-/// Adds the values that darts have in a dimension.
+/// Adds the values that darts had in a dimension before an edit; those beyond the number `older` had none.
 fn add_values<const DIM: usize>(
     labels: &Labels<DIM>,
     pool: &Pool,
+    older: u32,
     dim: usize,
     darts: &[Dart],
     values: &mut Vec<ValueChange>,
 ) -> Result<(), AllocError>
-    ensures { OnOk result (values.new.items ≡ values.old.items ++ map (old_value labels.now pool.now dim) darts.now) }
+    ensures { OnOk result ((before : Labeling) → ((d : ℕ) → Contains darts.now d → IsBefore older before labels.now dim d)
+        → values.new.items ≡ values.old.items ++ map (old_value before pool.now dim) darts.now) }
 {
     for dart in darts {
-        let old = stored_value(labels, pool, dim, *dart);
+        let old = value_before(labels, pool, older, dim, *dart);
         let new = old;
         values.push(ValueChange {
             dim,
@@ -213,6 +252,22 @@ fn add_values<const DIM: usize>(
         })?;
     }
     Ok(())
+}
+
+/// The value that a dart had in a dimension before an edit, where those beyond the number `older` had none.
+fn value_before<const DIM: usize>(
+    labels: &Labels<DIM>,
+    pool: &Pool,
+    older: u32,
+    dim: usize,
+    dart: Dart,
+) -> Option<Value>
+    ensures { (before : Labeling) → IsBefore older before labels.now dim dart → result ≡ stored_value pool.now before dim dart }
+{
+    if dart.number() > older {
+        return None;
+    }
+    stored_value(labels, pool, dim, dart)
 }
 
 /// Those of the values that are others now, with the new ones. It takes no memory.

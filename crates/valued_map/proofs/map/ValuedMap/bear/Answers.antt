@@ -18,7 +18,7 @@ invariant_of-self-in_err-grow g c =
     let n : ℕ = g.row.DIM in
     subst (λ (r : Rows). IsStoredMap k n r c.grow.new.self c.self.inside.pool c.self.inside.rules) (sym c.reserve.ensures.rows)
     (stored-grown k n c.self.inside.links.rows c.self.inside.labels c.grow.new.self c.self.inside.pool c.self.inside.pool c.self.inside.rules c.self.invariant c.grow.ensures.ids c.grow.ensures.places
-    (omega (arith, c.in_err-grow.ensures.err)) refl)
+    (omega (arith, c.in_err-grow.ensures.err, c.self.invariant.long)) refl)
 
 pub returns-in_err-grow-clause-err : goal.returns-in_err-grow-clause-err
 returns-in_err-grow-clause-err g c =

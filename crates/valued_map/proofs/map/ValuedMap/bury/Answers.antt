@@ -1,4 +1,4 @@
-use Rattle.std.proofs.Common.{ℕ, ◌+◌, ◌≤◌, arith, List, [], ◌∷◌, IsTrue, ap, sym, subst, ◌∙◌}
+use Rattle.std.proofs.Common.{refl, ℕ, ◌+◌, ◌≤◌, arith, List, [], ◌∷◌, IsTrue, ap, sym, subst, ◌∙◌}
 use Rattle.map_defs.specs.Rows.{Rows, IsLive, made, made_max, live_count}
 use Rattle.map_defs.specs.Edits.{Edit, IsLed}
 use Rattle.machine_defs.specs.Difference.{ValueChange}
@@ -9,6 +9,7 @@ use Rattle.label_laws.proofs.Making.{end-stored, end-content}
 use Rattle.valued_map.specs.Told.{IsStep, IsBegun, finished, AreOldValues, IsRelabelledPlace}
 use Rattle.valued_map.proofs.Edited.{end-step}
 use Rattle.valued_map.proofs.Places.{places-after, room-after}
+use Rattle.valued_map.proofs.Joining.{unlabelled}
 use Rattle.valued_map.proofs.map.ValuedMap.bury.Goals as goal
 
 pub invariant_of-self : goal.invariant_of-self
@@ -45,9 +46,10 @@ returns-clause-step g c =
     let live : IsLive rows c.args.dart = rw (← c.self.view_is) at c.requires.live in
     let alone = rw (← c.self.view_is) at c.requires.alone in
     let taken = rw (c.deref-2.ensures.value, c.in_ok-vec.ensures.items) at c.end_ids.ensures in
-    let begun : IsBegun c.args.asked (made rows) (death_edit c.args.dart) c.in_ok-draft.draft = rw (c.made.ensures.made, c.in_ok-vec.ensures.items, c.new.ensures.items) at c.in_ok-draft.ensures in
+    let begun : IsBegun c.args.asked (made rows) (death_edit c.args.dart) c.in_ok-draft.draft = rw (c.made-made.ensures.made, c.in_ok-vec.ensures.items, c.new.ensures.items) at c.in_ok-draft.ensures in
     let old : IsTrue c.args.asked → AreOldValues (IsRelabelledPlace n (c.args.dart ∷ []) []) c.self.inside.labels c.self.inside.pool c.in_ok-olds.olds.items =
-    rw (c.deref.ensures.value, c.in_ok-vec.ensures.items) at c.in_ok-olds.ensures in
+    λ some. (let all = rw (c.deref.ensures.value, c.in_ok-vec.ensures.items) at c.in_ok-olds.ensures in
+    all some c.self.inside.labels (λ i d. ((λ low. refl), λ high. unlabelled k n rows c.self.inside.labels c.self.inside.pool c.self.inside.rules c.self.invariant i d (omega (arith, c.made-made.ensures.made))))) in
     let values : List ValueChange = c.new_values-values.result.items in
     rw (← c.self.view_is, c.finish_step.ensures, c.new-2.ensures.items)
     (subst (λ (r : Rows). IsStep c.args.asked (content_of k n rows c.self.inside.labels c.self.inside.pool c.self.inside.rules) (content_of k n r c.end_ids.new.labels c.end_ids.new.pool c.self.inside.rules) (finished c.in_ok-draft.draft values [])) (sym is)

@@ -1,0 +1,77 @@
+use Rattle.std.proofs.Common.{ℕ, ◌≡◌, ◌-◌, ◌↔◌, List, Contains, lit<, sym, ap, subst, ◌∙◌, arith}
+use Rattle.std.proofs.lemmas.Bool.{false≢true}
+use Rattle.map_defs.specs.LinkWords.{LinkWord, IsCellWord, IsWithin}
+use Rattle.map_defs.specs.Rows.{made}
+use Rattle.map_defs.specs.Edits.{Change, Edit}
+use Rattle.label_laws.specs.Touching.{AreGrafted}
+use Rattle.valued_map.proofs.Rerouting.{none-unsettled}
+use Rattle.valued_map.proofs.changed.changed_in.Goals as goal
+
+pub returns-then-not-may_touch-clause-unsettled : goal.returns-then-not-may_touch-clause-unsettled
+returns-then-not-may_touch-clause-unsettled g c = λ x from.
+    let births-is : c.edit.inside.births ≡ c.args.edit.now.births = ap (λ (e : Edit). e.births) c.edit.view_is in
+    let older : ℕ = c.made.result - c.edit.inside.births in
+    let same : c.deref.result.now ≡ c.args.edit.now.changes = c.deref.ensures.value ∙ ap (λ (e : Edit). e.changes) c.edit.view_is in
+    absurd (none-unsettled g.K.Kind.kind g.row.DIM c.args.edit.now c.args.links.now.rows c.args.dim c.args.labels.now c.made.ensures.sound older (omega (arith, c.requires.births, c.made.ensures.made, births-is))
+    (λ b here old live followed. false≢true (sym c.if-not-may_touch.true ∙ c.may_touch.ensures b (subst (λ (bs : List Change). Contains bs b) (sym same) here) old live followed))
+    x from)
+
+pub graft_born-requires : goal.graft_born-requires
+graft_born-requires g c = (
+  lit< tt,
+  (
+    lit< tt,
+    (
+      c.made.ensures.sound,
+      (
+        omega (arith, c.made.ensures.made),
+        (
+          c.requires.dim,
+          (
+            c.requires.long,
+            (
+              c.requires.placed,
+              λ w. subst (λ (ws : List LinkWord). Contains ws w ↔ (IsCellWord g.K.Kind.kind c.args.dim w × IsWithin g.row.DIM w)) (sym c.deref-2.ensures.value)
+                  (subst (λ (d : ℕ). Contains c.in_ok-words.words.items w ↔ (IsCellWord g.K.Kind.kind c.args.dim w × IsWithin d w)) c.dimension.ensures.dimension (c.in_ok-words.ensures w)),
+            ),
+          ),
+        ),
+      ),
+    ),
+  ),
+)
+
+pub add_touched-requires : goal.add_touched-requires
+add_touched-requires g c =
+    let births-is : c.edit.inside.births ≡ c.args.edit.now.births = ap (λ (e : Edit). e.births) c.edit.view_is in (
+      lit< tt,
+      (
+        lit< tt,
+        (
+          c.made.ensures.low,
+          (
+            c.made.ensures.sound,
+            (
+              omega (arith, c.requires.births, c.made.ensures.made, births-is),
+              λ w. subst (λ (ws : List LinkWord). Contains ws w ↔ (IsCellWord g.K.Kind.kind c.args.dim w × IsWithin g.row.DIM w)) (sym c.deref-3.ensures.value)
+                  (subst (λ (d : ℕ). Contains c.in_ok-words.words.items w ↔ (IsCellWord g.K.Kind.kind c.args.dim w × IsWithin d w)) c.dimension.ensures.dimension (c.in_ok-words.ensures w)),
+            ),
+          ),
+        ),
+      ),
+    )
+
+pub returns-in_err-add_touched-clause-grafted : goal.returns-in_err-add_touched-clause-grafted
+returns-in_err-add_touched-clause-grafted g c =
+    let births-is : c.edit.inside.births ≡ c.args.edit.now.births = ap (λ (e : Edit). e.births) c.edit.view_is in
+    let older-is : c.made.result - c.edit.inside.births ≡ made c.args.links.now.rows - c.args.edit.now.births = omega (arith, c.made.ensures.made, births-is) in
+    subst (λ (o : ℕ). AreGrafted g.K.Kind.kind c.args.links.now.rows o (λ i. i ≡ c.args.dim) c.args.labels.now c.graft_born.new.labels) older-is c.graft_born.ensures.grafted
+
+pub returns-clause-grafted : goal.returns-clause-grafted
+returns-clause-grafted g c =
+    let births-is : c.edit.inside.births ≡ c.args.edit.now.births = ap (λ (e : Edit). e.births) c.edit.view_is in
+    let older-is : c.made.result - c.edit.inside.births ≡ made c.args.links.now.rows - c.args.edit.now.births = omega (arith, c.made.ensures.made, births-is) in
+    subst (λ (o : ℕ). AreGrafted g.K.Kind.kind c.args.links.now.rows o (λ i. i ≡ c.args.dim) c.args.labels.now c.graft_born.new.labels) older-is c.graft_born.ensures.grafted
+
+pub returns-clause-unsettled : goal.returns-clause-unsettled
+returns-clause-unsettled g c = λ x from. c.in_ok-add_touched.ensures.all x from from.4.1

@@ -1,0 +1,51 @@
+use Rattle.std.proofs.Common.{ℕ, ◌≡◌, ◌≢◌, ◌≤◌, ◌<◌, Option, lit<, sym, ap, subst, ◌∙◌}
+use Rattle.map_defs.specs.Kind.{inverse}
+use Rattle.map_defs.specs.LinkWords.{LinkWord, through}
+use Rattle.map_defs.specs.Rows.{Rows, links_of}
+use Rattle.map_defs.specs.Edits.{Change}
+use Rattle.link_laws.proofs.Basics.{inverse_within}
+use Rattle.store_defs.specs.Labelings.{id_of}
+use Rattle.label_laws.specs.Touching.{IsSettledAlong}
+use Rattle.valued_map.specs.Changing.{IsThenUnsettled}
+use Rattle.valued_map.proofs.Adding.{added-none}
+use Rattle.valued_map.proofs.Rerouting.{comes-from, came-before}
+use Rattle.valued_map.proofs.Settling.{settled-then}
+use Rattle.valued_map.proofs.touched.add_at_second.Goals.{then-number-older-via-then-number-older, then-number-older-via-else-number-older+then-led_elsewhere}
+use Rattle.valued_map.proofs.touched.add_at_second.Goals as goal
+
+pub link-requires : goal.link-requires
+link-requires g c =
+    let first-is : c.word.inside.first ≡ c.args.word.first = ap (λ (w : LinkWord). w.first) c.word.view_is in
+    let within : c.word.inside.first ≤ g.row.DIM = subst (λ j. j ≤ g.row.DIM) (sym first-is) (((c.requires.words c.args.word).0 c.requires.word).1.0) in
+    (lit< tt, subst (λ j. j ≤ g.row.DIM) (sym c.inverse.ensures) (inverse_within g.K.Kind.kind g.row.DIM c.word.inside.first c.requires.low within))
+
+pub led_elsewhere-requires : goal.led_elsewhere-requires
+led_elsewhere-requires g c =
+    let first-is : c.word.inside.first ≡ c.args.word.first = ap (λ (w : LinkWord). w.first) c.word.view_is in
+    (lit< tt, (c.requires.sound, subst (λ j. j ≤ g.row.DIM) (sym first-is) (((c.requires.words c.args.word).0 c.requires.word).1.0)))
+
+pub returns-then-number-older : goal.returns-then-number-older
+returns-then-number-older g c =
+    added-none rows (IsThenUnsettled g.K.Kind.kind g.row.DIM c.args.edit.now rows c.args.dim c.args.labels.now c.args.word c.args.change) c.args.touched.now.items
+    (λ x (old, led, (second, at, was, stood, off)) _. elim c.then-number-older.branch [
+      | then-number-older-via-then-number-older w ↦
+          came-before g.K.Kind.kind g.row.DIM c.args.edit.now old rows led c.requires.sound c.args.change.dart c.args.word.first c.requires.live x at was c.args.older c.requires.older
+          (subst (λ (m : ℕ). c.args.older < m) (c.number.ensures.same ∙ same x at) w.if-number-older.true)
+      | then-number-older-via-else-number-older+then-led_elsewhere w ↦
+          w.led_elsewhere.ensures old led w.if-led_elsewhere.true (ap (λ (j : ℕ). links_of old j c.in-Some.dart) first-is ∙ ap (links_of old c.args.word.first) (same x at) ∙ was ∙ sym dart-is)
+    ])
+  where
+    rows : Rows
+    rows = c.args.links.now.rows
+
+    first-is : c.word.inside.first ≡ c.args.word.first
+    first-is = ap (λ (w : LinkWord). w.first) c.word.view_is
+
+    dart-is : c.change.inside.dart ≡ c.args.change.dart
+    dart-is = ap (λ (b : Change). b.dart) c.change.view_is
+
+    same : (x : ℕ) → links_of rows c.args.word.first x ≡ c.args.change.dart → c.in-Some.dart ≡ x
+    same x at =
+        c.in-Some.ensures.linked ∙ ap (λ (j : ℕ). links_of rows j c.change.inside.dart) (c.inverse.ensures ∙ ap (inverse g.K.Kind.kind) first-is)
+        ∙ ap (links_of rows (inverse g.K.Kind.kind c.args.word.first)) dart-is
+        ∙ comes-from g.K.Kind.kind g.row.DIM rows c.requires.sound c.args.change.dart c.args.word.first c.requires.live x at

@@ -1,0 +1,254 @@
+//! The darts whose cells an edit may have changed. A cell that only gains darts just born is none of these: they are given its
+//! id, and nothing else of it is looked at.
+ghost use Rattle.std.specs.Prelude.{◌≡◌, ◌≢◌, ◌↔◌, ℕ, ◌+◌, ◌-◌, ◌≤◌, ◌<◌, length, Contains, IsTrue, IsNone, IsSome, IfOk, IfSome, None, OnOk};
+ghost use Rattle.map_defs.specs.LinkWords.{LinkWord as MapWord, through, IsCellWord, IsWithin};
+ghost use Rattle.map_defs.specs.Rows.{Rows, IsLive, IsSound, links_of, made};
+ghost use Rattle.map_defs.specs.Laws.{Laws};
+ghost use Rattle.map_defs.specs.Edits.{IsLed};
+ghost use Rattle.store_defs.specs.Stores.{Store};
+ghost use Rattle.store_defs.specs.Labelings.{id_of, HasPlaces, KeepsPlaces};
+ghost use Rattle.store_defs.specs.Groups.{darts_in, rule_at};
+ghost use Rattle.label_laws.specs.Maps.{IsStoredMap};
+ghost use Rattle.label_laws.specs.Touching.{Spares, AreGrafted, IsBornApart};
+ghost use Rattle.valued_map.specs.Changing.{AreAdded, IsApartAlong, LeadsApart, IsUnsettledFrom, IsChangedIn};
+
+use crate::passing::may_touch;
+use crate::rules::has_rule;
+use crate::touched::{add_live, add_touched};
+use attr_pool::{AttrId, Labels};
+use cell_walk::follow;
+use link_rows::{Edit, Links};
+use map_kind::{Dart, Kind, LinkWord};
+use std::alloc::{AllocError, Global};
+use transport::{RuleRow, TouchedDarts};
+
+/// The darts whose cells an edit may have changed, in each dimension with a rule. The links are those after the edit. Darts that
+/// were born are given the ids of cells that they joined.
+pub(crate) fn changed_darts<K: Kind, const DIM: usize>(
+    alloc: Global,
+    links: &Links<K, DIM>,
+    labels: &mut Labels<DIM>,
+    rules: &RuleRow,
+    edit: &Edit,
+) -> Result<TouchedDarts, AllocError>
+    requires births { edit.now.births ≤ made links.now.rows }
+    requires rules { length rules.now ≡ DIM + 1 }
+    requires long { made links.now.rows ≤ labels.old.made }
+    requires placed { (i : ℕ) → IsSome (rule_at rules.now i) → HasPlaces labels.old i }
+    requires bare { (i d : ℕ) → made links.now.rows - edit.now.births < d → id_of labels.old i d ≡ None }
+    ensures grafted { AreGrafted K.kind links.now.rows (made links.now.rows - edit.now.births) (λ i. IsSome (rule_at rules.now i)) labels.old labels.new }
+    ensures live { IfOk result (λ changed. (i x : ℕ) → Contains (darts_in changed i) x → IsLive links.now.rows x) }
+    ensures all { IfOk result (λ changed. (i x : ℕ)
+        → IsChangedIn K.kind DIM edit.now links.now.rows rules.now labels.new i x → Contains (darts_in changed i) x) }
+{
+    let mut by_dim = Vec::new(alloc);
+    for dim in 0..links.dimension() + 1 {
+        let darts = ruled_darts(alloc, links, labels, rules, edit, dim)?;
+        by_dim.push(darts)?;
+    }
+    Ok(TouchedDarts { by_dim })
+}
+
+/// The darts whose cells an edit may have changed in a dimension; none where it has no rule.
+fn ruled_darts<K: Kind, const DIM: usize>(
+    alloc: Global,
+    links: &Links<K, DIM>,
+    labels: &mut Labels<DIM>,
+    rules: &RuleRow,
+    edit: &Edit,
+    dim: usize,
+) -> Result<Vec<Dart>, AllocError>
+    requires births { edit.now.births ≤ made links.now.rows }
+    requires dim { dim ≤ DIM }
+    requires long { made links.now.rows ≤ labels.old.made }
+    requires placed { IsSome (rule_at rules.now dim) → HasPlaces labels.old dim }
+    requires bare { (d : ℕ) → made links.now.rows - edit.now.births < d → id_of labels.old dim d ≡ None }
+    ensures grafted { AreGrafted K.kind links.now.rows (made links.now.rows - edit.now.births) (λ i. (i ≡ dim) × IsSome (rule_at rules.now i)) labels.old labels.new }
+    ensures live { IfOk result (λ changed. (x : ℕ) → Contains changed.items x → IsLive links.now.rows x) }
+    ensures all { IfOk result (λ changed. (x : ℕ)
+        → IsChangedIn K.kind DIM edit.now links.now.rows rules.now labels.new dim x → Contains changed.items x) }
+{
+    if !has_rule(rules, dim) {
+        return Ok(Vec::new(alloc));
+    }
+    changed_in(alloc, links, labels, edit, dim)
+}
+
+/// The darts whose cells an edit may have changed in a dimension. Where no change is of a link that words of its cells follow,
+/// no list is made.
+fn changed_in<K: Kind, const DIM: usize>(
+    alloc: Global,
+    links: &Links<K, DIM>,
+    labels: &mut Labels<DIM>,
+    edit: &Edit,
+    dim: usize,
+) -> Result<Vec<Dart>, AllocError>
+    requires births { edit.now.births ≤ made links.now.rows }
+    requires dim { dim ≤ DIM }
+    requires long { made links.now.rows ≤ labels.old.made }
+    requires placed { HasPlaces labels.old dim }
+    requires bare { (d : ℕ) → made links.now.rows - edit.now.births < d → id_of labels.old dim d ≡ None }
+    ensures grafted { AreGrafted K.kind links.now.rows (made links.now.rows - edit.now.births) (λ i. i ≡ dim) labels.old labels.new }
+    ensures live { IfOk result (λ changed. (x : ℕ) → Contains changed.items x → IsLive links.now.rows x) }
+    ensures unsettled { IfOk result (λ changed. (x : ℕ)
+        → IsUnsettledFrom K.kind DIM edit.now links.now.rows dim labels.new x → Contains changed.items x) }
+    ensures apart { IfOk result (λ changed. (x : ℕ)
+        → IsBornApart K.kind dim links.now.rows (made links.now.rows - edit.now.births) labels.new x → Contains changed.items x) }
+{
+    let older = links.made() - edit.births;
+    if !may_touch(links, &edit.changes, older, dim) {
+        return Ok(Vec::new(alloc));
+    }
+    let words = K::words(alloc, links.dimension(), dim)?;
+    let mut touched = Vec::new(alloc);
+    graft_born(links, labels, older, dim, &words, &mut touched)?;
+    add_touched(links, labels, edit, older, dim, &words, &mut touched)?;
+    Ok(touched)
+}
+
+/// Gives each dart beyond a number an id of a cell that it joined, and adds those from which some word leads to a lesser dart
+/// with another id.
+fn graft_born<K: Kind, const DIM: usize>(
+    links: &Links<K, DIM>,
+    labels: &mut Labels<DIM>,
+    older: u32,
+    dim: usize,
+    words: &[LinkWord],
+    touched: &mut Vec<Dart>,
+) -> Result<(), AllocError>
+    requires sound { IsSound K.kind DIM links.now.rows }
+    requires older { older ≤ made links.now.rows }
+    requires dim { dim ≤ DIM }
+    requires long { made links.now.rows ≤ labels.old.made }
+    requires placed { HasPlaces labels.old dim }
+    requires words { (w : MapWord) → Contains words.now w ↔ (IsCellWord K.kind dim w × IsWithin DIM w) }
+    ensures grafted { AreGrafted K.kind links.now.rows older (λ i. i ≡ dim) labels.old labels.new }
+    ensures added { OnOk result (AreAdded links.now.rows (IsBornApart K.kind dim links.now.rows older labels.new) touched.old.items touched.new.items) }
+{
+    for number in older + 1..links.made() + 1 {
+        graft(links, labels, dim, words, number, touched)?;
+    }
+    Ok(())
+}
+
+/// Gives the dart of a number an id of a dart to which some word leads it, if there is one, and adds it where some word leads
+/// it to a lesser dart with another id.
+fn graft<K: Kind, const DIM: usize>(
+    links: &Links<K, DIM>,
+    labels: &mut Labels<DIM>,
+    dim: usize,
+    words: &[LinkWord],
+    number: u32,
+    touched: &mut Vec<Dart>,
+) -> Result<(), AllocError>
+    requires sound { IsSound K.kind DIM links.now.rows }
+    requires dim { dim ≤ DIM }
+    requires number { number ≤ labels.old.made }
+    requires placed { HasPlaces labels.old dim }
+    requires words { (w : MapWord) → Contains words.now w ↔ (IsCellWord K.kind dim w × IsWithin DIM w) }
+    ensures grafted { (older : ℕ) → older < number → AreGrafted K.kind links.now.rows older (λ i. i ≡ dim) labels.old labels.new }
+    ensures others { (j d : ℕ) → d ≢ number → id_of labels.new j d ≡ id_of labels.old j d }
+    ensures added { OnOk result (AreAdded links.now.rows (λ x. (x ≡ number) × LeadsApart K.kind dim links.now.rows labels.new x) touched.old.items touched.new.items) }
+{
+    let Some(dart) = Dart::new(number) else {
+        return Ok(());
+    };
+    join_cell(links, labels, dim, words, dart);
+    if !leads_apart(links, labels, dim, words, dart) {
+        return Ok(());
+    }
+    add_live(links, number, touched)
+}
+
+/// Gives a dart an id of a dart to which some word of a dimension's cells leads it, if there is one.
+fn join_cell<K: Kind, const DIM: usize>(
+    links: &Links<K, DIM>,
+    labels: &mut Labels<DIM>,
+    dim: usize,
+    words: &[LinkWord],
+    dart: Dart,
+)
+    requires dim { dim ≤ DIM }
+    requires dart { dart ≤ labels.old.made }
+    requires placed { HasPlaces labels.old dim }
+    requires words { (w : MapWord) → Contains words.now w ↔ (IsCellWord K.kind dim w × IsWithin DIM w) }
+    ensures grafted { (older : ℕ) → older < dart → AreGrafted K.kind links.now.rows older (λ i. i ≡ dim) labels.old labels.new }
+    ensures others { (j d : ℕ) → d ≢ dart → id_of labels.new j d ≡ id_of labels.old j d }
+{
+    let Some(id) = id_beside(links, labels, dim, words, dart) else {
+        return;
+    };
+    labels.put(dim, dart, Some(id));
+}
+
+/// The id of a dart to which one of some words leads a dart, if one of these has an id.
+fn id_beside<K: Kind, const DIM: usize>(
+    links: &Links<K, DIM>,
+    labels: &Labels<DIM>,
+    dim: usize,
+    words: &[LinkWord],
+    dart: Dart,
+) -> Option<AttrId>
+    requires { (w : MapWord) → Contains words.now w → IsWithin DIM w }
+    ensures { IfSome result (λ id. (w : MapWord) × Contains words.now w × (through (links_of links.now.rows) w dart ≢ 0)
+        × (id_of labels.now dim (through (links_of links.now.rows) w dart) ≡ Some id)) }
+{
+    for word in words {
+        let id = id_along(links, labels, dim, *word, dart);
+        if id.is_some() {
+            return id;
+        }
+    }
+    None
+}
+
+/// The id of the dart to which a word leads a dart, if there is one and it has an id.
+fn id_along<K: Kind, const DIM: usize>(
+    links: &Links<K, DIM>,
+    labels: &Labels<DIM>,
+    dim: usize,
+    word: LinkWord,
+    dart: Dart,
+) -> Option<AttrId>
+    requires { IsWithin DIM word }
+    ensures { IfSome result (λ id. (through (links_of links.now.rows) word dart ≢ 0)
+        × (id_of labels.now dim (through (links_of links.now.rows) word dart) ≡ Some id)) }
+{
+    labels.id(dim, follow(links, word, dart)?)
+}
+
+/// Whether one of some words leads a dart to a lesser one with another id in a dimension.
+fn leads_apart<K: Kind, const DIM: usize>(
+    links: &Links<K, DIM>,
+    labels: &Labels<DIM>,
+    dim: usize,
+    words: &[LinkWord],
+    dart: Dart,
+) -> bool
+    requires { (w : MapWord) → Contains words.now w → IsWithin DIM w }
+    ensures { (w : MapWord) → Contains words.now w → IsApartAlong links.now.rows labels.now dim w dart → IsTrue result }
+{
+    for word in words {
+        if leads_to_another(links, labels, dim, *word, dart) {
+            return true;
+        }
+    }
+    false
+}
+
+/// Whether a word leads a dart to a lesser one with another id in a dimension.
+fn leads_to_another<K: Kind, const DIM: usize>(
+    links: &Links<K, DIM>,
+    labels: &Labels<DIM>,
+    dim: usize,
+    word: LinkWord,
+    dart: Dart,
+) -> bool
+    requires { IsWithin DIM word }
+    ensures { IsApartAlong links.now.rows labels.now dim word dart → IsTrue result }
+{
+    let Some(other) = follow(links, word, dart) else {
+        return false;
+    };
+    other.number() < dart.number() && labels.id(dim, other) != labels.id(dim, dart)
+}

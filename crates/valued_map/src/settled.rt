@@ -1,0 +1,172 @@
+//! Darts that need no look along a word of a dimension's cells, since it leads to a dart with the same id, and the dart to
+//! which it led is in the cell still.
+ghost use Rattle.std.specs.Prelude.{◌≡◌, ◌≢◌, ◌↔◌, ℕ, Contains, IsTrue};
+ghost use Rattle.map_defs.specs.LinkWords.{LinkWord as MapWord, through, IsCellWord, IsWithin};
+ghost use Rattle.map_defs.specs.Rows.{IsLive, links_of};
+ghost use Rattle.map_defs.specs.Cells.{InCell};
+ghost use Rattle.store_defs.specs.Labelings.{id_of};
+
+use attr_pool::Labels;
+use cell_walk::follow;
+use link_rows::Links;
+use map_kind::{Dart, Kind, LinkWord};
+
+/// How many times a walk goes along both its words before it is given up.
+const TURNS: usize = 2;
+
+/// Whether a dart needs no look along one of some words of a dimension's cells, which led it before to the dart of a number,
+/// 0 for none. A no says nothing.
+pub(crate) fn is_settled<K: Kind, const DIM: usize>(
+    links: &Links<K, DIM>,
+    labels: &Labels<DIM>,
+    dim: usize,
+    words: &[LinkWord],
+    word: LinkWord,
+    dart: Dart,
+    before: u32,
+) -> bool
+    requires words { (w : MapWord) → Contains words.now w ↔ (IsCellWord K.kind dim w × IsWithin DIM w) }
+    requires word { Contains words.now word }
+    ensures alike { IsTrue result → through (links_of links.now.rows) word dart ≢ 0
+        → id_of labels.now dim (through (links_of links.now.rows) word dart) ≡ id_of labels.now dim dart }
+    ensures kept { IsTrue result → before ≢ 0 → InCell K.kind (links_of links.now.rows) dim dart before }
+{
+    if is_gone(links, before) {
+        return false;
+    }
+    let Some(now) = follow(links, word, dart) else {
+        return before == 0;
+    };
+    if labels.id(dim, now) != labels.id(dim, dart) {
+        return false;
+    }
+    is_kept(links, dim, words, dart, now, before)
+}
+
+/// Whether the dart of a number ended. There is none of the number 0.
+fn is_gone<K: Kind, const DIM: usize>(links: &Links<K, DIM>, number: u32) -> bool
+    ensures { IsTrue result → IsLive links.now.rows number → ⊥ }
+{
+    let Some(dart) = Dart::new(number) else {
+        return false;
+    };
+    !links.is_live(dart)
+}
+
+/// Whether there is no dart of a number, or few steps along words of a dimension's cells lead from one dart to it, or none. The
+/// dart `start` is not looked at again.
+fn is_kept<K: Kind, const DIM: usize>(
+    links: &Links<K, DIM>,
+    dim: usize,
+    words: &[LinkWord],
+    start: Dart,
+    from: Dart,
+    number: u32,
+) -> bool
+    requires { (w : MapWord) → Contains words.now w ↔ (IsCellWord K.kind dim w × IsWithin DIM w) }
+    ensures { IsTrue result → number ≢ 0 → InCell K.kind (links_of links.now.rows) dim from number }
+{
+    let Some(goal) = Dart::new(number) else {
+        return true;
+    };
+    from == goal || is_near(links, dim, words, start, from, goal)
+}
+
+/// Whether few steps along words of a dimension's cells lead from one dart to another, without the dart `start`. A no says
+/// nothing. It takes no memory, and costs so few steps however large the cell.
+fn is_near<K: Kind, const DIM: usize>(
+    links: &Links<K, DIM>,
+    dim: usize,
+    words: &[LinkWord],
+    start: Dart,
+    from: Dart,
+    goal: Dart,
+) -> bool
+    requires { (w : MapWord) → Contains words.now w ↔ (IsCellWord K.kind dim w × IsWithin DIM w) }
+    ensures { IsTrue result → InCell K.kind (links_of links.now.rows) dim from goal }
+{
+    for word in words {
+        if is_near_by(links, dim, words, *word, start, from, goal) {
+            return true;
+        }
+    }
+    false
+}
+
+/// Whether few steps lead from one dart to another, the first of them along a word, and not to the dart `start`.
+fn is_near_by<K: Kind, const DIM: usize>(
+    links: &Links<K, DIM>,
+    dim: usize,
+    words: &[LinkWord],
+    first: LinkWord,
+    start: Dart,
+    from: Dart,
+    goal: Dart,
+) -> bool
+    requires words { (w : MapWord) → Contains words.now w ↔ (IsCellWord K.kind dim w × IsWithin DIM w) }
+    requires first { Contains words.now first }
+    ensures { IsTrue result → InCell K.kind (links_of links.now.rows) dim from goal }
+{
+    let Some(next) = follow(links, first, from) else {
+        return false;
+    };
+    if next == goal {
+        return true;
+    }
+    next != start && is_near_behind(links, dim, words, first, next, goal)
+}
+
+/// Whether few steps along another word and a word in turn lead from one dart to another.
+fn is_near_behind<K: Kind, const DIM: usize>(
+    links: &Links<K, DIM>,
+    dim: usize,
+    words: &[LinkWord],
+    first: LinkWord,
+    from: Dart,
+    goal: Dart,
+) -> bool
+    requires words { (w : MapWord) → Contains words.now w ↔ (IsCellWord K.kind dim w × IsWithin DIM w) }
+    requires first { Contains words.now first }
+    ensures { IsTrue result → InCell K.kind (links_of links.now.rows) dim from goal }
+{
+    for second in words {
+        if turns_to(links, dim, *second, first, from, goal) {
+            return true;
+        }
+    }
+    false
+}
+
+/// Whether few steps along two words of a dimension's cells in turn lead from one dart to another.
+fn turns_to<K: Kind, const DIM: usize>(
+    links: &Links<K, DIM>,
+    dim: usize,
+    first: LinkWord,
+    second: LinkWord,
+    from: Dart,
+    goal: Dart,
+) -> bool
+    requires first { IsCellWord K.kind dim first }
+    requires first_within { IsWithin DIM first }
+    requires second { IsCellWord K.kind dim second }
+    requires second_within { IsWithin DIM second }
+    ensures { IsTrue result → InCell K.kind (links_of links.now.rows) dim from goal }
+{
+    let mut at = from;
+    for _turn in 0..TURNS {
+        let Some(between) = follow(links, first, at) else {
+            return false;
+        };
+        if between == goal {
+            return true;
+        }
+        let Some(next) = follow(links, second, between) else {
+            return false;
+        };
+        if next == goal {
+            return true;
+        }
+        at = next;
+    }
+    false
+}
