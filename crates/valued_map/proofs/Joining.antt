@@ -19,9 +19,9 @@ use Rattle.store_defs.specs.Labelings.{Labeling, id_of, IsRelabelled, KeepsIds, 
 use Rattle.store_defs.specs.Groups.{darts_in, rule_at}
 use Rattle.label_laws.specs.Maps.{IsStoredMap}
 use Rattle.label_laws.specs.Stored.{AreStored}
-use Rattle.label_laws.specs.Touching.{AreGrafted, IsSettledAlong, IsUnsettled, IsBornApart, Spares}
+use Rattle.label_laws.specs.Touching.{AreGrafted, IsBornApart, Spares}
 use Rattle.label_laws.proofs.Sparing.{settled-spare}
-use Rattle.valued_map.specs.Changing.{AreAdded, LeadsApart, IsUnsettledFrom, IsChangedIn}
+use Rattle.valued_map.specs.Changing.{AreAdded, LeadsApart, IsChangedIn}
 use Rattle.valued_map.proofs.Adding.{added-then, added-told, lived, long}
 use Rattle.valued_map.proofs.Rerouting.{AreChangedBelow, word-within}
 

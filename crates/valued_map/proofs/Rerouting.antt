@@ -1,5 +1,5 @@
 -- Which darts an edit touches in a dimension, by its changes.
-use Rattle.std.proofs.Common.{ℕ, ◌≡◌, ◌≢◌, ◌⊎◌, ◌+◌, ◌<◌, ◌≤◌, inl, inr, refl, sym, ap, subst, ◌∙◌, List, length, get_or, take, Option, Some, None, Bool, Contains, arith}
+use Rattle.std.proofs.Common.{ℕ, ◌≡◌, ◌≢◌, ◌⊎◌, ◌+◌, ◌<◌, ◌≤◌, inl, inr, refl, sym, ap, subst, ◌∙◌, List, length, get_or, take, Option, Some, None, Contains, arith}
 use Rattle.std.specs.Prelude.{IfSome}
 use Rattle.std.proofs.lemmas.Bool.{cases_eq, cases_lt}
 use Rattle.std.proofs.lemmas.List.{get_or_default}
@@ -111,9 +111,12 @@ module _ (k : Kind) (n : ℕ) (e : Edit) (old new : Rows) (led : IsLed k n e old
   abbrev Goal : ℕ → Type 0
   Goal x = AreUnsettledBelow k n e new i labels (length e.changes) x
 
-  -- a change tells the link before
+  -- a change tells the link before and after
   old-at : (j : ℕ) → j < length e.changes → L (change_at e.changes j).link (change_at e.changes j).dart ≡ (change_at e.changes j).old
   old-at j lt = led.fits.stands j no_change lt
+
+  new-at : (j : ℕ) → j < length e.changes → N (change_at e.changes j).link (change_at e.changes j).dart ≡ (change_at e.changes j).new
+  new-at j lt = ap (λ (r : Rows). links_of r (change_at e.changes j).link (change_at e.changes j).dart) (sym led.after) ∙ links-at k n old e led.sound led.fits j no_change lt
 
   stays : (x : ℕ) → IsLive old x → x + e.births ≤ made new
   stays x live = let within : x < length old = live-within old x live in let more : length new ≡ length old + e.births = long k n e old new led in omega (arith, more)
@@ -125,10 +128,13 @@ module _ (k : Kind) (n : ℕ) (e : Edit) (old new : Rows) (led : IsLed k n e old
 
     -- the first link of the word changed
     by-first : (j : ℕ) → j < length e.changes → (change_at e.changes j).dart ≡ x → (change_at e.changes j).link ≡ v.first → Goal x
-    by-first j lt dart link = (j, lt, (subst (λ d. d + e.births ≤ made new) (sym dart) (stays x before), subst (IsLive new) (sym dart) after, (v, (cell, inside), inl (old, led, (sym link, sym dart, was, unsettled)))))
+    by-first j lt dart link = (j, lt, (subst (λ d. d + e.births ≤ made new) (sym dart) (stays x before), subst (IsLive new) (sym dart) after, (v, (cell, inside), inl (old, led, (sym link, sym dart, was, is, apart, unsettled)))))
       where
         was : L v.first x ≡ (change_at e.changes j).old
         was = ap (L v.first) (sym dart) ∙ ap (λ t. L t (change_at e.changes j).dart) (sym link) ∙ old-at j lt
+
+        is : N v.first x ≡ (change_at e.changes j).new
+        is = ap (N v.first) (sym dart) ∙ ap (λ t. N t (change_at e.changes j).dart) (sym link) ∙ new-at j lt
 
     -- it did not, so the second did
     by-second : N v.first x ≡ L v.first x → (s : Option ℕ) → v.second ≡ s → Goal x
@@ -155,7 +161,7 @@ module _ (k : Kind) (n : ℕ) (e : Edit) (old new : Rows) (led : IsLed k n e old
           (
             subst (λ d. d + e.births ≤ made new) (sym dart) (stays (N v.first x) lived-there),
             subst (IsLive new) (sym dart) live-there,
-            (v, (cell, inside), inr (old, led, (some ∙ ap Some (sym link), sym dart, sym same ∙ sym dart, old-at j lt, unsettled))),
+            (v, (cell, inside), inr (old, led, (some ∙ ap Some (sym link), sym dart, sym same ∙ sym dart, old-at j lt, new-at j lt, unsettled))),
           ),
         )
 
@@ -171,8 +177,8 @@ module _ (k : Kind) (n : ℕ) (e : Edit) (old new : Rows) (led : IsLed k n e old
 
 -- a change that leaves a dart unsettled is of a link that a word of the cells follows
 followed-at : (k : Kind) (n : ℕ) (e : Edit) (rows : Rows) (i : ℕ) (labels : Labeling) (c : Change) (x : ℕ) → IsUnsettledOf k n e rows i labels c x → IsFollowed k i c.link
-followed-at k n e rows i labels c x (stays, live, (w, cell, inl (old, led, (link, dart, was, off)))) = (w, cell.0, inl link)
-followed-at k n e rows i labels c x (stays, live, (w, cell, inr (old, led, (link, now, was, stood, off)))) = (w, cell.0, inr link)
+followed-at k n e rows i labels c x (stays, live, (w, cell, inl (old, led, (link, dart, was, is, apart, off)))) = (w, cell.0, inl link)
+followed-at k n e rows i labels c x (stays, live, (w, cell, inr (old, led, (link, now, was, stood, stands, off)))) = (w, cell.0, inr link)
 
 -- where no change of an older dart that is live is of such a link, each dart is settled
 pub none-unsettled : (k : Kind) (n : ℕ) (e : Edit) (rows : Rows) (i : ℕ) (labels : Labeling) → IsSound k n rows → (older : ℕ) → older + e.births ≡ made rows

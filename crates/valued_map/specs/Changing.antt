@@ -1,5 +1,5 @@
 -- How a line changes a map.
-use Rattle.std.specs.Prelude.{ℕ, ◌≡◌, ◌≢◌, ◌-◌, ◌<◌, ◌⊎◌, List, Option, Some, Contains, IsSome}
+use Rattle.std.specs.Prelude.{ℕ, ◌≡◌, ◌≢◌, ◌+◌, ◌-◌, ◌≤◌, ◌<◌, ◌⊎◌, List, length, Option, Some, Contains, IsSome}
 use Rattle.map_defs.specs.Kind.{Kind}
 use Rattle.map_defs.specs.LinkWords.{LinkWord, through, IsCellWord}
 use Rattle.map_defs.specs.Rows.{Rows, IsLive, links_of, made}
@@ -7,7 +7,7 @@ use Rattle.map_defs.specs.Laws.{Laws}
 use Rattle.map_defs.specs.Edits.{Change, Edit, IsLed}
 use Rattle.map_defs.specs.Values.{Rule}
 use Rattle.store_defs.specs.Labelings.{Labeling, id_of}
-use Rattle.store_defs.specs.Groups.{rule_at}
+use Rattle.store_defs.specs.Groups.{rule_at, darts_in}
 use Rattle.label_laws.specs.Touching.{IsSettledAlong, IsUnsettled, IsBornApart}
 
 -- The darts that meet Wanted and are live were added, and no dart that is not live.
@@ -16,16 +16,24 @@ pub record AreAdded (rows : Rows) (Wanted : ℕ → Type 0) (old new : List ℕ)
   pub live : (x : ℕ) → Contains new x → Contains old x ⊎ IsLive rows x
   pub all : (x : ℕ) → Wanted x → IsLive rows x → Contains new x
 
--- A change of a link in an edit that led to the rows may leave x unsettled along a word: the word follows the link from x first;
+-- The list of a dimension has just these darts, and those of the others are as they were; there are none beyond it.
+pub record IsListPut (dim : ℕ) (darts : List ℕ) (old new : List (List ℕ)) : Type 0 where
+  pub size : length new ≤ dim + 1
+  pub here : darts_in new dim ≡ darts
+  pub others : (i : ℕ) → i ≢ dim → darts_in new i ≡ darts_in old i
+
+-- A change of a link in an edit that led to the rows may leave x unsettled along a word: the word follows the link from x first,
+-- and then leads elsewhere than before;
 abbrev pub IsFirstUnsettled : Kind → ℕ → Edit → Rows → ℕ → Labeling → LinkWord → Change → ℕ → Type 0
 IsFirstUnsettled k n e rows i labels w c x = (old : Rows) × IsLed k n e old rows
-    × ((w.first ≡ c.link) × (x ≡ c.dart) × (links_of old w.first x ≡ c.old) × (IsSettledAlong k i old rows labels w x → ⊥))
+    × ((w.first ≡ c.link) × (x ≡ c.dart) × (links_of old w.first x ≡ c.old) × (links_of rows w.first x ≡ c.new)
+    × (through (links_of rows) w x ≢ through (links_of old) w x) × (IsSettledAlong k i old rows labels w x → ⊥))
 
 -- or it leads x by its first link to the changed dart, before and after, and then follows the changed link.
 abbrev pub IsThenUnsettled : Kind → ℕ → Edit → Rows → ℕ → Labeling → LinkWord → Change → ℕ → Type 0
 IsThenUnsettled k n e rows i labels w c x = (old : Rows) × IsLed k n e old rows
     × ((w.second ≡ Some c.link) × (links_of rows w.first x ≡ c.dart) × (links_of old w.first x ≡ c.dart) × (links_of old c.link c.dart ≡ c.old)
-    × (IsSettledAlong k i old rows labels w x → ⊥))
+    × (links_of rows c.link c.dart ≡ c.new) × (IsSettledAlong k i old rows labels w x → ⊥))
 
 abbrev pub IsUnsettledAt : Kind → ℕ → Edit → Rows → ℕ → Labeling → LinkWord → Change → ℕ → Type 0
 IsUnsettledAt k n e rows i labels w c x = IsFirstUnsettled k n e rows i labels w c x ⊎ IsThenUnsettled k n e rows i labels w c x

@@ -1,11 +1,11 @@
 //! The values that an edit carries to the new cells, and room for values.
-ghost use Rattle.std.specs.Prelude.{◌≡◌, ℕ, ◌≤◌, ◌<◌, length, IsSome, OnOk, IfOk};
+ghost use Rattle.std.specs.Prelude.{◌≡◌, ℕ, ◌≤◌, ◌<◌, length, Contains, IsSome, IsTrue, OnOk, IfOk};
 ghost use Rattle.map_defs.specs.Rows.{Rows, IsLive, links_of, made};
 ghost use Rattle.map_defs.specs.Laws.{Laws};
 ghost use Rattle.map_defs.specs.Edits.{IsLed};
 ghost use Rattle.store_defs.specs.Stores.{HasRepresentable};
 ghost use Rattle.store_defs.specs.Labelings.{id_of};
-ghost use Rattle.store_defs.specs.Groups.{group_at, rule_at, HasCarriedValue};
+ghost use Rattle.store_defs.specs.Groups.{group_at, rule_at, darts_in, HasCarriedValue};
 ghost use Rattle.label_laws.specs.Maps.{IsStoredMap};
 ghost use Rattle.label_laws.specs.Stored.{AreSmall};
 ghost use Rattle.label_laws.specs.Touching.{AreGrafted, AreAllTouched};
@@ -17,7 +17,7 @@ use attr_rules::Hook;
 use link_rows::{Edit, Links};
 use map_kind::Kind;
 use std::alloc::{AllocError, Global};
-use transport::{Group, RuleRow, carry};
+use transport::{Group, RuleRow, TouchedDarts, carry};
 
 /// The cells that the edit may have changed, with the values that are carried to them, and room in the pool for these
 /// values. Darts that were born are given the ids of cells that they joined. Where no dimension has a rule nothing is looked at.
@@ -51,9 +51,27 @@ pub(crate) fn carried<K: Kind, H: Hook, const DIM: usize>(
         return Ok(Vec::new(alloc));
     }
     let changed = changed_darts(alloc, links, labels, rules, edit)?;
+    see_values(pool);
+    if is_empty(&changed) {
+        return Ok(Vec::new(alloc));
+    }
     let groups = carry(alloc, links, labels, pool, rules, hook, &changed)?;
     make_room(pool, groups.len())?;
     Ok(groups)
+}
+
+/// Whether no dimension has a list of touched darts.
+fn is_empty(touched: &TouchedDarts) -> bool
+    ensures { IsTrue result → (i x : ℕ) → Contains (darts_in touched.now i) x → ⊥ }
+{
+    touched.by_dim.is_empty()
+}
+
+/// The values under ids are within 64 bits: so it is in every pool.
+fn see_values(pool: &Pool)
+    ensures { HasRepresentable pool.now }
+{
+    let _ = pool.live_count();
 }
 
 /// Makes room for so many further values.

@@ -176,6 +176,9 @@ fn moved<K: Kind, H: Hook, const DIM: usize>(
         → AreOldValues (IsRevaluedPlace DIM (made old) edit.now moved.0.items) labels.old pool.new moved.1.items) }
 {
     let groups = carried(alloc, links, labels, pool, rules, hook, edit)?;
+    if !asked {
+        return Ok((groups, Vec::new(alloc)));
+    }
     let older = links.made() - edit.births;
     let renewed = renewed(alloc, edit, older, asked)?;
     let olds = old_values(alloc, labels, pool, older, &renewed, &groups, asked)?;

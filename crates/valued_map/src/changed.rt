@@ -1,6 +1,6 @@
 //! The darts whose cells an edit may have changed. A cell that only gains darts just born is none of these: they are given its
 //! id, and nothing else of it is looked at.
-ghost use Rattle.std.specs.Prelude.{◌≡◌, ◌≢◌, ◌↔◌, ℕ, ◌+◌, ◌-◌, ◌≤◌, ◌<◌, length, Contains, IsTrue, IsNone, IsSome, IfOk, IfSome, None, OnOk};
+ghost use Rattle.std.specs.Prelude.{◌≡◌, ◌≢◌, ◌↔◌, ℕ, ◌+◌, ◌-◌, ◌≤◌, ◌<◌, length, map, Contains, IsTrue, IsNone, IsSome, IfOk, IfSome, None, OnOk};
 ghost use Rattle.map_defs.specs.LinkWords.{LinkWord as MapWord, through, IsCellWord, IsWithin};
 ghost use Rattle.map_defs.specs.Rows.{Rows, IsLive, IsSound, links_of, made};
 ghost use Rattle.map_defs.specs.Laws.{Laws};
@@ -10,7 +10,7 @@ ghost use Rattle.store_defs.specs.Labelings.{id_of, HasPlaces, KeepsPlaces};
 ghost use Rattle.store_defs.specs.Groups.{darts_in, rule_at};
 ghost use Rattle.label_laws.specs.Maps.{IsStoredMap};
 ghost use Rattle.label_laws.specs.Touching.{Spares, AreGrafted, IsBornApart};
-ghost use Rattle.valued_map.specs.Changing.{AreAdded, IsApartAlong, LeadsApart, IsUnsettledFrom, IsChangedIn};
+ghost use Rattle.valued_map.specs.Changing.{AreAdded, IsListPut, IsApartAlong, LeadsApart, IsUnsettledFrom, IsChangedIn};
 
 use crate::passing::may_touch;
 use crate::rules::has_rule;
@@ -44,9 +44,30 @@ pub(crate) fn changed_darts<K: Kind, const DIM: usize>(
     let mut by_dim = Vec::new(alloc);
     for dim in 0..links.dimension() + 1 {
         let darts = ruled_darts(alloc, links, labels, rules, edit, dim)?;
-        by_dim.push(darts)?;
+        put_list(alloc, dim, darts, &mut by_dim)?;
     }
     Ok(TouchedDarts { by_dim })
+}
+
+/// Puts darts into the list of a dimension, behind those of lesser ones. Where there are none, no list is made.
+#[inline(always)]
+fn put_list(
+    alloc: Global,
+    dim: usize,
+    darts: Vec<Dart>,
+    lists: &mut Vec<Vec<Dart>>,
+) -> Result<(), AllocError>
+    requires { length lists.old.items ≤ dim }
+    ensures { OnOk result (IsListPut dim darts.items (map (λ ds. ds.items) lists.old.items) (map (λ ds. ds.items) lists.new.items)) }
+{
+    if darts.is_empty() {
+        return Ok(());
+    }
+    for _place in lists.len()..dim {
+        lists.push(Vec::new(alloc))?;
+    }
+    lists.push(darts)?;
+    Ok(())
 }
 
 /// The darts whose cells an edit may have changed in a dimension; none where it has no rule.
@@ -121,6 +142,7 @@ fn graft_born<K: Kind, const DIM: usize>(
     requires dim { dim ≤ DIM }
     requires long { made links.now.rows ≤ labels.old.made }
     requires placed { HasPlaces labels.old dim }
+    requires bare { (d : ℕ) → older < d → id_of labels.old dim d ≡ None }
     requires words { (w : MapWord) → Contains words.now w ↔ (IsCellWord K.kind dim w × IsWithin DIM w) }
     ensures grafted { AreGrafted K.kind links.now.rows older (λ i. i ≡ dim) labels.old labels.new }
     ensures added { OnOk result (AreAdded links.now.rows (IsBornApart K.kind dim links.now.rows older labels.new) touched.old.items touched.new.items) }
@@ -145,6 +167,7 @@ fn graft<K: Kind, const DIM: usize>(
     requires dim { dim ≤ DIM }
     requires number { number ≤ labels.old.made }
     requires placed { HasPlaces labels.old dim }
+    requires bare { id_of labels.old dim number ≡ None }
     requires words { (w : MapWord) → Contains words.now w ↔ (IsCellWord K.kind dim w × IsWithin DIM w) }
     ensures grafted { (older : ℕ) → older < number → AreGrafted K.kind links.now.rows older (λ i. i ≡ dim) labels.old labels.new }
     ensures others { (j d : ℕ) → d ≢ number → id_of labels.new j d ≡ id_of labels.old j d }
@@ -153,32 +176,38 @@ fn graft<K: Kind, const DIM: usize>(
     let Some(dart) = Dart::new(number) else {
         return Ok(());
     };
-    join_cell(links, labels, dim, words, dart);
+    if !join_cell(links, labels, dim, words, dart) {
+        return Ok(());
+    }
     if !leads_apart(links, labels, dim, words, dart) {
         return Ok(());
     }
     add_live(links, number, touched)
 }
 
-/// Gives a dart an id of a dart to which some word of a dimension's cells leads it, if there is one.
+/// Gives a dart an id of a dart to which some word of a dimension's cells leads it, if there is one, and says whether there is.
 fn join_cell<K: Kind, const DIM: usize>(
     links: &Links<K, DIM>,
     labels: &mut Labels<DIM>,
     dim: usize,
     words: &[LinkWord],
     dart: Dart,
-)
+) -> bool
     requires dim { dim ≤ DIM }
     requires dart { dart ≤ labels.old.made }
     requires placed { HasPlaces labels.old dim }
     requires words { (w : MapWord) → Contains words.now w ↔ (IsCellWord K.kind dim w × IsWithin DIM w) }
     ensures grafted { (older : ℕ) → older < dart → AreGrafted K.kind links.now.rows older (λ i. i ≡ dim) labels.old labels.new }
     ensures others { (j d : ℕ) → d ≢ dart → id_of labels.new j d ≡ id_of labels.old j d }
+    ensures bare { (IsTrue result → ⊥) → (labels.new ≡ labels.old)
+        × ((w : MapWord) → Contains words.now w → through (links_of links.now.rows) w dart ≢ 0
+        → id_of labels.new dim (through (links_of links.now.rows) w dart) ≡ None) }
 {
     let Some(id) = id_beside(links, labels, dim, words, dart) else {
-        return;
+        return false;
     };
     labels.put(dim, dart, Some(id));
+    true
 }
 
 /// The id of a dart to which one of some words leads a dart, if one of these has an id.
@@ -190,7 +219,9 @@ fn id_beside<K: Kind, const DIM: usize>(
     dart: Dart,
 ) -> Option<AttrId>
     requires { (w : MapWord) → Contains words.now w → IsWithin DIM w }
-    ensures { IfSome result (λ id. (w : MapWord) × Contains words.now w × (through (links_of links.now.rows) w dart ≢ 0)
+    ensures none { IsNone result → (w : MapWord) → Contains words.now w → through (links_of links.now.rows) w dart ≢ 0
+        → id_of labels.now dim (through (links_of links.now.rows) w dart) ≡ None }
+    ensures some { IfSome result (λ id. (w : MapWord) × Contains words.now w × (through (links_of links.now.rows) w dart ≢ 0)
         × (id_of labels.now dim (through (links_of links.now.rows) w dart) ≡ Some id)) }
 {
     for word in words {
@@ -211,7 +242,9 @@ fn id_along<K: Kind, const DIM: usize>(
     dart: Dart,
 ) -> Option<AttrId>
     requires { IsWithin DIM word }
-    ensures { IfSome result (λ id. (through (links_of links.now.rows) word dart ≢ 0)
+    ensures none { IsNone result → through (links_of links.now.rows) word dart ≢ 0
+        → id_of labels.now dim (through (links_of links.now.rows) word dart) ≡ None }
+    ensures some { IfSome result (λ id. (through (links_of links.now.rows) word dart ≢ 0)
         × (id_of labels.now dim (through (links_of links.now.rows) word dart) ≡ Some id)) }
 {
     labels.id(dim, follow(links, word, dart)?)

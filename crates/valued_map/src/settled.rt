@@ -14,47 +14,33 @@ use map_kind::{Dart, Kind, LinkWord};
 /// How many times a walk goes along both its words before it is given up.
 const TURNS: usize = 2;
 
-/// Whether a dart needs no look along one of some words of a dimension's cells, which led it before to the dart of a number,
-/// 0 for none. A no says nothing.
+/// Whether a dart needs no look along a word that leads it to the dart of one number, and led it before to that of another, 0
+/// for none. A no says nothing.
 pub(crate) fn is_settled<K: Kind, const DIM: usize>(
     links: &Links<K, DIM>,
     labels: &Labels<DIM>,
     dim: usize,
     words: &[LinkWord],
-    word: LinkWord,
     dart: Dart,
+    now: u32,
     before: u32,
 ) -> bool
-    requires words { (w : MapWord) → Contains words.now w ↔ (IsCellWord K.kind dim w × IsWithin DIM w) }
-    requires word { Contains words.now word }
-    ensures alike { IsTrue result → through (links_of links.now.rows) word dart ≢ 0
-        → id_of labels.now dim (through (links_of links.now.rows) word dart) ≡ id_of labels.now dim dart }
-    ensures kept { IsTrue result → before ≢ 0 → InCell K.kind (links_of links.now.rows) dim dart before }
+    requires { (w : MapWord) → Contains words.now w ↔ (IsCellWord K.kind dim w × IsWithin DIM w) }
+    ensures alike { IsTrue result → now ≢ 0 → id_of labels.now dim now ≡ id_of labels.now dim dart }
+    ensures kept { IsTrue result → (now ≢ 0 → InCell K.kind (links_of links.now.rows) dim dart now) → before ≢ 0
+        → InCell K.kind (links_of links.now.rows) dim dart before }
 {
-    if is_gone(links, before) {
-        return false;
-    }
-    let Some(now) = follow(links, word, dart) else {
+    let Some(first) = Dart::new(now) else {
         return before == 0;
     };
-    if labels.id(dim, now) != labels.id(dim, dart) {
+    if labels.id(dim, first) != labels.id(dim, dart) {
         return false;
     }
-    is_kept(links, dim, words, dart, now, before)
+    is_kept(links, dim, words, dart, first, before)
 }
 
-/// Whether the dart of a number ended. There is none of the number 0.
-fn is_gone<K: Kind, const DIM: usize>(links: &Links<K, DIM>, number: u32) -> bool
-    ensures { IsTrue result → IsLive links.now.rows number → ⊥ }
-{
-    let Some(dart) = Dart::new(number) else {
-        return false;
-    };
-    !links.is_live(dart)
-}
-
-/// Whether there is no dart of a number, or few steps along words of a dimension's cells lead from one dart to it, or none. The
-/// dart `start` is not looked at again.
+/// Whether there is no dart of a number, or it is live and few steps along words of a dimension's cells lead from one dart to
+/// it. The dart `start` is not looked at again.
 fn is_kept<K: Kind, const DIM: usize>(
     links: &Links<K, DIM>,
     dim: usize,
@@ -69,7 +55,7 @@ fn is_kept<K: Kind, const DIM: usize>(
     let Some(goal) = Dart::new(number) else {
         return true;
     };
-    from == goal || is_near(links, dim, words, start, from, goal)
+    links.is_live(goal) && is_near(links, dim, words, start, from, goal)
 }
 
 /// Whether few steps along words of a dimension's cells lead from one dart to another, without the dart `start`. A no says
@@ -113,15 +99,17 @@ fn is_near_by<K: Kind, const DIM: usize>(
     if next == goal {
         return true;
     }
-    next != start && is_near_behind(links, dim, words, first, next, goal)
+    next != start && is_near_behind(links, dim, words, first, from, next, goal)
 }
 
-/// Whether few steps along another word and a word in turn lead from one dart to another.
+/// Whether few steps along another word and a word in turn lead from one dart to another, the first of them not to the dart
+/// `start`.
 fn is_near_behind<K: Kind, const DIM: usize>(
     links: &Links<K, DIM>,
     dim: usize,
     words: &[LinkWord],
     first: LinkWord,
+    start: Dart,
     from: Dart,
     goal: Dart,
 ) -> bool
@@ -130,19 +118,21 @@ fn is_near_behind<K: Kind, const DIM: usize>(
     ensures { IsTrue result → InCell K.kind (links_of links.now.rows) dim from goal }
 {
     for second in words {
-        if turns_to(links, dim, *second, first, from, goal) {
+        if turns_to(links, dim, *second, first, start, from, goal) {
             return true;
         }
     }
     false
 }
 
-/// Whether few steps along two words of a dimension's cells in turn lead from one dart to another.
+/// Whether few steps along two words of a dimension's cells in turn lead from one dart to another, none along the first word
+/// to the dart `start`.
 fn turns_to<K: Kind, const DIM: usize>(
     links: &Links<K, DIM>,
     dim: usize,
     first: LinkWord,
     second: LinkWord,
+    start: Dart,
     from: Dart,
     goal: Dart,
 ) -> bool
@@ -159,6 +149,9 @@ fn turns_to<K: Kind, const DIM: usize>(
         };
         if between == goal {
             return true;
+        }
+        if between == start {
+            return false;
         }
         let Some(next) = follow(links, second, between) else {
             return false;

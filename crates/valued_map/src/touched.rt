@@ -122,7 +122,8 @@ fn add_along<K: Kind, const DIM: usize>(
     )
 }
 
-/// Adds the changed dart, where a word follows the changed link first and the dart is not settled along it.
+/// Adds the changed dart, where a word follows the changed link first and then leads elsewhere than before, and the dart is
+/// not settled along it.
 fn add_at_first<K: Kind, const DIM: usize>(
     links: &Links<K, DIM>,
     labels: &Labels<DIM>,
@@ -146,7 +147,13 @@ fn add_at_first<K: Kind, const DIM: usize>(
     let Some(before) = led_to(links, edit, word.second, change.old) else {
         return add_live(links, change.dart.number(), touched);
     };
-    if is_settled(links, labels, dim, words, word, change.dart, before) {
+    let now = leads_to(links, word.second, change.new);
+    if now == before {
+        return Ok(());
+    }
+    if may_settle(labels, edit, dim, touched, change, change.dart)
+        && is_settled(links, labels, dim, words, change.dart, now, before)
+    {
         return Ok(());
     }
     touched.push(change.dart)?;
@@ -184,11 +191,40 @@ fn add_at_second<K: Kind, const DIM: usize>(
     if dart.number() > older || led_elsewhere(links, edit, dart, word.first, change.dart) {
         return Ok(());
     }
-    if is_settled(links, labels, dim, words, word, dart, change.old) {
+    if may_settle(labels, edit, dim, touched, change, dart)
+        && is_settled(links, labels, dim, words, dart, change.new, change.old)
+    {
         return Ok(());
     }
     touched.push(dart)?;
     Ok(())
+}
+
+/// Whether it is likely that a dart is settled which a change rerouted: it is not where the link became free, where the edit
+/// ends darts, and where the dart added last has the same id, so that its cell was cut from that of the dart.
+fn may_settle<const DIM: usize>(
+    labels: &Labels<DIM>,
+    edit: &Edit,
+    dim: usize,
+    touched: &[Dart],
+    change: Change,
+    dart: Dart,
+) -> bool {
+    change.new != 0 && edit.deaths.is_empty() && !has_last_id(labels, dim, touched, dart)
+}
+
+/// Whether a dart has an id, and the last of some darts has the same.
+fn has_last_id<const DIM: usize>(
+    labels: &Labels<DIM>,
+    dim: usize,
+    darts: &[Dart],
+    dart: Dart,
+) -> bool {
+    let Some(last) = darts.last() else {
+        return false;
+    };
+    let id = labels.id(dim, dart);
+    id.is_some() && labels.id(dim, *last) == id
 }
 
 /// The number of the dart to which a link led from the dart of a number before an edit, if there is such a link, and else the
@@ -211,6 +247,35 @@ fn led_to<K: Kind, const DIM: usize>(
         return None;
     }
     Some(number_before(links, edit, number, link))
+}
+
+/// The number of the dart to which a link leads from the dart of a number, if there is such a link, and else the number itself;
+/// 0 for none.
+fn leads_to<K: Kind, const DIM: usize>(
+    links: &Links<K, DIM>,
+    link: Option<usize>,
+    number: u32,
+) -> u32
+    requires sound { IsSound K.kind DIM links.now.rows }
+    requires link { IfSome link (λ link. link ≤ DIM) }
+    ensures { result ≡ through_second (links_of links.now.rows) link number }
+{
+    let Some(link) = link else {
+        return number;
+    };
+    number_now(links, number, link)
+}
+
+/// The number of the dart at a link of the dart of a number; 0 for none, and for the number 0.
+fn number_now<K: Kind, const DIM: usize>(links: &Links<K, DIM>, number: u32, link: usize) -> u32
+    requires sound { IsSound K.kind DIM links.now.rows }
+    requires link { link ≤ DIM }
+    ensures { result ≡ links_of links.now.rows link number }
+{
+    match Dart::new(number) {
+        Some(dart) => links.number_at(dart, link),
+        None => 0,
+    }
 }
 
 /// Whether a link of a dart led elsewhere than to another dart before an edit; in an edit of many changes, that is not told.

@@ -58,6 +58,25 @@ returns-in_err-changed-clause-grafted g c = λ old led.
     subst (λ (o : ℕ). AreGrafted g.K.Kind.kind c.args.links.now.rows o (λ i. IsSome (rule_at c.args.rules.now i)) c.args.labels.now c.changed_darts.new.labels)
     (before-made g.K.Kind.kind g.row.DIM c.args.edit.now old c.args.links.now.rows led) c.changed_darts.ensures.grafted
 
+pub returns-then-is_empty-clause-grafted : goal.returns-then-is_empty-clause-grafted
+returns-then-is_empty-clause-grafted g c = λ old led.
+    subst (λ (o : ℕ). AreGrafted g.K.Kind.kind c.args.links.now.rows o (λ i. IsSome (rule_at c.args.rules.now i)) c.args.labels.now c.changed_darts.new.labels)
+    (before-made g.K.Kind.kind g.row.DIM c.args.edit.now old c.args.links.now.rows led) c.changed_darts.ensures.grafted
+
+pub returns-then-is_empty-clause-cells : goal.returns-then-is_empty-clause-cells
+returns-then-is_empty-clause-cells g c = λ old led stored.
+    let lists : List (List ℕ) = c.in_ok-changed.changed in
+    subst (λ (gs : List Group). AreAllTouched g.K.Kind.kind c.args.links.now.rows c.args.rules.now c.changed_darts.new.labels gs) (sym c.new-then-is_empty.ensures.items) (
+      darts_in lists,
+      c.in_ok-changed.ensures.live,
+      record { cells = λ n lt. absurd (omega arith); all = λ i t some here. absurd (c.is_empty.ensures c.if-is_empty.true i t here); ascending = λ a b _ lt. absurd (omega arith) },
+      λ i some. changed-spare g.K.Kind.kind g.row.DIM c.args.edit.now c.args.links.now.rows c.args.rules.now c.args.labels.now c.changed_darts.new.labels lists c.changed_darts.ensures.grafted c.in_ok-changed.ensures.all
+          old c.args.pool.now led stored c.requires.laws i some,
+    )
+
+pub returns-then-is_empty-clause-small : goal.returns-then-is_empty-clause-small
+returns-then-is_empty-clause-small g c = λ i rule ruled. c.see_values.ensures
+
 pub carry-requires : goal.carry-requires
 carry-requires g c =
     let led = c.requires.led.1 in

@@ -1,7 +1,6 @@
-use Rattle.std.proofs.Common.{ℕ, ◌≡◌, ◌⊎◌, ◌↔◌, ◌+◌, ◌-◌, ◌<◌, ◌≤◌, List, length, Contains, inl, inr, sym, ap, subst, ◌∙◌, arith}
-use Rattle.map_defs.specs.Rows.{Rows, made}
+use Rattle.std.proofs.Common.{ℕ, ◌≡◌, ◌⊎◌, ◌↔◌, ◌+◌, ◌-◌, ◌<◌, List, length, Contains, inl, inr, ap, subst, ◌∙◌, arith}
+use Rattle.map_defs.specs.Rows.{made}
 use Rattle.map_defs.specs.Edits.{Edit}
-use Rattle.store_defs.specs.Labelings.{id_of}
 use Rattle.valued_map.specs.Told.{IsRelabelledPlace, IsRevaluedPlace}
 use Rattle.valued_map.proofs.Adding.{long}
 use Rattle.valued_map.proofs.Joining.{before-made, unlabelled}

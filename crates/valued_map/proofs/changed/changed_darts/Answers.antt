@@ -1,15 +1,13 @@
-use Rattle.std.proofs.Common.{ℕ, ◌≡◌, ◌+◌, ◌-◌, ◌<◌, ◌⊎◌, List, ◌∷◌, [], map, IsSome, inl, inr, lit<, sym, ap, subst, ◌∙◌, arith}
+use Rattle.std.proofs.Common.{ℕ, ◌≡◌, ◌+◌, ◌-◌, ◌<◌, List, map, IsSome, inl, inr, lit<, subst, ◌∙◌, arith}
 use Rattle.std.proofs.lemmas.Bool.{cases_lt, false≢true}
-use Rattle.std.proofs.lemmas.List.{map-append, get_or_past}
+use Rattle.std.proofs.lemmas.List.{length-map, get_or_past}
 use Rattle.std.specs.Prelude.{None}
 use Rattle.map_defs.specs.Rows.{Rows, IsLive, made}
-use Rattle.store_defs.specs.Labelings.{Labeling, id_of}
+use Rattle.store_defs.specs.Labelings.{Labeling}
 use Rattle.store_defs.specs.Groups.{rule_at}
-use Rattle.label_laws.specs.Touching.{AreGrafted}
 use Rattle.valued_map.specs.Changing.{IsChangedIn}
 use Rattle.valued_map.proofs.DimLists.{listed-more}
 use Rattle.valued_map.proofs.Joining.{grafts-as, grafts-then, changed-later}
-use Rattle.valued_map.proofs.Rerouting.{AreChangedBelow}
 use Rattle.valued_map.proofs.changed.changed_darts.Goals as goal
 
 pub ruled_darts-requires : goal.ruled_darts-requires
@@ -46,8 +44,8 @@ returns-in_err-darts-clause-grafted g c =
     (grafts-as k rows older (λ i. (i < c.loop-dim.dim) × IsSome (rule_at c.args.rules.now i)) (λ i. IsSome (rule_at c.args.rules.now i)) c.args.labels.now c.loop-dim.labels (λ i d. d.1) c.loop-dim.invariant.0)
     (grafts-as k rows older (λ i. (i ≡ c.loop-dim.dim) × IsSome (rule_at c.args.rules.now i)) (λ i. IsSome (rule_at c.args.rules.now i)) c.loop-dim.labels c.ruled_darts.new.labels (λ i d. d.1) c.ruled_darts.ensures.grafted)
 
-pub returns-in_err-push-clause-grafted : goal.returns-in_err-push-clause-grafted
-returns-in_err-push-clause-grafted g c =
+pub returns-in_err-put_list-clause-grafted : goal.returns-in_err-put_list-clause-grafted
+returns-in_err-put_list-clause-grafted g c =
     let k = g.K.Kind.kind in
     let rows : Rows = c.args.links.now.rows in
     let older : ℕ = made rows - c.args.edit.now.births in
@@ -63,16 +61,15 @@ loop-dim-preserved g c =
     let dim : ℕ = c.loop-dim.dim in
     let now : Labeling = c.ruled_darts.new.labels in
     let before : List (List ℕ) = map (λ darts. darts.items) c.loop-dim.by_dim.items in
-    let pushed = ap (map (λ darts. darts.items)) c.in_ok-push.ensures.items ∙ map-append (λ darts. darts.items) c.loop-dim.by_dim.items (c.in_ok-darts.darts ∷ []) in (
+    let after : List (List ℕ) = map (λ darts. darts.items) c.put_list.new.lists.items in (
       grafts-then k rows older (λ i. (i < dim + 1) × IsSome (rule_at c.args.rules.now i)) c.args.labels.now c.loop-dim.labels now
           (grafts-as k rows older (λ i. (i < dim) × IsSome (rule_at c.args.rules.now i)) (λ i. (i < dim + 1) × IsSome (rule_at c.args.rules.now i)) c.args.labels.now c.loop-dim.labels
           (λ i d. (let low : i < dim = d.0 in omega arith, d.1)) c.loop-dim.invariant.0)
           (grafts-as k rows older (λ i. (i ≡ dim) × IsSome (rule_at c.args.rules.now i)) (λ i. (i < dim + 1) × IsSome (rule_at c.args.rules.now i)) c.loop-dim.labels now
           (λ i d. (let same : i ≡ dim = d.0 in omega arith, d.1)) c.ruled_darts.ensures.grafted),
-      subst (AreChangedBelow k g.row.DIM c.args.edit.now rows c.args.rules.now now (dim + 1)) (sym pushed)
-          (listed-more (λ i. IsLive rows) (IsChangedIn k g.row.DIM c.args.edit.now rows c.args.rules.now now) dim before c.in_ok-darts.darts.items
+      listed-more (λ i. IsLive rows) (IsChangedIn k g.row.DIM c.args.edit.now rows c.args.rules.now now) dim before after c.in_ok-darts.darts.items
           (changed-later k g.row.DIM c.args.edit.now rows c.args.rules.now older c.loop-dim.labels now dim before c.ruled_darts.ensures.grafted c.loop-dim.invariant.1)
-          c.in_ok-darts.ensures.live c.in_ok-darts.ensures.all),
+          c.in_ok-put_list.ensures c.in_ok-darts.ensures.live c.in_ok-darts.ensures.all,
     )
 
 pub returns-clause-grafted : goal.returns-clause-grafted
@@ -87,3 +84,7 @@ returns-clause-all g c = λ i x changed.
       | inr high ↦ absurd (let none : rule_at c.args.rules.now i ≡ None = get_or_past c.args.rules.now i None (omega (arith, high, c.requires.rules, c.loop-dim-test.false, c.dimension-dim-end.ensures.dimension)) in false≢true (subst (λ o. IsSome o) none changed.0))
     ] in
     c.loop-dim.invariant.1.all i x below changed
+
+pub put_list-requires : goal.put_list-requires
+put_list-requires g c =
+    let long = length-map c.loop-dim.by_dim.items (λ darts. darts.items) in let few = c.loop-dim.invariant.1.size in omega (arith, long, few)

@@ -17,29 +17,33 @@ returns-then-not-may_touch-clause-unsettled g c = λ x from.
     x from)
 
 pub graft_born-requires : goal.graft_born-requires
-graft_born-requires g c = (
-  lit< tt,
-  (
-    lit< tt,
-    (
-      c.made.ensures.sound,
+graft_born-requires g c =
+    let births-is : c.edit.inside.births ≡ c.args.edit.now.births = ap (λ (e : Edit). e.births) c.edit.view_is in (
+      lit< tt,
       (
-        omega (arith, c.made.ensures.made),
+        lit< tt,
         (
-          c.requires.dim,
+          c.made.ensures.sound,
           (
-            c.requires.long,
+            omega (arith, c.made.ensures.made),
             (
-              c.requires.placed,
-              λ w. subst (λ (ws : List LinkWord). Contains ws w ↔ (IsCellWord g.K.Kind.kind c.args.dim w × IsWithin g.row.DIM w)) (sym c.deref-2.ensures.value)
-                  (subst (λ (d : ℕ). Contains c.in_ok-words.words.items w ↔ (IsCellWord g.K.Kind.kind c.args.dim w × IsWithin d w)) c.dimension.ensures.dimension (c.in_ok-words.ensures w)),
+              c.requires.dim,
+              (
+                c.requires.long,
+                (
+                  c.requires.placed,
+                  (
+                    λ d high. c.requires.bare d (omega (arith, c.made.ensures.made, births-is)),
+                    λ w. subst (λ (ws : List LinkWord). Contains ws w ↔ (IsCellWord g.K.Kind.kind c.args.dim w × IsWithin g.row.DIM w)) (sym c.deref-2.ensures.value)
+                        (subst (λ (d : ℕ). Contains c.in_ok-words.words.items w ↔ (IsCellWord g.K.Kind.kind c.args.dim w × IsWithin d w)) c.dimension.ensures.dimension (c.in_ok-words.ensures w)),
+                  ),
+                ),
+              ),
             ),
           ),
         ),
       ),
-    ),
-  ),
-)
+    )
 
 pub add_touched-requires : goal.add_touched-requires
 add_touched-requires g c =

@@ -1,4 +1,4 @@
-use Rattle.std.proofs.Common.{ℕ, ◌≡◌, ◌+◌, ◌<◌, ◌≤◌, lit<, sym, subst, ◌∙◌, arith}
+use Rattle.std.proofs.Common.{◌≡◌, ◌+◌, ◌<◌, ◌≤◌, lit<, ◌∙◌, arith}
 use Rattle.map_defs.specs.Rows.{Rows, made}
 use Rattle.label_laws.specs.Touching.{IsBornApart}
 use Rattle.valued_map.proofs.Adding.{added-none, added-told}
@@ -18,7 +18,7 @@ graft-requires g c =
             c.requires.dim,
             (
               omega (arith, c.loop-number-test.true, c.made-number-end.ensures.made, c.requires.long, grafted.made),
-              ((grafted.places c.args.dim).1 c.requires.placed, c.requires.words),
+              ((grafted.places c.args.dim).1 c.requires.placed, (c.loop-number.invariant.3 c.loop-number.number (omega arith), c.requires.words)),
             ),
           ),
         ),
@@ -31,17 +31,19 @@ loop-number-init g c = (
   grafts-none g.K.Kind.kind c.args.links.now.rows c.args.older (λ i. i ≡ c.args.dim) c.args.labels.now,
   added-none c.args.links.now.rows (λ x. (x < c.args.older + 1) × IsBornApart g.K.Kind.kind c.args.dim c.args.links.now.rows c.args.older c.args.labels.now x) c.args.touched.now.items
       (λ x w live. (let (below, (lives, (v, cell, high, less, apart))) = w in omega arith)),
+  λ d high. c.requires.bare d (omega arith),
 )
 
 pub loop-number-preserved : goal.loop-number-preserved
 loop-number-preserved g c =
     let k = g.K.Kind.kind in
     let rows : Rows = c.args.links.now.rows in
-    let (high, grafted, added) = c.loop-number.invariant in (
+    let (high, grafted, added, bare) = c.loop-number.invariant in (
       omega arith,
       grafts-then k rows c.args.older (λ i. i ≡ c.args.dim) c.args.labels.now c.loop-number.labels c.graft.new.labels grafted (c.graft.ensures.grafted c.args.older high),
       born-more k c.args.dim rows c.args.older c.loop-number.labels c.graft.new.labels c.loop-number.number c.graft.ensures.others
           c.args.touched.now.items c.loop-number.touched.items c.graft.new.touched.items added c.in_ok-graft.ensures.added,
+      λ d above. c.graft.ensures.others c.args.dim d (λ same. omega (arith, same)) ∙ bare d (omega arith),
     )
 
 pub returns-in_err-graft-clause-grafted : goal.returns-in_err-graft-clause-grafted

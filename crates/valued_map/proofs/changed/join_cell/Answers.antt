@@ -10,7 +10,7 @@ returns-in_default-clause-grafted g c = λ older high. grafts-none g.K.Kind.kind
 
 pub returns-clause-grafted : goal.returns-clause-grafted
 returns-clause-grafted g c = λ older high.
-    let (w, here, there, is) = c.in-Some.ensures in
+    let (w, here, there, is) = c.in-Some.ensures.some in
     grafts-one g.K.Kind.kind c.args.links.now.rows older c.args.dim c.args.dart c.in-Some.id c.args.labels.now c.put.new.self high c.put.ensures.after c.put.ensures.made c.put.ensures.places
     (w, ((c.requires.words w).0 here).0, there, is)
 

@@ -1,6 +1,6 @@
-use Rattle.std.proofs.Common.{◌≡◌, ◌≢◌, ◌∙◌, lit<, sym, subst, eqb-true}
+use Rattle.std.proofs.Common.{◌≢◌, ◌∙◌, lit<, sym, subst, eqb-true}
 use Rattle.std.proofs.lemmas.Bool.{false≢true}
-use Rattle.map_defs.specs.LinkWords.{LinkWord, through}
+use Rattle.map_defs.specs.LinkWords.{through}
 use Rattle.map_defs.specs.Rows.{links_of}
 use Rattle.map_defs.specs.Cells.{InCell, here, onward}
 use Rattle.value_laws.proofs.MapValues.{cell_trans}

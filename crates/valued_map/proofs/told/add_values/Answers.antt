@@ -1,4 +1,4 @@
-use Rattle.std.proofs.Common.{ℕ, ◌≡◌, List, sym, ap, ◌∙◌}
+use Rattle.std.proofs.Common.{ℕ, List, sym}
 use Rattle.machine_defs.specs.Difference.{ValueChange}
 use Rattle.label_laws.proofs.Loops.{item-dart}
 use Rattle.valued_map.specs.Told.{old_value}

@@ -1,4 +1,4 @@
-use Rattle.std.proofs.Common.{ℕ, ◌≤◌, ◌<◌, refl, arith}
+use Rattle.std.proofs.Common.{◌≤◌, refl, arith}
 use Rattle.map_defs.specs.Rows.{links_of, made}
 use Rattle.map_defs.specs.Cells.{InCell}
 use Rattle.valued_map.proofs.LiveDarts.{cell-made}

@@ -1,11 +1,12 @@
-use Rattle.std.proofs.Common.{ℕ, ◌≡◌, ◌≢◌, ◌≤◌, ◌<◌, Option, lit<, sym, ap, subst, ◌∙◌}
-use Rattle.map_defs.specs.Kind.{inverse}
-use Rattle.map_defs.specs.LinkWords.{LinkWord, through}
+use Rattle.std.specs.Prelude.{IsTrue}
+use Rattle.std.proofs.Common.{ℕ, ◌≡◌, ◌≢◌, ◌≤◌, ◌<◌, lit<, sym, ap, subst, ◌∙◌}
+use Rattle.map_defs.specs.Kind.{Kind, inverse}
+use Rattle.map_defs.specs.LinkWords.{LinkWord}
 use Rattle.map_defs.specs.Rows.{Rows, links_of}
+use Rattle.map_defs.specs.Cells.{InCell}
 use Rattle.map_defs.specs.Edits.{Change}
 use Rattle.link_laws.proofs.Basics.{inverse_within}
 use Rattle.store_defs.specs.Labelings.{id_of}
-use Rattle.label_laws.specs.Touching.{IsSettledAlong}
 use Rattle.valued_map.specs.Changing.{IsThenUnsettled}
 use Rattle.valued_map.proofs.Adding.{added-none}
 use Rattle.valued_map.proofs.Rerouting.{comes-from, came-before}
@@ -27,7 +28,7 @@ led_elsewhere-requires g c =
 pub returns-then-number-older : goal.returns-then-number-older
 returns-then-number-older g c =
     added-none rows (IsThenUnsettled g.K.Kind.kind g.row.DIM c.args.edit.now rows c.args.dim c.args.labels.now c.args.word c.args.change) c.args.touched.now.items
-    (λ x (old, led, (second, at, was, stood, off)) _. elim c.then-number-older.branch [
+    (λ x (old, led, (second, at, was, stood, stands, off)) _. elim c.then-number-older.branch [
       | then-number-older-via-then-number-older w ↦
           came-before g.K.Kind.kind g.row.DIM c.args.edit.now old rows led c.requires.sound c.args.change.dart c.args.word.first c.requires.live x at was c.args.older c.requires.older
           (subst (λ (m : ℕ). c.args.older < m) (c.number.ensures.same ∙ same x at) w.if-number-older.true)
@@ -49,3 +50,31 @@ returns-then-number-older g c =
         c.in-Some.ensures.linked ∙ ap (λ (j : ℕ). links_of rows j c.change.inside.dart) (c.inverse.ensures ∙ ap (inverse g.K.Kind.kind) first-is)
         ∙ ap (links_of rows (inverse g.K.Kind.kind c.args.word.first)) dart-is
         ∙ comes-from g.K.Kind.kind g.row.DIM rows c.requires.sound c.args.change.dart c.args.word.first c.requires.live x at
+
+pub returns-then-is_settled : goal.returns-then-is_settled
+returns-then-is_settled g c =
+    added-none rows (IsThenUnsettled k g.row.DIM c.args.edit.now rows i c.args.labels.now c.args.word c.args.change) c.args.touched.now.items
+    (λ x (old, led, (second, at, was, stood, stands, off)) _. off (settled-then k i old rows c.args.labels.now c.args.word (((c.requires.words c.args.word).0 c.requires.word).0) x c.change-2.inside.new c.change-2.inside.old
+    (subst (λ (y : ℕ). c.change-2.inside.new ≢ 0 → id_of c.args.labels.now i c.change-2.inside.new ≡ id_of c.args.labels.now i y) (same x at) (c.is_settled.ensures.alike yes))
+    (subst (λ (y : ℕ). (c.change-2.inside.new ≢ 0 → InCell k (links_of rows) i y c.change-2.inside.new) → c.change-2.inside.old ≢ 0 → InCell k (links_of rows) i y c.change-2.inside.old) (same x at) (c.is_settled.ensures.kept yes))
+    c.args.change second at was
+    (stands ∙ sym (ap (λ (b : Change). b.new) c.change-2.view_is))
+    (stood ∙ sym (ap (λ (b : Change). b.old) c.change-2.view_is))))
+  where
+    yes : IsTrue c.is_settled.result
+    yes = c.if-is_settled.true
+
+    k : Kind
+    k = g.K.Kind.kind
+
+    rows : Rows
+    rows = c.args.links.now.rows
+
+    i : ℕ
+    i = c.args.dim
+
+    same : (x : ℕ) → links_of rows c.args.word.first x ≡ c.args.change.dart → c.in-Some.dart ≡ x
+    same x at =
+        c.in-Some.ensures.linked ∙ ap (λ (j : ℕ). links_of rows j c.change.inside.dart) (c.inverse.ensures ∙ ap (inverse k) (ap (λ (w : LinkWord). w.first) c.word.view_is))
+        ∙ ap (links_of rows (inverse k c.args.word.first)) (ap (λ (b : Change). b.dart) c.change.view_is)
+        ∙ comes-from k g.row.DIM rows c.requires.sound c.args.change.dart c.args.word.first c.requires.live x at

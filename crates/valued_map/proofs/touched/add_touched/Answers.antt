@@ -1,4 +1,4 @@
-use Rattle.std.proofs.Common.{ℕ, ◌≡◌, ◌⊎◌, ◌+◌, ◌<◌, ◌≤◌, List, length, Contains, lit<, ◌∙◌, sym, ap, subst, arith}
+use Rattle.std.proofs.Common.{ℕ, ◌≡◌, ◌⊎◌, ◌+◌, ◌<◌, ◌≤◌, List, length, Contains, lit<, ◌∙◌, ap, subst, arith}
 use Rattle.map_defs.specs.Rows.{Rows, IsLive, made}
 use Rattle.map_defs.specs.LinkWords.{LinkWord}
 use Rattle.map_defs.specs.Edits.{Change, Edit}
