@@ -2,14 +2,10 @@
 //! id, and nothing else of it is looked at.
 ghost use Rattle.std.specs.Prelude.{◌≡◌, ◌≢◌, ◌↔◌, ℕ, ◌+◌, ◌-◌, ◌≤◌, ◌<◌, length, map, Contains, IsTrue, IsNone, IsSome, IfOk, IfSome, None, OnOk};
 ghost use Rattle.map_defs.specs.LinkWords.{LinkWord as MapWord, through, IsCellWord, IsWithin};
-ghost use Rattle.map_defs.specs.Rows.{Rows, IsLive, IsSound, links_of, made};
-ghost use Rattle.map_defs.specs.Laws.{Laws};
-ghost use Rattle.map_defs.specs.Edits.{IsLed};
-ghost use Rattle.store_defs.specs.Stores.{Store};
-ghost use Rattle.store_defs.specs.Labelings.{id_of, HasPlaces, KeepsPlaces};
+ghost use Rattle.map_defs.specs.Rows.{IsLive, IsSound, links_of, made};
+ghost use Rattle.store_defs.specs.Labelings.{id_of, HasPlaces};
 ghost use Rattle.store_defs.specs.Groups.{darts_in, rule_at};
-ghost use Rattle.label_laws.specs.Maps.{IsStoredMap};
-ghost use Rattle.label_laws.specs.Touching.{Spares, AreGrafted, IsBornApart};
+ghost use Rattle.label_laws.specs.Touching.{AreGrafted, IsBornApart};
 ghost use Rattle.valued_map.specs.Changing.{AreAdded, IsListPut, IsApartAlong, LeadsApart, IsUnsettledFrom, IsChangedIn};
 
 use crate::passing::may_touch;

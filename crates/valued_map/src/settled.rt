@@ -1,8 +1,8 @@
 //! Darts that need no look along a word of a dimension's cells, since it leads to a dart with the same id, and the dart to
 //! which it led is in the cell still.
-ghost use Rattle.std.specs.Prelude.{◌≡◌, ◌≢◌, ◌↔◌, ℕ, Contains, IsTrue};
-ghost use Rattle.map_defs.specs.LinkWords.{LinkWord as MapWord, through, IsCellWord, IsWithin};
-ghost use Rattle.map_defs.specs.Rows.{IsLive, links_of};
+ghost use Rattle.std.specs.Prelude.{◌≡◌, ◌≢◌, ◌↔◌, Contains, IsTrue};
+ghost use Rattle.map_defs.specs.LinkWords.{LinkWord as MapWord, IsCellWord, IsWithin};
+ghost use Rattle.map_defs.specs.Rows.{links_of};
 ghost use Rattle.map_defs.specs.Cells.{InCell};
 ghost use Rattle.store_defs.specs.Labelings.{id_of};
 

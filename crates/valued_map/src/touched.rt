@@ -1,5 +1,5 @@
 //! Which darts an edit touches.
-ghost use Rattle.std.specs.Prelude.{◌≡◌, ◌≢◌, ℕ, ◌+◌, ◌≤◌, ◌<◌, ◌↔◌, Contains, IsTrue, IfOk, IfSome, IsNone, OnOk};
+ghost use Rattle.std.specs.Prelude.{◌≡◌, ◌≢◌, ◌+◌, ◌≤◌, ◌<◌, ◌↔◌, Contains, IsTrue, IfSome, IsNone, OnOk};
 ghost use Rattle.map_defs.specs.Kind.{inverse};
 ghost use Rattle.map_defs.specs.LinkWords.{LinkWord as MapWord, through_second, IsCellWord, IsWithin};
 ghost use Rattle.map_defs.specs.Rows.{Rows, IsLive, IsSound, links_of, made};
