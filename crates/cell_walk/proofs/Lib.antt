@@ -12,3 +12,5 @@ mod SinceDarts
 mod SurveyFacts
 mod Walks
 mod ManyOrbits
+mod MarkedDarts
+mod QueuedDarts

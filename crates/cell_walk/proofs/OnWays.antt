@@ -10,7 +10,7 @@ use Rattle.link_laws.proofs.CellTurns.{word_turns}
 use Rattle.cell_walk.specs.Visits.{IsClosed}
 use Rattle.cell_walk.specs.declared.ways.Way.{Way}
 use Rattle.cell_walk.specs.declared.ways.Ways.{Ways}
-use Rattle.cell_walk.specs.Ways.{IsEither, IsLink, TakesTurns, AreWays, IsFollowed}
+use Rattle.cell_walk.specs.Ways.{IsEither, IsLink, TakesTurns, AreWays, AreAlong, IsFollowed}
 use Rattle.cell_walk.proofs.CellDarts.{orbit-wider}
 use Rattle.cell_walk.proofs.Walks.{Contains-before}
 
@@ -290,7 +290,7 @@ abbrev word_of : ℕ → Option ℕ → LinkWord
 word_of first second = record { first = first; second = second }
 
 -- a word of one link is told by that link
-link-is : (w : LinkWord) (i : ℕ) → i ≡ w.first → IsLink w → one_link i ≡ w
+pub link-is : (w : LinkWord) (i : ℕ) → i ≡ w.first → IsLink w → one_link i ≡ w
 link-is w i is single = ap one_link is ∙ ap (word_of w.first) (sym single)
 
 -- a way whose words are one link each was followed along these links
@@ -299,3 +299,15 @@ pub followed-links : (k : Kind) (L : Links) (way : Way) (one other d : ℕ) (old
 followed-links k L way one other d old new first second single step =
     subst (λ w. IsFollowed k L w way.after d old new) (link-is way.next one first single.0)
     (subst (λ w. IsFollowed k L (one_link one) w d old new) (link-is way.after other second single.1) step)
+
+-- ways of the same words go along the same words
+pub along-alike : (k : Kind) (words : List LinkWord) (f g b c : LinkWord) (ways : Ways) → f ≡ ways.forth.next → g ≡ ways.forth.after → b ≡ ways.back.next → c ≡ ways.back.after
+    → AreAlong k words ways → AreAlong k words (record { forth = record { next = f; after = g }; back = record { next = b; after = c } })
+along-alike k words f g b c ways first second third fourth along = record {
+  same = λ w. subst (λ x. Contains words w ↔ IsEither f x w) (sym third) (subst (λ x. Contains words w ↔ IsEither x ways.back.next w) (sym first) (along.same w));
+  turns =
+      subst (λ x. AreWays k f g b x) (sym fourth)
+      (subst (λ x. AreWays k f g x ways.back.after) (sym third)
+      (subst (λ x. AreWays k f x ways.back.next ways.back.after) (sym second)
+      (subst (λ x. AreWays k x ways.forth.after ways.back.next ways.back.after) (sym first) along.turns)));
+}

@@ -4,3 +4,4 @@ pub mod Marks
 pub mod CellLists
 pub mod Ways
 pub mod CellCourses
+pub mod Sweeps

@@ -1,8 +1,9 @@
 -- What the whole-map calls have found when they have looked at the darts below some number.
-use Rattle.std.specs.Prelude.{ℕ, ◌≢◌, ◌≤◌, ◌<◌, List, Contains}
+use Rattle.std.specs.Prelude.{ℕ, ◌≢◌, ◌≤◌, ◌<◌, Bool, List, Contains}
 use Rattle.std.specs.List.Sorted.{IsStrictlyIncreasing}
 use Rattle.map_defs.specs.Cells.{InOrbit}
 use Rattle.cell_walk.specs.Visits.{IsClosed}
+use Rattle.cell_walk.specs.Marks.{AreMarked}
 
 -- each step from a dart can be taken back
 abbrev pub TurnsBack : (ℕ → ℕ → Type 0) → Type 0
@@ -21,3 +22,7 @@ pub record IsSurveyed (Step : ℕ → ℕ → Type 0) (Live : ℕ → Type 0) (n
   pub sound : (d : ℕ) → Contains least d → (d < next) × Live d × IsLeast Step d
   pub whole : (d : ℕ) → d < next → Live d → IsLeast Step d → Contains least d
   pub ascending : IsStrictlyIncreasing least
+
+-- the same, where what was found is marked
+abbrev pub AreSurveyed : (ℕ → ℕ → Type 0) → (ℕ → Type 0) → ℕ → List Bool → List ℕ → Type 0
+AreSurveyed Step Live next marks least = (found : List ℕ) × AreMarked marks found × IsSurveyed Step Live next found least

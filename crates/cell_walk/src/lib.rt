@@ -3,12 +3,16 @@
 
 mod around;
 mod found;
+mod marks;
 mod one_cell;
 mod orbits;
+mod rings;
 mod rounds;
 mod search;
 mod seen;
+mod spread;
 mod surface;
+mod sweep;
 #[cfg(test)]
 mod tests;
 mod ways;

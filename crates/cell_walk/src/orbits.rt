@@ -211,12 +211,14 @@ pub(crate) fn visit<S: Seen, K: Kind, const DIM: usize>(
 }
 
 /// The number of the dart to which a word leads from the dart whose row this is; 0 where a link on its way is free.
-fn number_from<K: Kind, const DIM: usize>(
+#[inline(always)]
+pub(crate) fn number_from<K: Kind, const DIM: usize>(
     links: &Links<K, DIM>,
     row: &Row<DIM>,
     word: LinkWord,
 ) -> u32
-    requires { IsWithin DIM word }
+    requires within { IsWithin DIM word }
+    requires whose { (dart : ℕ) × ((link : ℕ) → slice_index row.now link ≡ links_of links.now.rows link dart) }
     ensures { (dart : ℕ) → ((link : ℕ) → slice_index row.now link ≡ links_of links.now.rows link dart)
         → result ≡ through (links_of links.now.rows) word dart }
 {
@@ -225,7 +227,7 @@ fn number_from<K: Kind, const DIM: usize>(
         return 0;
     };
     match word.second {
-        Some(second) => links.number_at(reached, second),
+        Some(second) => links.live_row(reached).entry(second),
         None => reached.number(),
     }
 }

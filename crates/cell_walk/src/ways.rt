@@ -82,8 +82,8 @@ fn are_links(words: &[LinkWord]) -> bool
     words.iter().all(|word| word.second.is_none())
 }
 
-/// The ways along two words where each dart's words are one that leads back and one that leads on: the words are inverse to
-/// each other, or each to itself. Then orbits are paths and rings, such as the cells of a surface.
+/// The ways along one word or two where each dart's words are one that leads back and one that leads on: the words are
+/// inverse to each other, or each to itself. Then orbits are paths and rings, such as the cells of a surface.
 fn ways_along<K: Kind>(words: &[LinkWord]) -> Option<Ways>
     ensures same { IfSome result (λ ways. (w : MapWord)
         → Contains words.now w ↔ IsEither ways.forth.next ways.back.next w) }
@@ -91,6 +91,7 @@ fn ways_along<K: Kind>(words: &[LinkWord]) -> Option<Ways>
         AreWays K.kind ways.forth.next ways.forth.after ways.back.next ways.back.after) }
 {
     let (one, other) = match words {
+        [only] => (*only, *only),
         [one, other] => (*one, *other),
         _ => return None,
     };
@@ -155,7 +156,7 @@ pub(crate) fn go_round<S: Seen, K: Kind, const DIM: usize>(
 }
 
 /// Whether both words of a way are one link each.
-fn is_along_links(way: &Way) -> bool
+pub(crate) fn is_along_links(way: &Way) -> bool
     ensures { IsTrue result ↔ (IsLink way.now.next × IsLink way.now.after) }
 {
     way.next.second.is_none() && way.after.second.is_none()

@@ -1,17 +1,23 @@
-ghost use Rattle.std.specs.Prelude.{◌≡◌, ℕ, ◌+◌, ◌≤◌, ◌↔◌, All, Contains, IfOk, OnOk, map};
+ghost use Rattle.std.specs.Prelude.{◌≡◌, ℕ, ◌+◌, ◌<◌, ◌≤◌, ◌↔◌, length, All, Contains, IfOk, OnOk, map};
 ghost use Rattle.std.specs.List.{range_with_len};
 ghost use Rattle.std.specs.List.Sorted.{IsStrictlyIncreasing};
 ghost use Rattle.map_defs.specs.Rows.{IsLive, IsSound, links_of};
 ghost use Rattle.map_defs.specs.LinkWords.{one_link, IsWithin};
 ghost use Rattle.map_defs.specs.Cells.{Leads, NamesCell, NamesComponent};
 ghost use Rattle.map_defs.specs.Counts.{AreCounts};
-ghost use Rattle.cell_walk.specs.Surveys.{TurnsBack, IsLeast, IsSurveyed};
+ghost use Rattle.cell_walk.specs.Surveys.{TurnsBack, IsLeast, IsSurveyed, AreSurveyed};
+ghost use Rattle.cell_walk.specs.Marks.{IsMarked, IsMarkedMore, IsOrbitFound};
+ghost use Rattle.cell_walk.specs.Sweeps.{IsSweep};
 ghost use Rattle.cell_walk.specs.CellLists.{AreCellsOf, AreOrbitsOf, lists_of};
 ghost use Rattle.cell_walk.specs.Ways.{IsCourse};
 
 use crate::found::Found;
+use crate::marks::clear_marks;
 use crate::orbits::walk;
+use crate::rings::{mark_again, mark_turns};
 use crate::seen::Marks;
+use crate::spread::mark_spread;
+use crate::sweep::{Sweep, sweep_along};
 use crate::ways::{Course, course_along};
 use link_rows::Links;
 use map_kind::{Dart, Kind, LinkWord};
@@ -28,8 +34,7 @@ pub fn cells<K: Kind, const DIM: usize>(
         → Contains cells.items d ↔ (IsLive links.now.rows d × NamesCell K.kind (links_of links.now.rows) dim d)) }
     ensures ascending { IfOk result (λ cells. IsStrictlyIncreasing cells.items) }
 {
-    let mut found = Found::<Marks>::new(alloc);
-    cells_with(alloc, links, dim, &mut found)
+    cells_with(alloc, links, dim, &mut Vec::new(alloc), &mut Vec::new(alloc))
 }
 
 /// The cells of a dimension, by their least darts, ascending.
@@ -63,7 +68,8 @@ fn cells_with<K: Kind, const DIM: usize>(
     alloc: Global,
     links: &Links<K, DIM>,
     dim: usize,
-    found: &mut Found<Marks>,
+    marks: &mut Vec<bool>,
+    queue: &mut Vec<Dart>,
 ) -> Result<Vec<Dart>, AllocError>
     requires { dim ≤ DIM }
     ensures members { IfOk result (λ cells. (d : ℕ)
@@ -71,7 +77,7 @@ fn cells_with<K: Kind, const DIM: usize>(
     ensures ascending { IfOk result (λ cells. IsStrictlyIncreasing cells.items) }
 {
     let words = K::words(alloc, links.dimension(), dim)?;
-    least_darts(alloc, links, &words, found)
+    least_darts(alloc, links, &words, marks, queue)
 }
 
 /// The least darts of all components, by which the components are named, ascending.
@@ -83,22 +89,22 @@ pub fn components<K: Kind, const DIM: usize>(
         → Contains components.items d ↔ (IsLive links.now.rows d × NamesComponent (links_of links.now.rows) d)) }
     ensures ascending { IfOk result (λ components. IsStrictlyIncreasing components.items) }
 {
-    let mut found = Found::<Marks>::new(alloc);
-    components_with(alloc, links, &mut found)
+    components_with(alloc, links, &mut Vec::new(alloc), &mut Vec::new(alloc))
 }
 
 /// The same, with the memory of an earlier walk.
 fn components_with<K: Kind, const DIM: usize>(
     alloc: Global,
     links: &Links<K, DIM>,
-    found: &mut Found<Marks>,
+    marks: &mut Vec<bool>,
+    queue: &mut Vec<Dart>,
 ) -> Result<Vec<Dart>, AllocError>
     ensures members { IfOk result (λ components. (d : ℕ)
         → Contains components.items d ↔ (IsLive links.now.rows d × NamesComponent (links_of links.now.rows) d)) }
     ensures ascending { IfOk result (λ components. IsStrictlyIncreasing components.items) }
 {
     let words = single_words(alloc, links.dimension())?;
-    least_darts(alloc, links, &words, found)
+    least_darts(alloc, links, &words, marks, queue)
 }
 
 /// How many live darts, cells of dimensions 0 to `DIM`, and components there are, in this order.
@@ -108,13 +114,16 @@ pub fn counts<K: Kind, const DIM: usize>(
 ) -> Result<Vec<u64>, AllocError>
     ensures { IfOk result (λ counts. AreCounts K.kind DIM links.now.rows counts.items) }
 {
-    let mut found = Found::<Marks>::new(alloc);
+    let mut marks = Vec::new(alloc);
+    let mut queue = Vec::new(alloc);
     let mut counts = Vec::new(alloc);
     counts.push(u64::from(links.live_count()))?;
     for dim in 0..links.dimension() + 1 {
-        counts.push(cells_with(alloc, links, dim, &mut found)?.len() as u64)?;
+        let cells = cells_with(alloc, links, dim, &mut marks, &mut queue)?;
+        counts.push(cells.len() as u64)?;
     }
-    counts.push(components_with(alloc, links, &mut found)?.len() as u64)?;
+    let components = components_with(alloc, links, &mut marks, &mut queue)?;
+    counts.push(components.len() as u64)?;
     Ok(counts)
 }
 
@@ -131,7 +140,8 @@ fn least_darts<K: Kind, const DIM: usize>(
     alloc: Global,
     links: &Links<K, DIM>,
     words: &[LinkWord],
-    found: &mut Found<Marks>,
+    marks: &mut Vec<bool>,
+    queue: &mut Vec<Dart>,
 ) -> Result<Vec<Dart>, AllocError>
     requires within { All (IsWithin DIM) words.now }
     requires turns { TurnsBack (Leads (links_of links.now.rows) (Contains words.now)) }
@@ -139,42 +149,90 @@ fn least_darts<K: Kind, const DIM: usize>(
         → Contains darts.items d ↔ (IsLive links.now.rows d × IsLeast (Leads (links_of links.now.rows) (Contains words.now)) d)) }
     ensures ascending { IfOk result (λ darts. IsStrictlyIncreasing darts.items) }
 {
-    found.restart(links.made())?;
-    let course = course_along::<K>(words);
+    links.see_sound();
+    clear_marks(marks, links.made())?;
+    let sweep = sweep_along::<K>(words);
+    make_room(&sweep, queue, links.made())?;
     let mut least = Vec::new(alloc);
     for number in 1..links.made() + 1 {
         let dart = Dart::new(number).unwrap();
-        take_least(links, words, &course, dart, found, &mut least)?;
+        take_least(links, words, &sweep, dart, marks, queue, &mut least)?;
     }
     Ok(least)
 }
 
-/// Lists a live dart as the least of its orbit and finds the orbit, unless the orbit of a lesser dart has it.
+/// Makes room for the darts of a whole map, if those of an orbit are listed.
+fn make_room(sweep: &Sweep, queue: &mut Vec<Dart>, made: u32) -> Result<(), AllocError> {
+    match sweep {
+        Sweep::Turns(_, _) | Sweep::Again(_, _) => Ok(()),
+        _ => {
+            queue.clear();
+            queue.reserve(made as usize)
+        }
+    }
+}
+
+/// Lists a live dart as the least of its orbit and marks the orbit, unless the orbit of a lesser dart has it.
+#[inline(always)]
 fn take_least<K: Kind, const DIM: usize>(
     links: &Links<K, DIM>,
     words: &[LinkWord],
-    course: &Course,
+    sweep: &Sweep,
     dart: Dart,
-    found: &mut Found<Marks>,
+    marks: &mut [bool],
+    queue: &mut Vec<Dart>,
     least: &mut Vec<Dart>,
 ) -> Result<(), AllocError>
     requires sound { IsSound K.kind DIM links.now.rows }
     requires within { All (IsWithin DIM) words.now }
-    requires course { IsCourse K.kind words.now course.now }
+    requires sweep { IsSweep K.kind words.now sweep.now }
     requires turns { TurnsBack (Leads (links_of links.now.rows) (Contains words.now)) }
-    requires before { IsSurveyed (Leads (links_of links.now.rows) (Contains words.now)) (IsLive links.now.rows)
-        dart found.old least.old.items }
-    ensures { OnOk result (IsSurveyed (Leads (links_of links.now.rows) (Contains words.now)) (IsLive links.now.rows)
-        (dart + 1) found.new least.new.items) }
+    requires place { dart < length marks.old }
+    requires places { length links.now.rows ≤ length marks.old }
+    requires before { AreSurveyed (Leads (links_of links.now.rows) (Contains words.now)) (IsLive links.now.rows)
+        dart marks.old least.old.items }
+    ensures places { OnOk result (length marks.new ≡ length marks.old) }
+    ensures surveyed { OnOk result (AreSurveyed (Leads (links_of links.now.rows) (Contains words.now)) (IsLive links.now.rows)
+        (dart + 1) marks.new least.new.items) }
 {
-    if found.contains(dart) {
+    if marks[dart.number() as usize] {
         return Ok(());
     }
     if !links.is_live(dart) {
         return Ok(());
     }
     least.push(dart)?;
-    walk(links, words, course, dart, found)
+    mark_orbit(links, words, sweep, dart, marks, queue)
+}
+
+/// Marks the orbit of a live dart that was not marked.
+fn mark_orbit<K: Kind, const DIM: usize>(
+    links: &Links<K, DIM>,
+    words: &[LinkWord],
+    sweep: &Sweep,
+    dart: Dart,
+    marks: &mut [bool],
+    queue: &mut Vec<Dart>,
+) -> Result<(), AllocError>
+    requires within { All (IsWithin DIM) words.now }
+    requires sweep { IsSweep K.kind words.now sweep.now }
+    requires live { IsLive links.now.rows dart }
+    requires places { length links.now.rows ≤ length marks.old }
+    requires nothing { IsMarked marks.old 0 }
+    requires fresh { IsMarked marks.old dart → ⊥ }
+    ensures { OnOk result (IsMarkedMore (IsOrbitFound (Leads (links_of links.now.rows) (Contains words.now)) dart) marks.old marks.new) }
+{
+    match sweep {
+        Sweep::Turns(forth, back) => {
+            mark_turns(links, *forth, *back, dart, marks);
+            Ok(())
+        }
+        Sweep::Again(forth, back) => {
+            mark_again(links, *forth, *back, dart, marks);
+            Ok(())
+        }
+        _ => mark_spread(links, words, sweep, dart, marks, queue),
+    }
 }
 
 /// All orbits under words whose steps can be taken back, each with its darts.

@@ -1,4 +1,4 @@
-ghost use Rattle.std.specs.Prelude.{◌≡◌, ℕ, ◌+◌, ◌^◌, ◌≤◌, ◌<◌, ◌↔◌, [], ◌∷◌, None, reverse, map, option_map, option_copied, IsTrue, IfSome, IfNone, IsOk, OnOk, OnErr, IsErrOf};
+ghost use Rattle.std.specs.Prelude.{◌≡◌, ℕ, ◌+◌, ◌^◌, ◌≤◌, ◌<◌, ◌↔◌, [], ◌∷◌, None, reverse, map, option_map, option_copied, slice_index, IsTrue, IfSome, IfNone, IsOk, OnOk, OnErr, IsErrOf};
 ghost use Rattle.map_defs.specs.Rows.{entry_of, links_of};
 ghost use Rattle.map_defs.specs.Edits.{free_row, with_entry};
 ghost use Rattle.dart_arena.specs.Stock.{made, row_at, IsLive, live_count, IsStock, born, unborn, buried, revived, IsNextLive};
@@ -6,7 +6,7 @@ ghost use Rattle.dart_arena.specs.Stock.{made, row_at, IsLive, live_count, IsSto
 use crate::places::Places;
 use crate::row::Row;
 use crate::slots::{
-    entry_in, fill_rows, give_row, remove_dead, row_in, set_in_row, take_row, turn_row, widen,
+    entry_in, fill_rows, give_row, remove_dead, row_in, row_there, set_in_row, take_row, turn_row, widen,
 };
 use map_kind::Dart;
 use slab::Slab;
@@ -125,6 +125,14 @@ impl<const DIM: usize> Arena<DIM> {
         ensures { (link : ℕ) → entry_of (option_copied result) link ≡ links_of self.now.rows link dart }
     {
         row_in(&self.rows, self.places.key_to_read(place(dart)))
+    }
+
+    /// The row of a live dart, to read its entries from. It costs less than `row`, which asks whether there is one.
+    pub fn live_row(&self, dart: Dart) -> &Row<DIM>
+        requires { IsLive self.now dart }
+        ensures { (link : ℕ) → slice_index result.now link ≡ links_of self.now.rows link dart }
+    {
+        row_there(&self.rows, self.places.live_key(place(dart)))
     }
 
     /// The least live dart above a number; none exactly where no dart above it is live. It costs the darts that it

@@ -88,6 +88,19 @@ impl Places {
         }
     }
 
+    /// The key at a place where a dart lives.
+    pub fn live_key(&self, place: usize) -> usize
+        requires within { place < 2 ^ 32 }
+        requires lives { key_at (keys_of self.now) place ≢ 0 }
+        ensures { result ≡ key_at (keys_of self.now) place }
+    {
+        if self.in_order {
+            place + 1
+        } else {
+            self.keys[place] as usize
+        }
+    }
+
     /// Makes room for so many more places.
     pub fn reserve(&mut self, births: usize) -> Result<(), AllocError>
         ensures order { is_in_order self.new ≡ is_in_order self.old }

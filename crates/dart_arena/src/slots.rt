@@ -36,6 +36,15 @@ pub fn row_in<const DIM: usize>(rows: &Slab<Row<DIM>>, key: usize) -> Option<&Ro
     rows.get(key - 1)
 }
 
+/// The row under a key under which there is one.
+pub fn row_there<const DIM: usize>(rows: &Slab<Row<DIM>>, key: usize) -> &Row<DIM>
+    requires key { key ≢ 0 }
+    requires there { IsSome (row_under rows.now key) }
+    ensures { row_under rows.now key ≡ Some result.now }
+{
+    &rows[key - 1]
+}
+
 /// Takes a row of zeros for the dart at a place, and answers its key. While rows stand in the order of their places, it
 /// is there already. It takes no memory.
 pub fn take_row<const DIM: usize>(rows: &mut Slab<Row<DIM>>, in_order: bool, place: usize) -> usize

@@ -7,7 +7,8 @@ use Rattle.cell_walk.proofs.whole_map.least_darts.Goals as goal
 
 pub returns-clause-members : goal.returns-clause-members
 returns-clause-members g c =
+    let survey = c.loop-number.invariant.1 in
     surveyed-all (Leads (links_of c.args.links.now.rows) (Contains c.args.words.now)) (IsLive c.args.links.now.rows)
-    (rows-walkable g.K.Kind.kind g.row.DIM c.args.links.now.rows (Contains c.args.words.now) c.made-number-end.ensures.sound c.requires.turns)
-    c.loop-number.number c.loop-number.found c.loop-number.least.items
-    (λ d live. omega (arith, live-made c.args.links.now.rows d live, c.made-number-end.ensures.made)) c.loop-number.invariant
+    (rows-walkable g.K.Kind.kind g.row.DIM c.args.links.now.rows (Contains c.args.words.now) c.see_sound.ensures.sound c.requires.turns)
+    c.loop-number.number survey.0 c.loop-number.least.items
+    (λ d live. omega (arith, live-made c.args.links.now.rows d live, c.made-number-end.ensures.made)) survey.2

@@ -1,8 +1,10 @@
-use Rattle.std.proofs.Common.{Contains}
+use Rattle.std.proofs.Common.{◌≤◌, length, Contains}
 use Rattle.map_defs.specs.Cells.{Leads}
 use Rattle.map_defs.specs.Rows.{links_of, IsLive}
-use Rattle.cell_walk.specs.Surveys.{IsSurveyed}
+use Rattle.cell_walk.specs.Surveys.{AreSurveyed}
 use Rattle.cell_walk.proofs.whole_map.least_darts.Given as goal
 
 abbrev pub invariant-loop-number : goal.invariant-loop-number
-invariant-loop-number g l = IsSurveyed (Leads (links_of l.links.rows) (Contains l.words)) (IsLive l.links.rows) l.number l.found l.least.items
+invariant-loop-number g l =
+    (length l.links.rows ≤ length l.marks.items)
+    × AreSurveyed (Leads (links_of l.links.rows) (Contains l.words)) (IsLive l.links.rows) l.number l.marks.items l.least.items
