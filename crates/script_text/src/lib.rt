@@ -1,9 +1,11 @@
 //! The text of scripts: what a line tells, the reply to it, and logs.
 #![tactic(auto)]
 
+mod front;
 mod line;
 mod log;
 mod log_line;
+mod numbers;
 mod read;
 mod reply;
 #[cfg(test)]

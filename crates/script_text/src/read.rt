@@ -1,6 +1,7 @@
 //! What a line tells.
 ghost use Rattle.std.specs.Prelude.{◌≡◌, [], ◌∷◌, None, map, IfOk, IfErr, IfNone, IfSome};
 ghost use Rattle.std.specs.String.{string_bytes};
+ghost use Rattle.std.specs.Str.{bytes_eq};
 ghost use Rattle.std.specs.Option.{option_map, option_and_then};
 ghost use Rattle.machine_defs.specs.Script.{line_of, numerals, name, numbers_line, face_line, rule_line, set_line, value, only_name, found, alone, with_one, with_two, with_three};
 ghost use Rattle.map_defs.specs.TextWords.{words_of};
@@ -8,6 +9,8 @@ ghost use Rattle.text_words.specs.Taking.{words_in};
 ghost use Rattle.script_text.specs.Meanings.{line_meaning, Tell, IsSyntax};
 ghost use Rattle.script_text.specs.Reading.{Reads, now_of, items_of};
 
+use crate::front::take_first;
+use crate::numbers::{Numbers, read_numbers};
 use crate::{Change, Line, Question};
 use map_kind::{PATH_MAX, Refusal, Refused, Value};
 use std::alloc::Global;
@@ -26,7 +29,7 @@ pub fn read_line(alloc: Global, bytes: &[u8]) -> Result<Option<Line>, Refused>
     // a refusal is Syntax, where the words tell no line
     ensures refused { IfErr result (IsSyntax (words_of bytes.now)) }
 {
-    match take_word(without_comment(bytes)) {
+    match take_first(bytes) {
         None => Ok(None),
         Some((first, others)) => Ok(Some(read_words(alloc, first, others)?)),
     }
@@ -34,34 +37,38 @@ pub fn read_line(alloc: Global, bytes: &[u8]) -> Result<Option<Line>, Refused>
 
 /// The line that a first word and the words behind it tell.
 fn read_words(alloc: Global, first: &[u8], others: &[u8]) -> Result<Line, Refused>
-    ensures { Reads line_meaning (line_of (first.now ∷ words_in others.now)) result }
+    ensures { Reads line_meaning (line_of (first.now ∷ words_of others.now)) result }
 {
-    let Ok(first) = str::from_utf8(first) else {
-        return Err(Refused::Line(Refusal::Syntax));
-    };
     match read_numbers_line(first, others) {
         Some(line) => Ok(line),
-        None => read_worded_line(alloc, first, others),
+        None => read_worded_line(alloc, first, without_comment(others)),
     }
 }
 
 /// The line that a first word and the words behind it tell, where they tell none by numbers alone.
-fn read_worded_line(alloc: Global, first: &str, others: &[u8]) -> Result<Line, Refused>
+fn read_worded_line(alloc: Global, first: &[u8], others: &[u8]) -> Result<Line, Refused>
     requires { option_and_then (numbers_line first.now) (numerals (words_in others.now)) ≡ None }
     ensures { Reads line_meaning (line_of (first.now ∷ words_in others.now)) result }
 {
     if !are_text(others) {
         return Err(Refused::Line(Refusal::Syntax));
     }
-    match first {
-        "face" => read_face(alloc, others),
-        "rule" => read_rule(alloc, others),
-        "set" => Ok(read_set(others).ok_or(Refusal::Syntax)?),
-        "mark" => Ok(Line::Change(Change::Mark(read_only_name(alloc, others)?))),
-        "undo" => Ok(Line::Change(Change::Undo(read_only_name(alloc, others)?))),
-        "redo" => Ok(Line::Change(Change::Redo(read_only_name(alloc, others)?))),
-        "log" => Ok(Line::Question(Question::Log(read_only_name(alloc, others)?))),
-        _ => Err(Refused::Line(Refusal::Syntax)),
+    if is(first, b"face") {
+        read_face(alloc, others)
+    } else if is(first, b"rule") {
+        read_rule(alloc, others)
+    } else if is(first, b"set") {
+        Ok(read_set(others).ok_or(Refusal::Syntax)?)
+    } else if is(first, b"mark") {
+        Ok(Line::Change(Change::Mark(read_only_name(alloc, others)?)))
+    } else if is(first, b"undo") {
+        Ok(Line::Change(Change::Undo(read_only_name(alloc, others)?)))
+    } else if is(first, b"redo") {
+        Ok(Line::Change(Change::Redo(read_only_name(alloc, others)?)))
+    } else if is(first, b"log") {
+        Ok(Line::Question(Question::Log(read_only_name(alloc, others)?)))
+    } else {
+        Err(Refused::Line(Refusal::Syntax))
     }
 }
 
@@ -150,79 +157,101 @@ fn read_numerals(alloc: Global, words: &[&[u8]]) -> Result<Vec<u64>, Refused>
 }
 
 /// The line of a first word and the numbers that the words of a text write: at most three.
-fn read_numbers_line(first: &str, text: &[u8]) -> Option<Line>
-    ensures { option_map line_meaning result ≡ option_and_then (numbers_line first.now) (numerals (words_in text.now)) }
+fn read_numbers_line(first: &[u8], text: &[u8]) -> Option<Line>
+    ensures { option_map line_meaning result ≡ option_and_then (numbers_line first.now) (numerals (words_of text.now)) }
 {
-    let Some((a, text)) = take_word(text) else {
-        return line_alone(first);
-    };
-    let a = read_numeral(a)?;
-    let Some((b, text)) = take_word(text) else {
-        return line_with_one(first, a);
-    };
-    let b = read_numeral(b)?;
-    let Some((c, text)) = take_word(text) else {
-        return line_with_two(first, a, b);
-    };
-    let c = read_numeral(c)?;
-    match take_word(text) {
-        Some(_) => None,
-        None => line_with_three(first, a, b, c),
+    match read_numbers(text) {
+        Some(Numbers::Zero) => line_alone(first),
+        Some(Numbers::One(a)) => line_with_one(first, a),
+        Some(Numbers::Two(a, b)) => line_with_two(first, a, b),
+        Some(Numbers::Three(a, b, c)) => line_with_three(first, a, b, c),
+        None => None,
     }
 }
 
-fn line_alone(first: &str) -> Option<Line>
+/// Whether a word is this one.
+fn is(word: &[u8], name: &[u8]) -> bool
+    ensures { result ≡ bytes_eq word.now name.now }
+{
+    word == name
+}
+
+fn line_alone(first: &[u8]) -> Option<Line>
     ensures { option_map line_meaning result ≡ found first.now alone }
 {
-    match first {
-        "dart" => Some(Line::Change(Change::Dart)),
-        "dual" => Some(Line::Change(Change::Dual)),
-        "count" => Some(Line::Question(Question::Count)),
-        "show" => Some(Line::Question(Question::Show)),
-        "off" => Some(Line::Question(Question::Off)),
-        _ => None,
+    if is(first, b"dart") {
+        Some(Line::Change(Change::Dart))
+    } else if is(first, b"dual") {
+        Some(Line::Change(Change::Dual))
+    } else if is(first, b"count") {
+        Some(Line::Question(Question::Count))
+    } else if is(first, b"show") {
+        Some(Line::Question(Question::Show))
+    } else if is(first, b"off") {
+        Some(Line::Question(Question::Off))
+    } else {
+        None
     }
 }
 
-fn line_with_one(first: &str, a: u64) -> Option<Line>
+fn line_with_one(first: &[u8], a: u64) -> Option<Line>
     ensures { option_map line_meaning result ≡ option_map (λ line. line a) (found first.now with_one) }
 {
-    match first {
-        "polygon" => Some(Line::Change(Change::Polygon(a))),
-        "del" => Some(Line::Change(Change::Del(a))),
-        "vertex" => Some(Line::Change(Change::Vertex(a))),
-        "close" => Some(Line::Change(Change::Close(a))),
-        "dangle" => Some(Line::Change(Change::Dangle(a))),
-        "center" => Some(Line::Change(Change::Center(a))),
-        _ => None,
+    if is(first, b"polygon") {
+        Some(Line::Change(Change::Polygon(a)))
+    } else if is(first, b"del") {
+        Some(Line::Change(Change::Del(a)))
+    } else if is(first, b"vertex") {
+        Some(Line::Change(Change::Vertex(a)))
+    } else if is(first, b"close") {
+        Some(Line::Change(Change::Close(a)))
+    } else if is(first, b"dangle") {
+        Some(Line::Change(Change::Dangle(a)))
+    } else if is(first, b"center") {
+        Some(Line::Change(Change::Center(a)))
+    } else {
+        None
     }
 }
 
-fn line_with_two(first: &str, a: u64, b: u64) -> Option<Line>
+fn line_with_two(first: &[u8], a: u64, b: u64) -> Option<Line>
     ensures { option_map line_meaning result ≡ option_map (λ line. line a b) (found first.now with_two) }
 {
-    match first {
-        "unsew" => Some(Line::Change(Change::Unsew(a, b))),
-        "remove" => Some(Line::Change(Change::Remove(a, b))),
-        "contract" => Some(Line::Change(Change::Contract(a, b))),
-        "clear" => Some(Line::Change(Change::Clear(a, b))),
-        "cell" => Some(Line::Question(Question::Cell(a, b))),
-        "free" => Some(Line::Question(Question::Free(a, b))),
-        "value" => Some(Line::Question(Question::Value(a, b))),
-        "removable" => Some(Line::Question(Question::Removable(a, b))),
-        "contractible" => Some(Line::Question(Question::Contractible(a, b))),
-        "edge" => Some(Line::Change(Change::Edge(a, b))),
-        _ => None,
+    if is(first, b"unsew") {
+        Some(Line::Change(Change::Unsew(a, b)))
+    } else if is(first, b"remove") {
+        Some(Line::Change(Change::Remove(a, b)))
+    } else if is(first, b"contract") {
+        Some(Line::Change(Change::Contract(a, b)))
+    } else if is(first, b"clear") {
+        Some(Line::Change(Change::Clear(a, b)))
+    } else if is(first, b"cell") {
+        Some(Line::Question(Question::Cell(a, b)))
+    } else if is(first, b"free") {
+        Some(Line::Question(Question::Free(a, b)))
+    } else if is(first, b"value") {
+        Some(Line::Question(Question::Value(a, b)))
+    } else if is(first, b"removable") {
+        Some(Line::Question(Question::Removable(a, b)))
+    } else if is(first, b"contractible") {
+        Some(Line::Question(Question::Contractible(a, b)))
+    } else if is(first, b"edge") {
+        Some(Line::Change(Change::Edge(a, b)))
+    } else {
+        None
     }
 }
 
-fn line_with_three(first: &str, a: u64, b: u64, c: u64) -> Option<Line>
+fn line_with_three(first: &[u8], a: u64, b: u64, c: u64) -> Option<Line>
     ensures { option_map line_meaning result ≡ option_map (λ line. line a b c) (found first.now with_three) }
 {
-    match first {
-        "sew" => Some(Line::Change(Change::Sew(a, b, c))),
-        "sewable" => Some(Line::Question(Question::Sewable(a, b, c))),
-        "same" => Some(Line::Question(Question::Same(a, b, c))),
-        _ => None,
+    if is(first, b"sew") {
+        Some(Line::Change(Change::Sew(a, b, c)))
+    } else if is(first, b"sewable") {
+        Some(Line::Question(Question::Sewable(a, b, c)))
+    } else if is(first, b"same") {
+        Some(Line::Question(Question::Same(a, b, c)))
+    } else {
+        None
     }
 }
