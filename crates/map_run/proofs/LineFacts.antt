@@ -11,8 +11,6 @@ use Rattle.machine_defs.specs.Text.{Reply, Refused, reply_text, replies_text, is
 use Rattle.map_defs.specs.Refusal.{Syntax}
 use Rattle.machine_defs.specs.Machine.{Step, Obeys, blank, obeyed, unread}
 use Rattle.std.specs.declared.alloc.AllocError.{AllocError}
-use Rattle.map_run.specs.declared.answer.Answer.{Answer}
-use Rattle.map_run.specs.Lines.{answer_meaning}
 use Rattle.text_lines.specs.Writing.{WritesText, IsWritten}
 use Rattle.map_run.specs.Writing.{IsSaid, Says, IsAnswered, AnswersLine}
 use Rattle.text_lines.proofs.WritingFacts.{Appended-nothing}
@@ -80,14 +78,14 @@ pub AnswersLine-nothing : (hook : Hook) (o : Option (List ℕ)) (s new : State) 
 AnswersLine-nothing hook o s new words = record { piece = []; appended = Appended-nothing o; is = (inl refl, inl refl) }
 
 -- a line that was read and obeyed, and whose answer was written if there was memory for one
-pub AnswersLine-said : (hook : Hook) (before after : Option (List ℕ)) (s new : State) (words : List (List ℕ)) (line : Line) (answer : Result Answer AllocError) (result : Result Bool PutFault)
-    → line_of words ≡ Some line → IfOk answer (λ (told : Answer). Step hook s line (answer_meaning told) new)
-    → IfOk answer (λ (told : Answer). Says before after (answer_meaning told) result)
+pub AnswersLine-said : {A : Type 0} (meaning : A → Reply) (hook : Hook) (before after : Option (List ℕ)) (s new : State) (words : List (List ℕ)) (line : Line) (answer : Result A AllocError) (result : Result Bool PutFault)
+    → line_of words ≡ Some line → IfOk answer (λ (told : A). Step hook s line (meaning told) new)
+    → IfOk answer (λ (told : A). Says before after (meaning told) result)
     → IfErr answer (λ (fault : AllocError). (result ≡ Err NoMemory) × (after ≡ before))
     → AnswersLine hook before after s new words result
-AnswersLine-said hook before after s new words line (Ok told) result read step said unsaid =
-    AnswersLine-told hook before after s new words line (answer_meaning told) result read step said
-AnswersLine-said hook before after s new words line (Err fault) result read step said unsaid =
+AnswersLine-said meaning hook before after s new words line (Ok told) result read step said unsaid =
+    AnswersLine-told hook before after s new words line (meaning told) result read step said
+AnswersLine-said meaning hook before after s new words line (Err fault) result read step said unsaid =
     rw (unsaid.0, unsaid.1) (AnswersLine-nothing hook before s new words)
 
 -- a line without a word has no reply

@@ -8,6 +8,7 @@ ghost use Rattle.machine_defs.specs.Text.{reply_text, Truth, Darts, CellValue, C
 ghost use Rattle.map_core.specs.Calls.{Does, AnswersQuestion, AnswersAtOnce};
 ghost use Rattle.map_io.specs.Cause.{HasCause};
 ghost use Rattle.off_text.specs.MapViews.{off_view};
+ghost use Rattle.script_text.specs.Meanings.{reply_meaning};
 ghost use Rattle.text_lines.specs.Writing.{WritesText};
 ghost use Rattle.map_run.specs.Lines.{answer_meaning};
 
@@ -17,7 +18,6 @@ use map_kind::{Dart, Done, Refusal, Refused, Value};
 use off_text::{OffRows, put_off};
 use script_text::{Reply, put_log};
 use std::alloc::{AllocError, Global};
-use text_lines::put_line_over;
 use undo_journal::Step as Changed;
 
 /// The answer to a line: a reply of one line, a listing, the points and faces of a map, or the steps of a log, which are lent.
@@ -51,7 +51,7 @@ impl<'a> Answer<'a> {
         ensures cause { HasCause (S.faults out.old) (S.faults out.new) (IsErrOf result PutFault.Failed) }
     {
         match self {
-            Answer::Line(reply) => put_line_over(text, out, reply),
+            Answer::Line(reply) => reply.put_over(text, out),
             Answer::Listing(listing) => put_listing(alloc, out, listing),
             Answer::Off(rows) => put_off(alloc, out, rows),
             Answer::Log(steps) => put_log(alloc, out, steps),
@@ -59,13 +59,13 @@ impl<'a> Answer<'a> {
     }
 }
 
-/// What is said of a changing line.
-pub fn done<'a>(done: Result<Done, Refused>) -> Result<Answer<'a>, AllocError>
-    ensures { (hook : Hook) (s : State) (new : State) (line : MapLine) → Does hook s line done new → IfOk result (λ answer. Step hook s line (answer_meaning answer) new) }
+/// The reply to a changing line.
+pub fn done(done: Result<Done, Refused>) -> Result<Reply, AllocError>
+    ensures { (hook : Hook) (s : State) (new : State) (line : MapLine) → Does hook s line done new → IfOk result (λ reply. Step hook s line (reply_meaning reply) new) }
 {
     match done {
-        Ok(done) => Ok(Answer::Line(Reply::Done(done))),
-        Err(Refused::Line(refusal)) => Ok(Answer::Line(Reply::No(refusal))),
+        Ok(done) => Ok(Reply::Done(done)),
+        Err(Refused::Line(refusal)) => Ok(Reply::No(refusal)),
         Err(Refused::NoMemory) => Err(AllocError),
     }
 }

@@ -4,7 +4,7 @@ ghost use Rattle.map_defs.specs.TextWords.{words_of};
 ghost use Rattle.machine_defs.specs.Machine.{Step};
 ghost use Rattle.map_core.specs.Calls.{Does};
 ghost use Rattle.map_io.specs.Cause.{HasCause};
-ghost use Rattle.script_text.specs.Meanings.{change_meaning, question_meaning};
+ghost use Rattle.script_text.specs.Meanings.{change_meaning, question_meaning, reply_meaning};
 ghost use Rattle.map_run.specs.Lines.{answer_meaning, IsTold};
 ghost use Rattle.map_run.specs.Writing.{AnswersLine, Says};
 
@@ -31,10 +31,29 @@ pub fn obey_line<K: Edits<DIM>, H: Hook, const DIM: usize, S: Sink>(
 {
     match read_line(alloc, line) {
         Ok(None) => Ok(false),
-        Ok(Some(Line::Change(line))) => say(alloc, text, out, done(change(alloc, &line, map))),
+        Ok(Some(Line::Change(line))) => say_done(text, out, done(change(alloc, &line, map))),
         Ok(Some(Line::Question(line))) => say(alloc, text, out, ask(alloc, &line, map)),
         Err(Refused::Line(refusal)) => say(alloc, text, out, Ok(Answer::Line(Reply::No(refusal)))),
         Err(Refused::NoMemory) => Err(PutFault::NoMemory),
+    }
+}
+
+/// Writes the reply to a changing line, if there is one, and tells whether it is a refusal.
+fn say_done<S: Sink>(
+    text: &mut Vec<u8>,
+    out: &mut S,
+    reply: Result<Reply, AllocError>,
+) -> Result<bool, PutFault>
+    ensures said { IfOk reply (λ reply. Says (S.written out.old) (S.written out.new) (reply_meaning reply) result) }
+    ensures unsaid { IfErr reply (λ fault. (result ≡ Err PutFault.NoMemory) × (S.written out.new ≡ S.written out.old)) }
+    ensures cause { HasCause (S.faults out.old) (S.faults out.new) (IsErrOf result PutFault.Failed) }
+{
+    match reply {
+        Ok(reply) => match reply.put_over(text, out) {
+            Ok(()) => Ok(reply.is_refused()),
+            Err(fault) => Err(fault),
+        },
+        Err(_) => Err(PutFault::NoMemory),
     }
 }
 

@@ -2,3 +2,5 @@ pub mod AsciiWords
 pub mod ReadWords
 pub mod NumberLines
 pub mod LogTexts
+pub mod FrontCuts
+pub mod PutLines

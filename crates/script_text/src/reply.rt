@@ -1,14 +1,16 @@
 //! The reply to a line, and its text.
-ghost use Rattle.std.specs.Prelude.{◌≡◌, IfOk, Some, codes};
+ghost use Rattle.std.specs.Prelude.{◌≡◌, IfOk, IfSome, IsErrOf, Some, codes};
 ghost use Rattle.machine_defs.specs.Text.{is_refused, reply_text, done_text, truth_text, numbers_text, cell_value_text, refusal_text};
 ghost use Rattle.map_kind.specs.Refusals.{meaning};
-ghost use Rattle.text_lines.specs.Writing.{Appends};
+ghost use Rattle.map_io.specs.Cause.{HasCause};
+ghost use Rattle.text_lines.specs.Writing.{Appends, WritesText};
 ghost use Rattle.script_text.specs.Meanings.{reply_meaning};
 ghost use Rattle.script_text.specs.ReplyEnds.{reply-ends};
 
+use map_io::{PutFault, Sink};
 use map_kind::{Dart, Done, Refusal, Value};
 use std::alloc::{AllocError, Global};
-use text_lines::{TextLine, append_spaced};
+use text_lines::{TextLine, append_spaced, put_line_over};
 
 /// The reply to a line, of one line of text.
 #[derive(Debug, PartialEq, Eq, Drop)]
@@ -34,6 +36,29 @@ impl Reply {
         ensures { result ≡ is_refused (reply_meaning self.now) }
     {
         matches!(self, Reply::No(_))
+    }
+
+    /// Puts the reply to a sink in one piece. A reply with numbers is first written over what stands in `text`.
+    pub fn put_over<S: Sink>(&self, text: &mut Vec<u8>, out: &mut S) -> Result<(), PutFault>
+        ensures written { WritesText (S.written out.old) (S.written out.new) result (reply_text (reply_meaning self.now)) }
+        ensures cause { HasCause (S.faults out.old) (S.faults out.new) (IsErrOf result PutFault.Failed) }
+    {
+        match self.fixed_text() {
+            Some(line) => out.put(line),
+            None => put_line_over(text, out, self),
+        }
+    }
+
+    /// The text of a reply that has no numbers, unless it is a refusal.
+    fn fixed_text(&self) -> Option<&'static [u8]>
+        ensures { IfSome result (λ line. line.now ≡ reply_text (reply_meaning self.now)) }
+    {
+        match self {
+            Reply::Done(Done { count: 0, .. }) => Some(b"ok\n"),
+            Reply::Truth(true) => Some(b"true\n"),
+            Reply::Truth(false) => Some(b"false\n"),
+            _ => None,
+        }
     }
 }
 

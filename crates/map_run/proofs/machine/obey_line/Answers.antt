@@ -1,7 +1,7 @@
 use Rattle.map_defs.specs.TextWords.{words_of}
-use Rattle.script_text.specs.Meanings.{change_meaning, question_meaning}
+use Rattle.script_text.specs.Meanings.{change_meaning, question_meaning, reply_meaning}
 use Rattle.std.proofs.Common.{lit<}
-use Rattle.map_run.specs.Lines.{IsTold}
+use Rattle.map_run.specs.Lines.{IsTold, answer_meaning}
 use Rattle.map_run.proofs.LineFacts.{AnswersLine-said, AnswersLine-unread, AnswersLine-blank}
 use Rattle.map_run.proofs.machine.obey_line.Goals as goal
 
@@ -14,14 +14,14 @@ returns-in-Ok-Some-Change-clause-answered g c =
     let line = change_meaning c.in-Ok-Some-Change.line in
     let read = rw (c.in-Ok-Some-Change.field-0-is, c.in-Ok-Some-Change.field-0-0-is) at c.in-Ok-Some-Change.ensures.told in
     let step = c.done.ensures (g.H.Hook.hook c.args.map.now.hook) c.args.map.now.state c.change.new.map.state line c.change.ensures.does in
-    AnswersLine-said (g.H.Hook.hook c.args.map.now.hook) (g.S.Sink.written c.args.out.now) (g.S.Sink.written c.say.new.out) c.args.map.now.state c.change.new.map.state (words_of c.args.line.now) line c.done.result c.say.result
-    read step c.say.ensures.said c.say.ensures.unsaid
+    AnswersLine-said reply_meaning (g.H.Hook.hook c.args.map.now.hook) (g.S.Sink.written c.args.out.now) (g.S.Sink.written c.say_done.new.out) c.args.map.now.state c.change.new.map.state (words_of c.args.line.now) line c.done.result c.say_done.result
+    read step c.say_done.ensures.said c.say_done.ensures.unsaid
 
 pub returns-in-Ok-Some-Question-clause-answered : goal.returns-in-Ok-Some-Question-clause-answered
 returns-in-Ok-Some-Question-clause-answered g c =
     let read = rw (c.in-Ok-Some-Question.field-0-is, c.in-Ok-Some-Question.field-0-0-is) at c.in-Ok-Some-Question.ensures.told in
-    AnswersLine-said (g.H.Hook.hook c.args.map.now.hook) (g.S.Sink.written c.args.out.now) (g.S.Sink.written c.say-in-Ok-Some-Question.new.out) c.args.map.now.state c.args.map.now.state (words_of c.args.line.now) (question_meaning c.in-Ok-Some-Question.line) c.ask.result c.say-in-Ok-Some-Question.result
-    read c.ask.ensures c.say-in-Ok-Some-Question.ensures.said c.say-in-Ok-Some-Question.ensures.unsaid
+    AnswersLine-said answer_meaning (g.H.Hook.hook c.args.map.now.hook) (g.S.Sink.written c.args.out.now) (g.S.Sink.written c.say.new.out) c.args.map.now.state c.args.map.now.state (words_of c.args.line.now) (question_meaning c.in-Ok-Some-Question.line) c.ask.result c.say.result
+    read c.ask.ensures c.say.ensures.said c.say.ensures.unsaid
 
 pub returns-in-Err-Line-clause-answered : goal.returns-in-Err-Line-clause-answered
 returns-in-Err-Line-clause-answered g c =
