@@ -48,11 +48,14 @@ module _ (L : Links) (Live : ℕ → Type 0) where
     places = refl;
     kept = λ d marked. marked;
     lives = λ all. all;
-    visited = λ before are. (are, record {
-      before = take_all (length (before ++ queue)) (before ++ queue) (omega arith);
-      only = λ y has. inl has;
-      all = λ y leads. absurd (none leads.0 leads.1);
-    });
+    visited = λ before are. (
+      are,
+      record {
+        before = take_all (length (before ++ queue)) (before ++ queue) (omega arith);
+        only = λ y has. inl has;
+        all = λ y leads. absurd (none leads.0 leads.1);
+      },
+    );
   }
 
   -- a word leads to the dart of a number, which is marked and listed unless it was marked
@@ -141,8 +144,8 @@ among-more j Wanted w = (λ among. to among (cases_lt among.0 j), from)
 pub among-words : (n : ℕ) (words : List LinkWord) (Wanted : ℕ → Type 0) → All (IsWithin n) words → All IsLink words → AreWanted words Wanted → (w : LinkWord) → Contains words w ↔ IsAmong (n + 1) Wanted w
 among-words n words Wanted within single wanted w = (
   λ has.
-    let link : one_link w.first ≡ w = link-is w w.first refl (All-contains IsLink words w single has) in
-    (w.first, omega (arith, (All-contains (IsWithin n) words w within has).0), (wanted w.first).1 (subst (Contains words) (sym link) has), sym link),
+      let link : one_link w.first ≡ w = link-is w w.first refl (All-contains IsLink words w single has) in
+      (w.first, omega (arith, (All-contains (IsWithin n) words w within has).0), (wanted w.first).1 (subst (Contains words) (sym link) has), sym link),
   λ among. subst (Contains words) (sym among.3) ((wanted among.0).0 among.2),
 )
 
@@ -221,6 +224,10 @@ module _ (rows : Rows) (Words : LinkWord → Type 0) (d : ℕ) (old : List Bool)
   spreading-all place marks queue past spread = record {
     places = spread.places;
     kept = spread.kept;
-    found = λ before are. (before ++ queue, spread.marked before are, λ shut.
-        walked-all (links_of rows) Words d before (length before + place) (before ++ queue) (omega (arith, length-append before queue, past)) shut (spread.walked before are shut));
+    found = λ before are. (
+      before ++ queue,
+      spread.marked before are,
+      λ shut.
+          walked-all (links_of rows) Words d before (length before + place) (before ++ queue) (omega (arith, length-append before queue, past)) shut (spread.walked before are shut),
+    );
   }

@@ -34,7 +34,13 @@ pub fn cells<K: Kind, const DIM: usize>(
         → Contains cells.items d ↔ (IsLive links.now.rows d × NamesCell K.kind (links_of links.now.rows) dim d)) }
     ensures ascending { IfOk result (λ cells. IsStrictlyIncreasing cells.items) }
 {
-    cells_with(alloc, links, dim, &mut Vec::new(alloc), &mut Vec::new(alloc))
+    cells_with(
+        alloc,
+        links,
+        dim,
+        &mut Vec::new(alloc),
+        &mut Vec::new(alloc),
+    )
 }
 
 /// The cells of a dimension, by their least darts, ascending.

@@ -6,7 +6,8 @@ ghost use Rattle.dart_arena.specs.Stock.{made, row_at, IsLive, live_count, IsSto
 use crate::places::Places;
 use crate::row::Row;
 use crate::slots::{
-    entry_in, fill_rows, give_row, remove_dead, row_in, row_there, set_in_row, take_row, turn_row, widen,
+    entry_in, fill_rows, give_row, remove_dead, row_in, row_there, set_in_row, take_row, turn_row,
+    widen,
 };
 use map_kind::Dart;
 use slab::Slab;

@@ -44,9 +44,9 @@ returns-clause-surveyed g c = on_ok_weaker c.mark_orbit.result
       found.0,
       found.1,
       rw c.in_ok-push.ensures.items
-      (surveyed-least (Leads (links_of c.args.links.now.rows) (Contains c.args.words.now)) (IsLive c.args.links.now.rows)
-      (rows-walkable g.K.Kind.kind g.row.DIM c.args.links.now.rows (Contains c.args.words.now) c.requires.sound c.requires.turns)
-      c.args.dart before.0 c.args.least.now.items found.0 (c.is_live.ensures.live.0 c.if-not-is_live.false)
-      (λ known. fresh ((before.1.told c.args.dart real).1 known)) (found.2 before.2.closed) before.2),
+          (surveyed-least (Leads (links_of c.args.links.now.rows) (Contains c.args.words.now)) (IsLive c.args.links.now.rows)
+          (rows-walkable g.K.Kind.kind g.row.DIM c.args.links.now.rows (Contains c.args.words.now) c.requires.sound c.requires.turns)
+          c.args.dart before.0 c.args.least.now.items found.0 (c.is_live.ensures.live.0 c.if-not-is_live.false)
+          (λ known. fresh ((before.1.told c.args.dart real).1 known)) (found.2 before.2.closed) before.2),
     ))
     c.mark_orbit.ensures
