@@ -1,4 +1,4 @@
-ghost use Rattle.std.specs.Prelude.{◌≡◌, ◌+◌, ◌≤◌, ◌<◌, ◌↔◌, ◌++◌, All, map, Contains, IsNone, IfSome, IfOk, OnOk};
+ghost use Rattle.std.specs.Prelude.{◌≡◌, ℕ, ◌+◌, ◌≤◌, ◌<◌, ◌↔◌, ◌++◌, All, map, slice_index, Contains, IsNone, IfSome, IfOk, OnOk};
 ghost use Rattle.std.specs.List.Sorted.{IsStrictlyIncreasing};
 ghost use Rattle.map_defs.specs.Kind.{inverse};
 ghost use Rattle.map_defs.specs.Rows.{links_of, IsLive};
@@ -12,7 +12,7 @@ ghost use Rattle.cell_edit.specs.Writing.{WritesEntries, Appends, copied, beyond
 use crate::kinds::is_just_below;
 use crate::room::room_for_changes;
 use crate::stars::Stars;
-use link_rows::{Change, Edit, Links};
+use link_rows::{Change, Edit, Links, Row};
 use map_kind::{Dart, Kind};
 use sewing::Triple;
 use std::alloc::{AllocError, Global};
@@ -95,24 +95,29 @@ fn push_dart<K: Kind, const DIM: usize>(
     ensures { OnOk result (Appends (links_of links.now.rows)
         (IsKeyEntry K.kind (links_of links.now.rows) link (star_of stars.now) (DIM + 1) dart) changes.old.items changes.new.items) }
 {
+    // A map has links 0 to 8 at most.
+    links.see_sound();
+    let row = links.live_row(dart);
     changes.push(Change {
         dart,
         link,
-        old: links.number_at(dart, link),
+        old: row.entry(link),
         new: new.number(),
     })?;
-    push_links(links, link, stars, dart, new, changes)
+    push_links(links, row, link, stars, dart, new, changes)
 }
 
-/// Appends the changes of the links of `new`, one dart's new dart, but for those of the pairs.
+/// Appends the changes of the links of `new`, the new dart of a dart with this row, but for those of the pairs.
 fn push_links<K: Kind, const DIM: usize>(
     links: &Links<K, DIM>,
+    row: &Row<DIM>,
     link: usize,
     stars: &Stars,
     dart: Dart,
     new: Dart,
     changes: &mut Vec<Change>,
 ) -> Result<(), AllocError>
+    requires row { (t : ℕ) → slice_index row.now t ≡ links_of links.now.rows t dart }
     requires link { link < DIM }
     requires own { inverse K.kind link ≡ link }
     requires ready { AreReady K.kind links.now.rows link stars.now }
@@ -123,7 +128,7 @@ fn push_links<K: Kind, const DIM: usize>(
         (IsNewEntry K.kind (links_of links.now.rows) link (star_of stars.now) (DIM + 1) dart) changes.old.items changes.new.items) }
 {
     for at in 0..links.dimension() + 1 {
-        let Some(other) = beyond(links, link, stars, dart, at) else {
+        let Some(other) = beyond(links, row, link, stars, dart, at) else {
             continue;
         };
         changes.push(joining(new, at, other))?;
@@ -131,15 +136,17 @@ fn push_links<K: Kind, const DIM: usize>(
     Ok(())
 }
 
-/// The dart to which a link of a dart's new dart leads; none where it stays free, or is left to the pairs.
+/// The dart to which a link of the new dart of a dart with this row leads; none where it stays free, or is left to the
+/// pairs.
 fn beyond<K: Kind, const DIM: usize>(
     links: &Links<K, DIM>,
+    row: &Row<DIM>,
     link: usize,
     stars: &Stars,
     dart: Dart,
     at: usize,
 ) -> Option<Dart>
-    requires high { DIM ≤ 8 }
+    requires row { (t : ℕ) → slice_index row.now t ≡ links_of links.now.rows t dart }
     requires link { link < DIM }
     requires at { at ≤ DIM }
     requires own { inverse K.kind link ≡ link }
@@ -154,7 +161,9 @@ fn beyond<K: Kind, const DIM: usize>(
     if is_just_below::<K>(link, at) {
         return None;
     }
-    let other = links.link(dart, copied::<K>(link, at))?;
+    // A map has links 0 to 8 at most.
+    links.see_sound();
+    let other = Dart::new(row.entry(copied::<K>(link, at)))?;
     Some(stars.star(other))
 }
 

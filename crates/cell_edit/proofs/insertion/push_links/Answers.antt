@@ -1,10 +1,16 @@
-use Rattle.std.proofs.Common.{◌≡◌, ◌≢◌, ◌++◌, ◌∷◌, [], sym, ◌∙◌, arith}
+use Rattle.std.proofs.Common.{◌≡◌, ◌≢◌, ◌≤◌, ◌++◌, ◌∷◌, [], sym, ◌∙◌, arith}
 use Rattle.std.proofs.lemmas.Bool.{false≢true}
 use Rattle.map_defs.specs.Rows.{links_of}
 use Rattle.cell_edit.specs.Stars.{star_of}
 use Rattle.cell_edit.proofs.DartEntries.{links-skip, links-push}
 use Rattle.cell_edit.proofs.Beyond.{unmade-free, none-unless}
+use Rattle.cell_edit.proofs.RowSize.{row-fits}
 use Rattle.cell_edit.proofs.insertion.push_links.Goals as goal
+
+pub beyond-requires : goal.beyond-requires
+beyond-requires g c =
+    let within : c.loop-at.at ≤ g.row.DIM = omega (arith, c.loop-at-test.true, c.loop-at.auto.at-end, c.dimension-at-end.ensures.dimension) in
+    (omega arith, (row-fits g.row.DIM c.dimension-at-end.ensures.high, (c.requires.row, (c.requires.link, (within, (c.requires.own, (c.requires.ready, c.requires.key)))))))
 
 pub loop-at-preserved-in_default : goal.loop-at-preserved-in_default
 loop-at-preserved-in_default g c =
