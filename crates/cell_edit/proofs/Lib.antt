@@ -19,3 +19,4 @@ pub mod Listed
 pub mod CornerList
 mod FaceSteps
 mod RowSize
+pub mod Commuting

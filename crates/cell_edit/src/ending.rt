@@ -1,4 +1,4 @@
-ghost use Rattle.std.specs.Prelude.{◌+◌, ◌≤◌, Contains, IfOk, OnOk};
+ghost use Rattle.std.specs.Prelude.{◌≡◌, ℕ, ◌+◌, ◌≤◌, slice_index, Contains, IfOk, OnOk};
 ghost use Rattle.map_defs.specs.Rows.{links_of};
 ghost use Rattle.map_defs.specs.Laws.{Laws};
 ghost use Rattle.map_defs.specs.Removal.{Lands, IsBridged};
@@ -8,7 +8,7 @@ ghost use Rattle.cell_edit.specs.Removing.{PlansEnding};
 
 use crate::crossing::{first_outside_from_within, is_among};
 use crate::room::room_for_changes;
-use link_rows::{Change, Edit, Links};
+use link_rows::{Change, Edit, Links, Row};
 use map_kind::{Dart, Kind, is_generalized};
 use std::alloc::{AllocError, Global};
 
@@ -76,24 +76,24 @@ fn push_dart<K: Kind, const DIM: usize>(
     ensures { OnOk result (Appends (links_of links.now.rows)
         (IsDartEntry K.kind (links_of links.now.rows) link beside (DIM + 1) darts.now dart) changes.old.items changes.new.items) }
 {
-    push_links(links, dart, changes)?;
-    push_bridge(links, link, beside, darts, dart, changes)
+    // A map has links 0 to 8 at most.
+    links.see_sound();
+    let row = links.live_row(dart);
+    push_links(links, row, dart, changes)?;
+    push_bridge(links, row, link, beside, darts, dart, changes)
 }
 
-/// Appends the changes by which each link of a dart becomes free that is not.
+/// Appends the changes by which each link of a dart with this row becomes free that is not.
 fn push_links<K: Kind, const DIM: usize>(
     links: &Links<K, DIM>,
+    row: &Row<DIM>,
     dart: Dart,
     changes: &mut Vec<Change>,
 ) -> Result<(), AllocError>
+    requires { (t : ℕ) → slice_index row.now t ≡ links_of links.now.rows t dart }
     ensures { OnOk result (Appends (links_of links.now.rows)
         (IsEndingEntry (links_of links.now.rows) (DIM + 1) dart) changes.old.items changes.new.items) }
 {
-    // A map has links 0 to 8 at most. All links of a dart without a row are free.
-    links.see_sound();
-    let Some(row) = links.row(dart) else {
-        return Ok(());
-    };
     for link in 0..links.dimension() + 1 {
         let old = row.entry(link);
         if old == 0 {
@@ -109,9 +109,10 @@ fn push_links<K: Kind, const DIM: usize>(
     Ok(())
 }
 
-/// Appends the change of the link that leads to a dart that ends, where it comes from a remaining dart.
+/// Appends the change of the link that leads to a dart that ends, which has this row, where it comes from a remaining dart.
 fn push_bridge<K: Kind, const DIM: usize>(
     links: &Links<K, DIM>,
+    row: &Row<DIM>,
     link: usize,
     beside: usize,
     darts: &[Dart],
@@ -122,10 +123,13 @@ fn push_bridge<K: Kind, const DIM: usize>(
     requires can { CanEnd K.kind links.now.rows link beside darts.now }
     requires laws { Laws K.kind (links_of links.now.rows) }
     requires key { Contains darts.now dart }
+    requires row { (t : ℕ) → slice_index row.now t ≡ links_of links.now.rows t dart }
     ensures { OnOk result (Appends (links_of links.now.rows)
         (IsBridgeEntry K.kind (links_of links.now.rows) link beside darts.now dart) changes.old.items changes.new.items) }
 {
-    let Some(remaining) = links.link(dart, link) else {
+    // Links name live darts.
+    links.see_sound();
+    let Some(remaining) = Dart::new(row.entry(link)) else {
         return Ok(());
     };
     if is_among(darts, remaining) {

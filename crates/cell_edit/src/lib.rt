@@ -15,6 +15,7 @@ mod insertion;
 mod kinds;
 mod near;
 mod path;
+mod places;
 mod room;
 mod stars;
 

@@ -3,6 +3,7 @@ ghost use Rattle.std.specs.List.Sorted.{IsStrictlyIncreasing};
 ghost use Rattle.map_defs.specs.Rows.{made_max};
 ghost use Rattle.cell_edit.specs.Stars.{star_of};
 
+use crate::places::place_of;
 use map_kind::Dart;
 use std::marker::Model;
 
@@ -60,11 +61,12 @@ impl Stars {
         ensures star { result ≡ star_of self.now dart }
         ensures above { self.now.made < result }
     {
-        match self.darts.binary_search(&dart) {
-            Ok(place) => Dart::new(self.made + 1 + place as u32).unwrap(),
-            Err(_) => unreachable!(),
+        match place_of(&self.darts, dart) {
+            Some(place) => Dart::new(self.made + 1 + place as u32).unwrap(),
+            None => unreachable!(),
         }
     }
+
     /// The new dart of the dart at a place.
     pub fn star_at(&self, place: usize) -> Dart
         requires { place < length self.now.keys }

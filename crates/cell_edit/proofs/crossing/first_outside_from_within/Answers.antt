@@ -14,7 +14,7 @@ pub first_outside-requires : goal.first_outside-requires
 first_outside-requires g c =
     let st : ℕ → ℕ = across g.K.Kind.kind (links_of c.args.links.now.rows) c.args.link c.args.beside in
     let rest = walk-rest c.args.cell.now st c.args.from c.requires.ends.0 c.requires.from c.requires.ends.1 in
-    (lit< tt, (c.requires.ascending, (c.requires.darts, (c.requires.ends.0, subst (λ x. LeadsAcross g.K.Kind.kind (links_of c.args.links.now.rows) c.args.link c.args.beside c.args.cell.now x c.requires.ends.0) (sym c.in-Some.ensures.leads) rest))))
+    (lit< tt, (c.requires.ascending, (c.requires.darts, (c.in-Some.ensures.live, (c.requires.ends.0, subst (λ x. LeadsAcross g.K.Kind.kind (links_of c.args.links.now.rows) c.args.link c.args.beside c.args.cell.now x c.requires.ends.0) (sym c.in-Some.ensures.leads) rest)))))
 
 pub returns : goal.returns
 returns g c =

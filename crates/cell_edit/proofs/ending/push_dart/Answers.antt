@@ -1,9 +1,21 @@
-use Rattle.std.proofs.Common.{◌+◌}
+use Rattle.std.proofs.Common.{ℕ, ◌+◌, lit<, arith}
+use Rattle.std.proofs.lemmas.List.Elements.{All-contains}
 use Rattle.std.proofs.lemmas.Result.{on_ok_weaker}
-use Rattle.map_defs.specs.Rows.{links_of}
+use Rattle.map_defs.specs.Rows.{links_of, IsLive}
 use Rattle.cell_edit.specs.Bridging.{IsEndingEntry, IsBridgeEntry}
 use Rattle.cell_edit.proofs.BridgeEntries.{appends-more, dart-apart}
+use Rattle.cell_edit.proofs.RowSize.{row-fits}
 use Rattle.cell_edit.proofs.ending.push_dart.Goals as goal
+
+pub live_row-row-requires : goal.live_row-row-requires
+live_row-row-requires g c = (lit< tt, (row-fits g.row.DIM c.see_sound.ensures.high, All-contains (λ (d : ℕ). IsLive c.args.links.now.rows d) c.args.darts.now c.args.dart c.requires.can.live c.requires.key))
+
+pub push_links-requires : goal.push_links-requires
+push_links-requires g c = (omega arith, (row-fits g.row.DIM c.see_sound.ensures.high, c.live_row-row.ensures))
+
+pub push_bridge-requires : goal.push_bridge-requires
+push_bridge-requires g c =
+    (omega arith, (row-fits g.row.DIM c.see_sound.ensures.high, (c.requires.link, (c.requires.can, (c.requires.laws, (c.requires.key, c.live_row-row.ensures))))))
 
 pub returns : goal.returns
 returns g c =

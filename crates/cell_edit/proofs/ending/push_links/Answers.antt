@@ -1,20 +1,16 @@
-use Rattle.std.proofs.Common.{◌≡◌, ◌++◌, ◌∷◌, [], sym, ◌∙◌, lit<}
+use Rattle.std.proofs.Common.{◌≡◌, ◌++◌, ◌∷◌, [], sym, ◌∙◌}
 use Rattle.map_defs.specs.Rows.{links_of}
 use Rattle.cell_edit.proofs.BridgeEntries.{ends-skip, ends-push}
-use Rattle.cell_edit.proofs.RowSize.{row-fits}
 use Rattle.cell_edit.proofs.ending.push_links.Goals as goal
-
-pub row-requires : goal.row-requires
-row-requires g c = (lit< tt, row-fits g.row.DIM c.see_sound.ensures.high)
 
 pub loop-link-preserved-then-old-eq0 : goal.loop-link-preserved-then-old-eq0
 loop-link-preserved-then-old-eq0 g c =
-    let is : c.entry-old.result ≡ links_of c.args.links.now.rows c.loop-link.link c.args.dart = c.entry-old.ensures ∙ c.in-Some.ensures c.loop-link.link in
+    let is : c.entry-old.result ≡ links_of c.args.links.now.rows c.loop-link.link c.args.dart = c.entry-old.ensures ∙ c.requires c.loop-link.link in
     ends-skip (links_of c.args.links.now.rows) c.args.dart c.loop-link.link c.args.changes.now.items c.loop-link.changes.items (sym is ∙ c.if-old-eq0.true) c.loop-link.invariant
 
 pub loop-link-preserved : goal.loop-link-preserved
 loop-link-preserved g c =
-    let is : c.entry-old.result ≡ links_of c.args.links.now.rows c.loop-link.link c.args.dart = c.entry-old.ensures ∙ c.in-Some.ensures c.loop-link.link in
+    let is : c.entry-old.result ≡ links_of c.args.links.now.rows c.loop-link.link c.args.dart = c.entry-old.ensures ∙ c.requires c.loop-link.link in
     let grown : c.push.new.self.items ≡ c.loop-link.changes.items ++ record { dart = c.args.dart; link = c.loop-link.link; old = links_of c.args.links.now.rows c.loop-link.link c.args.dart; new = 0 } ∷ [] =
     rw is at c.in_ok-push.ensures.items in
     ends-push (links_of c.args.links.now.rows) c.args.dart c.loop-link.link c.args.changes.now.items c.loop-link.changes.items c.push.new.self.items
