@@ -1,4 +1,5 @@
 pub mod Commands
+pub mod FeedMarks
 pub mod FirstLines
 pub mod LineFacts
 pub mod RunFacts
