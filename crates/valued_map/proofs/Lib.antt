@@ -26,6 +26,7 @@ pub mod SortedEdit
 pub mod ListedValues
 pub mod GroupedDarts
 pub mod Retained
+pub mod Widening
 pub mod Edited
 pub mod Revalued
 pub mod Dualled

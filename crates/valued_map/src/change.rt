@@ -4,7 +4,7 @@ ghost use Rattle.map_defs.specs.Rows.{Rows, IsLive, links_of, made, live_count};
 ghost use Rattle.map_defs.specs.Laws.{Laws};
 ghost use Rattle.map_defs.specs.Edits.{Fits, after_edit, IsLed};
 ghost use Rattle.machine_defs.specs.State.{with_born, without_dart};
-ghost use Rattle.store_defs.specs.Labelings.{id_of};
+ghost use Rattle.store_defs.specs.Labelings.{id_of, KeepsIds, KeepsPlaces};
 ghost use Rattle.store_defs.specs.Groups.{group_at, rule_at, HasCarriedValue};
 ghost use Rattle.label_laws.specs.Maps.{IsStoredMap};
 ghost use Rattle.label_laws.specs.Contents.{IsCarriedOn};
@@ -23,6 +23,9 @@ use map_kind::{Dart, Kind};
 use std::alloc::{AllocError, Global};
 use transport::{Group, RuleRow};
 use undo_journal::{Step, ValueChange};
+
+/// The labels are lengthened to whole blocks of so many darts, so that few of the edits that bear darts lengthen them.
+const BLOCK: u32 = 256;
 
 impl<K: Kind, const DIM: usize> ValuedMap<K, DIM> {
     /// Makes an edit that only adds darts, linked among each other alone. They have no values, and no value changes. The
@@ -49,7 +52,7 @@ impl<K: Kind, const DIM: usize> ValuedMap<K, DIM> {
         if self.links.reserve(edit.births).is_err() {
             return Err(AllocError);
         }
-        self.labels.grow(made + edit.births)?;
+        make_places(&mut self.labels, made + edit.births)?;
         self.links.apply(edit);
         Ok(finish_step(draft, Vec::new(alloc), Vec::new(alloc)))
     }
@@ -78,7 +81,7 @@ impl<K: Kind, const DIM: usize> ValuedMap<K, DIM> {
         if self.links.reserve(edit.births).is_err() {
             return Err(AllocError);
         }
-        self.labels.grow(made + edit.births)?;
+        make_places(&mut self.labels, made + edit.births)?;
         self.links.apply(edit);
         match moved(
             alloc,
@@ -140,6 +143,17 @@ impl<K: Kind, const DIM: usize> ValuedMap<K, DIM> {
         let values = new_values(&self.labels, &self.pool, olds);
         Ok(finish_step(draft, values, Vec::new(alloc)))
     }
+}
+
+/// Makes places in the labels for the darts up to `made`, to the end of a block. Where there are, it costs nothing.
+fn make_places<const DIM: usize>(labels: &mut Labels<DIM>, made: u32) -> Result<(), AllocError>
+    requires { made ≤ MADE_MAX }
+    ensures long { OnOk result (made ≤ labels.new.made) }
+    ensures longer { labels.old.made ≤ labels.new.made }
+    ensures ids { KeepsIds labels.old labels.new }
+    ensures places { KeepsPlaces labels.old labels.new }
+{
+    labels.grow(made.next_multiple_of(BLOCK))
 }
 
 /// The cells that the edit may have changed, with the values that are carried to them, and room in the pool for these values;

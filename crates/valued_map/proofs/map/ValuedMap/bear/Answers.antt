@@ -7,27 +7,29 @@ use Rattle.label_laws.specs.Maps.{IsStoredMap}
 use Rattle.label_laws.proofs.Making.{bear-stored, bear-content}
 use Rattle.label_laws.proofs.Same.{content-alike}
 use Rattle.label_laws.proofs.LineSteps.{stored-grown}
+use Rattle.store_defs.specs.Labelings.{Labeling}
+use Rattle.valued_map.proofs.Widening.{widened, widened-stored}
 use Rattle.valued_map.specs.Told.{IsStep, finished}
 use Rattle.valued_map.proofs.Edited.{bear-step}
 use Rattle.valued_map.proofs.Places.{places-after, room-after}
 use Rattle.valued_map.proofs.map.ValuedMap.bear.Goals as goal
 
-pub invariant_of-self-in_err-grow : goal.invariant_of-self-in_err-grow
-invariant_of-self-in_err-grow g c =
+pub invariant_of-self-in_err-make_places : goal.invariant_of-self-in_err-make_places
+invariant_of-self-in_err-make_places g c =
     let k = g.K.Kind.kind in
     let n : ℕ = g.row.DIM in
-    subst (λ (r : Rows). IsStoredMap k n r c.grow.new.self c.self.inside.pool c.self.inside.rules) (sym c.reserve.ensures.rows)
-    (stored-grown k n c.self.inside.links.rows c.self.inside.labels c.grow.new.self c.self.inside.pool c.self.inside.pool c.self.inside.rules c.self.invariant c.grow.ensures.ids c.grow.ensures.places
-    (omega (arith, c.in_err-grow.ensures.err, c.self.invariant.long)) refl)
+    subst (λ (r : Rows). IsStoredMap k n r c.make_places.new.labels c.self.inside.pool c.self.inside.rules) (sym c.reserve.ensures.rows)
+    (stored-grown k n c.self.inside.links.rows c.self.inside.labels c.make_places.new.labels c.self.inside.pool c.self.inside.pool c.self.inside.rules c.self.invariant c.make_places.ensures.ids c.make_places.ensures.places
+    (omega (arith, c.make_places.ensures.longer, c.self.invariant.long)) refl)
 
-pub returns-in_err-grow-clause-err : goal.returns-in_err-grow-clause-err
-returns-in_err-grow-clause-err g c =
+pub returns-in_err-make_places-clause-err : goal.returns-in_err-make_places-clause-err
+returns-in_err-make_places-clause-err g c =
     let k = g.K.Kind.kind in
     let n : ℕ = g.row.DIM in
-    let error = err_from_is_err_and c.from_residual-in_err-grow.result c.from_residual-in_err-grow.ensures.1 in
+    let error = err_from_is_err_and c.from_residual-in_err-make_places.result c.from_residual-in_err-make_places.ensures.1 in
     rw (error.1, ← c.self.view_is)
-    (ap (λ (r : Rows). content_of k n r c.grow.new.self c.self.inside.pool c.self.inside.rules) c.reserve.ensures.rows
-    ∙ content-alike k n c.self.inside.links.rows c.self.inside.labels c.grow.new.self c.self.inside.pool c.self.inside.pool c.self.inside.rules c.grow.ensures.ids refl)
+    (ap (λ (r : Rows). content_of k n r c.make_places.new.labels c.self.inside.pool c.self.inside.rules) c.reserve.ensures.rows
+    ∙ content-alike k n c.self.inside.links.rows c.self.inside.labels c.make_places.new.labels c.self.inside.pool c.self.inside.pool c.self.inside.rules c.make_places.ensures.ids refl)
 
 pub invariant_of-self-2 : goal.invariant_of-self-2
 invariant_of-self-2 g c =
@@ -37,14 +39,15 @@ invariant_of-self-2 g c =
     let e : Edit = c.args.edit.now in
     let is : c.apply.new.self.rows ≡ after_edit n e rows = c.apply.ensures.rows ∙ ap (after_edit n e) c.reserve.ensures.rows in
     let births : c.edit.inside.births ≡ e.births = ap (λ (x : Edit). x.births) c.edit.view_is in
-    let grown : c.grow.new.self.made ≡ max c.self.inside.labels.made (made rows + e.births) =
-    c.in_ok-grow.ensures.made ∙ ap (λ (b : ℕ). max c.self.inside.labels.made (b + c.edit.inside.births)) c.made-made.ensures.made ∙ ap (λ (b : ℕ). max c.self.inside.labels.made (made rows + b)) births in
+    let wide : Labeling = widened c.self.inside.labels c.make_places.new.labels in
+    let whole = widened-stored k n rows c.self.inside.labels c.make_places.new.labels c.self.inside.pool c.self.inside.rules c.self.invariant c.make_places.ensures.longer in
+    let grown : c.make_places.new.labels.made ≡ max wide.made (made rows + e.births) = omega (arith, c.in_ok-make_places.ensures.long, c.made-made.ensures.made, births) in
     let fits = rw (← c.self.view_is) at c.requires.fits in
     let few = rw (← c.self.view_is) at c.requires.few in
     let laws = rw (← c.self.view_is) at c.requires.laws in
     let born = rw (← c.self.view_is) at c.requires.born in
-    subst (λ (r : Rows). IsStoredMap k n r c.grow.new.self c.self.inside.pool c.self.inside.rules) (sym is)
-    (bear-stored k n rows e c.self.inside.labels c.self.inside.pool c.self.inside.rules c.self.invariant fits few laws c.grow.new.self c.grow.ensures.ids c.grow.ensures.places grown born.0 born.1)
+    subst (λ (r : Rows). IsStoredMap k n r c.make_places.new.labels c.self.inside.pool c.self.inside.rules) (sym is)
+    (bear-stored k n rows e wide c.self.inside.pool c.self.inside.rules whole fits few laws c.make_places.new.labels c.make_places.ensures.ids c.make_places.ensures.places grown born.0 born.1)
 
 pub returns-clause-made : goal.returns-clause-made
 returns-clause-made g c =
@@ -54,14 +57,15 @@ returns-clause-made g c =
     let e : Edit = c.args.edit.now in
     let is : c.apply.new.self.rows ≡ after_edit n e rows = c.apply.ensures.rows ∙ ap (after_edit n e) c.reserve.ensures.rows in
     let births : c.edit.inside.births ≡ e.births = ap (λ (x : Edit). x.births) c.edit.view_is in
-    let grown : c.grow.new.self.made ≡ max c.self.inside.labels.made (made rows + e.births) =
-    c.in_ok-grow.ensures.made ∙ ap (λ (b : ℕ). max c.self.inside.labels.made (b + c.edit.inside.births)) c.made-made.ensures.made ∙ ap (λ (b : ℕ). max c.self.inside.labels.made (made rows + b)) births in
+    let wide : Labeling = widened c.self.inside.labels c.make_places.new.labels in
+    let whole = widened-stored k n rows c.self.inside.labels c.make_places.new.labels c.self.inside.pool c.self.inside.rules c.self.invariant c.make_places.ensures.longer in
+    let grown : c.make_places.new.labels.made ≡ max wide.made (made rows + e.births) = omega (arith, c.in_ok-make_places.ensures.long, c.made-made.ensures.made, births) in
     let fits = rw (← c.self.view_is) at c.requires.fits in
     let few = rw (← c.self.view_is) at c.requires.few in
     let laws = rw (← c.self.view_is) at c.requires.laws in
     rw (← c.self.view_is) (λ born same.
-    ap (λ (r : Rows). content_of k n r c.grow.new.self c.self.inside.pool c.self.inside.rules) is
-    ∙ bear-content k n rows e c.self.inside.labels c.self.inside.pool c.self.inside.rules c.self.invariant fits few laws c.grow.new.self c.grow.ensures.ids c.grow.ensures.places grown born same)
+    ap (λ (r : Rows). content_of k n r c.make_places.new.labels c.self.inside.pool c.self.inside.rules) is
+    ∙ bear-content k n rows e wide c.self.inside.pool c.self.inside.rules whole fits few laws c.make_places.new.labels c.make_places.ensures.ids c.make_places.ensures.places grown born same)
 
 pub returns-clause-step : goal.returns-clause-step
 returns-clause-step g c =
@@ -71,16 +75,17 @@ returns-clause-step g c =
     let e : Edit = c.args.edit.now in
     let is : c.apply.new.self.rows ≡ after_edit n e rows = c.apply.ensures.rows ∙ ap (after_edit n e) c.reserve.ensures.rows in
     let births : c.edit.inside.births ≡ e.births = ap (λ (x : Edit). x.births) c.edit.view_is in
-    let grown : c.grow.new.self.made ≡ max c.self.inside.labels.made (made rows + e.births) =
-    c.in_ok-grow.ensures.made ∙ ap (λ (b : ℕ). max c.self.inside.labels.made (b + c.edit.inside.births)) c.made-made.ensures.made ∙ ap (λ (b : ℕ). max c.self.inside.labels.made (made rows + b)) births in
+    let wide : Labeling = widened c.self.inside.labels c.make_places.new.labels in
+    let whole = widened-stored k n rows c.self.inside.labels c.make_places.new.labels c.self.inside.pool c.self.inside.rules c.self.invariant c.make_places.ensures.longer in
+    let grown : c.make_places.new.labels.made ≡ max wide.made (made rows + e.births) = omega (arith, c.in_ok-make_places.ensures.long, c.made-made.ensures.made, births) in
     let fits = rw (← c.self.view_is) at c.requires.fits in
     let few = rw (← c.self.view_is) at c.requires.few in
     let laws = rw (← c.self.view_is) at c.requires.laws in
     let born = rw (← c.self.view_is) at c.requires.born in
     let begun = rw (c.made-made.ensures.made) at c.in_ok-draft.ensures in
     rw (← c.self.view_is, c.finish_step.ensures, c.new.ensures.items, c.new-2.ensures.items)
-    (subst (λ (r : Rows). IsStep c.args.asked (content_of k n rows c.self.inside.labels c.self.inside.pool c.self.inside.rules) (content_of k n r c.grow.new.self c.self.inside.pool c.self.inside.rules) (finished c.in_ok-draft.draft [] [])) (sym is)
-    (bear-step k n rows e c.self.inside.labels c.self.inside.pool c.self.inside.rules c.self.invariant fits few laws c.args.asked c.in_ok-draft.draft begun c.grow.new.self c.grow.ensures.ids c.grow.ensures.places grown born.0 born.1))
+    (subst (λ (r : Rows). IsStep c.args.asked (content_of k n rows c.self.inside.labels c.self.inside.pool c.self.inside.rules) (content_of k n r c.make_places.new.labels c.self.inside.pool c.self.inside.rules) (finished c.in_ok-draft.draft [] [])) (sym is)
+    (bear-step k n rows e wide c.self.inside.pool c.self.inside.rules whole fits few laws c.args.asked c.in_ok-draft.draft begun c.make_places.new.labels c.make_places.ensures.ids c.make_places.ensures.places grown born.0 born.1))
 
 pub returns-clause-places_stay : goal.returns-clause-places_stay
 returns-clause-places_stay g c =
