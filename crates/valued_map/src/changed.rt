@@ -40,13 +40,15 @@ pub(crate) fn changed_darts<K: Kind, const DIM: usize>(
     let mut by_dim = Vec::new(alloc);
     for dim in 0..links.dimension() + 1 {
         let darts = ruled_darts(alloc, links, labels, rules, edit, dim)?;
+        if darts.is_empty() {
+            continue;
+        }
         put_list(alloc, dim, darts, &mut by_dim)?;
     }
     Ok(TouchedDarts { by_dim })
 }
 
-/// Puts darts into the list of a dimension, behind those of lesser ones. Where there are none, no list is made.
-#[inline(always)]
+/// Puts darts into the list of a dimension, behind those of lesser ones.
 fn put_list(
     alloc: Global,
     dim: usize,
@@ -56,9 +58,6 @@ fn put_list(
     requires { length lists.old.items ≤ dim }
     ensures { OnOk result (IsListPut dim darts.items (map (λ ds. ds.items) lists.old.items) (map (λ ds. ds.items) lists.new.items)) }
 {
-    if darts.is_empty() {
-        return Ok(());
-    }
     for _place in lists.len()..dim {
         lists.push(Vec::new(alloc))?;
     }
