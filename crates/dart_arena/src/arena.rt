@@ -6,8 +6,8 @@ ghost use Rattle.dart_arena.specs.Stock.{made, row_at, IsLive, live_count, IsSto
 use crate::places::Places;
 use crate::row::Row;
 use crate::slots::{
-    entry_in, fill_rows, give_row, remove_dead, row_in, row_there, set_in_row, take_row, turn_row,
-    widen,
+    entry_in, fill_rows, give_row, remove_dead, row_in, row_there, set_in_row, set_there, take_row,
+    turn_row, widen,
 };
 use map_kind::Dart;
 use slab::Slab;
@@ -20,6 +20,9 @@ pub const MADE_MAX: u32 = 4_194_304;
 
 /// The greatest dimension of a map.
 pub const DIM_MAX: usize = 8;
+
+/// Where room is wanting, it is made for so many births at least.
+const BIRTHS_MIN: u32 = 64;
 
 /// Keys of rows are kept once more darts are dead than this, and than live.
 const DEAD_MIN: usize = 4_096;
@@ -166,17 +169,17 @@ impl<const DIM: usize> Arena<DIM> {
         ensures had_room { births ≤ self.old.spare → births ≤ self.old.room → made self.old + births ≤ MADE_MAX → IsOk result }
         ensures err { OnErr result (self.new ≡ self.old) }
     {
-        if births > MADE_MAX - self.made() {
+        let most = MADE_MAX - self.made();
+        if births > most {
             return Err(ReserveFault::Full);
         }
-        let births = births as usize;
-        if births <= self.spare && births <= self.room {
+        if births as usize <= self.spare && births as usize <= self.room {
             return Ok(());
         }
         if self.keep_keys().is_err() {
             return Err(ReserveFault::NoMemory);
         }
-        match self.grow(births) {
+        match self.grow(births.max(BIRTHS_MIN).min(most) as usize) {
             Ok(()) => Ok(()),
             Err(_) => Err(ReserveFault::NoMemory),
         }
@@ -290,6 +293,18 @@ impl<const DIM: usize> Arena<DIM> {
     {
         let key = self.places.key(place(dart));
         set_in_row(&mut self.rows, key, link, to);
+    }
+
+    /// Puts an entry at a link of a live dart. It costs less than `set_entry`, which asks whether the dart is live.
+    pub fn set_live_entry(&mut self, dart: Dart, link: usize, to: u32)
+        requires live { IsLive self.old dart }
+        requires link { link ≤ DIM }
+        ensures rows { self.new.rows ≡ with_entry self.old.rows dart link to }
+        ensures spare { self.new.spare ≡ self.old.spare }
+        ensures room { self.new.room ≡ self.old.room }
+    {
+        let key = self.places.live_key(place(dart));
+        set_there(&mut self.rows, key, link, to);
     }
 
     /// Turns each row round: entry i of each live dart becomes its entry `DIM` - i. It takes no memory, and costs a few

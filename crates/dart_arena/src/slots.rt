@@ -84,6 +84,16 @@ pub fn set_in_row<const DIM: usize>(rows: &mut Slab<Row<DIM>>, key: usize, link:
     }
 }
 
+/// Puts an entry at a link of the row under a key under which there is one.
+pub fn set_there<const DIM: usize>(rows: &mut Slab<Row<DIM>>, key: usize, link: usize, to: u32)
+    requires key { key ≢ 0 }
+    requires there { IsSome (row_under rows.old key) }
+    requires link { link ≤ DIM }
+    ensures { rows.new ≡ with_row rows.old key (λ row. slice_set row link to) }
+{
+    rows[key - 1].set(link, to);
+}
+
 /// Turns the row under a key round, if it is one.
 pub fn turn_row<const DIM: usize>(rows: &mut Slab<Row<DIM>>, key: usize)
     requires { key ≢ 0 → IsSome (row_under rows.old key) }

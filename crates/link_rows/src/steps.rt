@@ -66,12 +66,13 @@ pub fn revive<const DIM: usize>(rows: &mut Arena<DIM>, darts: &[Dart])
 /// Puts each new entry in its place.
 pub fn link<const DIM: usize>(rows: &mut Arena<DIM>, changes: &[Change])
     requires links { All (λ c. c.link ≤ DIM) changes.now }
+    requires live { All (λ c. IsLive rows.old c.dart) changes.now }
     ensures rows { rows.new.rows ≡ linked changes.now rows.old.rows }
     ensures spare { rows.new.spare ≡ rows.old.spare }
     ensures room { rows.new.room ≡ rows.old.room }
 {
     for change in changes {
-        rows.set_entry(change.dart, change.link, change.new);
+        rows.set_live_entry(change.dart, change.link, change.new);
     }
 }
 

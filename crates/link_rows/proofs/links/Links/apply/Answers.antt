@@ -1,7 +1,15 @@
 use Rattle.std.proofs.Common.{◌≡◌, ◌<◌, length, ap, ◌∙◌, arith, lit<}
-use Rattle.map_defs.specs.Edits.{Edit, with_changes, after_edit}
+use Rattle.map_defs.specs.Edits.{Edit, with_births, with_changes, after_edit}
 use Rattle.edit_laws.proofs.EditSound.{after-sound, length-after, living-changes}
 use Rattle.link_rows.proofs.links.Links.apply.Goals as goal
+
+pub link-requires : goal.link-requires
+link-requires g c =
+    let births : c.edit.inside.births ≡ c.args.edit.now.births = ap (λ (e : Edit). e.births) c.edit.view_is in
+    let changes : c.deref.result.now ≡ c.args.edit.now.changes = c.deref.ensures.value ∙ ap (λ (e : Edit). e.changes) c.edit.view_is in
+    let rows : c.bear.new.rows.rows ≡ with_births g.row.DIM c.args.edit.now.births c.args.self.now.rows =
+    rw (c.bear.ensures.rows, births, c.self.view_is) in
+    rw (changes, rows) (lit< tt, (c.requires.fits.links, c.requires.fits.darts))
 
 pub bury-requires : goal.bury-requires
 bury-requires g c =
