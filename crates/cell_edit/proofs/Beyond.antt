@@ -1,5 +1,5 @@
 -- What the links of a new dart become, and which number it has.
-use Rattle.std.proofs.Common.{ℕ, zero, suc, Bool, true, false, not, ◌≡◌, ◌≢◌, ◌+◌, ◌<◌, ◌≤◌, ◌↔◌, length, take, slice_index, get_or, Contains, Option, Some, None, refl, sym, ap, ◌∙◌, inl, inr, ⊎_elim, eq-eqb, arith}
+use Rattle.std.proofs.Common.{ℕ, zero, suc, Bool, true, false, not, ◌≡◌, ◌≢◌, ◌+◌, ◌<◌, ◌≤◌, ◌↔◌, length, take, slice_index, get_or, Contains, Option, Some, None, refl, sym, ap, ◌∙◌, ⊎_elim, eq-eqb, arith}
 use Rattle.std.specs.Prelude.{All, IsNone}
 use Rattle.std.specs.List.Sorted.{IsStrictlyIncreasing}
 use Rattle.std.proofs.lemmas.Bool.{ne_eqb, false≢true}
@@ -7,8 +7,8 @@ use Rattle.std.proofs.lemmas.List.{get_or-take, length-take, get_or_default}
 use Rattle.map_defs.specs.Kind.{Kind, alpha, beta, inverse, place, IsDistant}
 use Rattle.map_defs.specs.Links.{Links}
 use Rattle.map_defs.specs.Rows.{Rows, links_of, made, IsLive}
-use Rattle.map_defs.specs.Insertion.{IsCarrying, IsJustBelow}
-use Rattle.link_laws.proofs.Basics.{stable, IsDistant-inverse_right}
+use Rattle.map_defs.specs.Insertion.{IsJustBelow}
+use Rattle.link_laws.proofs.Basics.{stable}
 use Rattle.link_laws.proofs.RowFacts.{rows_made}
 use Rattle.insert_laws.proofs.Places.{IsBeside, same, next, below, far, link_cases, next_place, below_apart}
 use Rattle.edit_laws.proofs.RowWrites.{live-within}
@@ -69,15 +69,6 @@ below-tells k i t own low false tells = ((λ _. cases (link_cases k i t own)), �
     cases (next e) = absurd (omega arith)
     cases (below b) = b
     cases (far f) = absurd (false≢true (tells.1 f))
-
-pub copied-carries : (k : Kind) (i t : ℕ) → inverse k i ≡ i → t ≢ i → (IsJustBelow k i t → ⊥) → IsCarrying k i (copied k i t)
-copied-carries k i t self own before = cases (link_cases k i t self)
-  where
-    cases : IsBeside k i t → IsCarrying k i (copied k i t)
-    cases (same e) = absurd (own e)
-    cases (next e) = let beyond_it : t ≡ i + 1 = omega arith in rw (beyond_it, copied-next k i) (inl refl)
-    cases (below b) = absurd (before b)
-    cases (far f) = rw (copied-far k i t (far-off k i t self f)) (inr (IsDistant-inverse_right k i t f))
 
 -- no dart is there unless one is
 pub none-unless : (o : Option ℕ) → ((d : ℕ) → o ≡ Some d → ⊥) → IsNone o

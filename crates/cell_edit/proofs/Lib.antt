@@ -1,6 +1,8 @@
 pub mod StarNumbers
 pub mod Writings
 mod DartEntries
+mod CopyEntries
+mod ChangeRoom
 pub mod Beyond
 mod PairEntries
 mod InsertionEdit

@@ -1,7 +1,7 @@
 -- Lists of changes, by the entries that they write.
-use Rattle.std.specs.Prelude.{ℕ, ◌≡◌, ◌≢◌, ◌+◌, ◌<◌, ◌⊎◌, ◌↔◌, ◌==◌, if◌then◌else◌, List, ◌++◌, All, Contains}
+use Rattle.std.specs.Prelude.{ℕ, ◌≡◌, ◌≢◌, ◌+◌, ◌≤◌, ◌<◌, ◌⊎◌, ◌↔◌, ◌==◌, if◌then◌else◌, List, ◌++◌, slice_index, All, Contains}
 use Rattle.std.specs.List.{AllPairs}
-use Rattle.map_defs.specs.Kind.{Kind, inverse, place}
+use Rattle.map_defs.specs.Kind.{Kind, inverse, place, IsDistant}
 use Rattle.map_defs.specs.Links.{Links}
 use Rattle.map_defs.specs.Insertion.{IsCarrying}
 use Rattle.map_defs.specs.Edits.{Change}
@@ -30,6 +30,15 @@ beyond k L i star x t = if t == i then x else (if place k t + 1 == place k i the
 -- the entries of the links below m of the new dart of x
 abbrev pub IsNewEntry : Kind → Links → ℕ → (ℕ → ℕ) → ℕ → ℕ → ℕ → ℕ → ℕ → Type 0
 IsNewEntry k L i star m x d t y = (d ≡ star x) × (t < m) × (y ≡ beyond k L i star x t) × (y ≢ 0)
+
+-- the entry of link m of a new dart d, which becomes the new dart of n; none where that is 0
+abbrev pub IsCopy : (ℕ → ℕ) → ℕ → ℕ → ℕ → ℕ → ℕ → ℕ → Type 0
+IsCopy star new m n d t y = (d ≡ new) × (t ≡ m) × (y ≡ star n) × (y ≢ 0)
+
+-- the entries of the links from a to below b of a new dart, in an insertion at link i, as far as they are distant from it: each
+-- is copied from this row
+abbrev pub IsDistantCopy : Kind → ℕ → List ℕ → (ℕ → ℕ) → ℕ → ℕ → ℕ → ℕ → ℕ → ℕ → Type 0
+IsDistantCopy k i row star a b new d t y = (d ≡ new) × (a ≤ t) × (t < b) × IsDistant k i t × (y ≡ star (slice_index row (inverse k t))) × (y ≢ 0)
 
 -- the entries of one key x, whose link i becomes its new dart
 abbrev pub IsKeyEntry : Kind → Links → ℕ → (ℕ → ℕ) → ℕ → ℕ → ℕ → ℕ → ℕ → Type 0

@@ -9,9 +9,14 @@ use crate::places::place_of;
 use link_rows::{Links, Row};
 use map_kind::{Dart, Kind, is_generalized};
 
-/// The dart at a link of a live dart, if there is one. A link above the dimension is free.
-fn linked<K: Kind, const DIM: usize>(links: &Links<K, DIM>, link: usize, dart: Dart) -> Option<Dart>
-    requires { IsLive links.now.rows dart }
+/// The dart at a link of a dart with this row, if there is one. A link above the dimension is free.
+fn linked<K: Kind, const DIM: usize>(
+    links: &Links<K, DIM>,
+    row: &Row<DIM>,
+    link: usize,
+    dart: Dart,
+) -> Option<Dart>
+    requires { (t : ℕ) → slice_index row.now t ≡ links_of links.now.rows t dart }
     ensures free { IsNone result ↔ (links_of links.now.rows link dart ≡ 0) }
     ensures linked { IfSome result (λ other. other ≡ links_of links.now.rows link dart) }
     ensures sound { IsSound K.kind DIM links.now.rows }
@@ -20,35 +25,47 @@ fn linked<K: Kind, const DIM: usize>(links: &Links<K, DIM>, link: usize, dart: D
     if link > links.dimension() {
         return None;
     }
-    Dart::new(links.live_row(dart).entry(link))
+    Dart::new(row.entry(link))
 }
 
-/// The dart at a link of a live dart, or the dart itself where the link is free.
-fn step<K: Kind, const DIM: usize>(links: &Links<K, DIM>, link: usize, dart: Dart) -> Dart
-    requires { IsLive links.now.rows dart }
+/// The dart at a link of a live dart, which has this row, or the dart itself where the link is free.
+fn step<K: Kind, const DIM: usize>(
+    links: &Links<K, DIM>,
+    row: &Row<DIM>,
+    link: usize,
+    dart: Dart,
+) -> Dart
+    requires live { IsLive links.now.rows dart }
+    requires row { (t : ℕ) → slice_index row.now t ≡ links_of links.now.rows t dart }
     ensures step { result ≡ step (links_of links.now.rows) link dart }
     ensures live { IsLive links.now.rows result }
 {
-    linked(links, link, dart).unwrap_or(dart)
+    linked(links, row, link, dart).unwrap_or(dart)
 }
 
-/// The dart to which one step across a cell leads from a live dart; none exactly where it comes to a free link of a
-/// combinatorial map.
+/// The dart to which one step across a cell leads from a live dart, which has this row; none exactly where it comes to a free
+/// link of a combinatorial map.
 fn across<K: Kind, const DIM: usize>(
     links: &Links<K, DIM>,
+    row: &Row<DIM>,
     link: usize,
     beside: usize,
     dart: Dart,
 ) -> Option<Dart>
-    requires { IsLive links.now.rows dart }
+    requires live { IsLive links.now.rows dart }
+    requires row { (t : ℕ) → slice_index row.now t ≡ links_of links.now.rows t dart }
     ensures free { IsNone result ↔ (across K.kind (links_of links.now.rows) link beside dart ≡ 0) }
     ensures leads { IfSome result (λ other. other ≡ across K.kind (links_of links.now.rows) link beside dart) }
     ensures live { IfSome result (IsLive links.now.rows) }
 {
+    // A map has links 0 to 8 at most.
+    links.see_sound();
     if is_generalized::<K>() {
-        return Some(step(links, link, step(links, beside, dart)));
+        let next = step(links, row, beside, dart);
+        return Some(step(links, links.live_row(next), link, next));
     }
-    linked(links, link, linked(links, beside, dart)?)
+    let next = linked(links, row, beside, dart)?;
+    linked(links, links.live_row(next), link, next)
 }
 
 /// Whether the steps along two links lead from each of these darts to the same dart in either order.
@@ -107,7 +124,7 @@ fn two_steps<K: Kind, const DIM: usize>(
     // Links name live darts.
     links.see_sound();
     match Dart::new(row.entry(first)) {
-        Some(next) => step(links, second, next),
+        Some(next) => step(links, links.live_row(next), second, next),
         None => Dart::new(row.entry(second)).unwrap_or(dart),
     }
 }
@@ -136,13 +153,15 @@ fn first_outside<K: Kind, const DIM: usize>(
     requires ends { (y : ℕ) × LeadsAcross K.kind (links_of links.now.rows) link beside cell.now from y }
     ensures { LeadsAcross K.kind (links_of links.now.rows) link beside cell.now from result }
 {
+    // A map has links 0 to 8 at most.
+    links.see_sound();
     let mut at = from;
     // The walk comes to no dart twice.
     for _turn in 0..cell.len() + 1 {
         if !is_among(cell, at) {
             return at.number();
         }
-        let Some(next) = across(links, link, beside, at) else {
+        let Some(next) = across(links, links.live_row(at), link, beside, at) else {
             return 0;
         };
         at = next;
@@ -150,9 +169,10 @@ fn first_outside<K: Kind, const DIM: usize>(
     unreachable!()
 }
 
-/// The number that `first_outside` answers, of a walk from a dart of the cell.
+/// The number that `first_outside` answers, of a walk from a dart of the cell, which has this row.
 pub(crate) fn first_outside_from_within<K: Kind, const DIM: usize>(
     links: &Links<K, DIM>,
+    row: &Row<DIM>,
     link: usize,
     beside: usize,
     cell: &[Dart],
@@ -162,10 +182,11 @@ pub(crate) fn first_outside_from_within<K: Kind, const DIM: usize>(
     requires darts { Contains cell.now 0 → ⊥ }
     requires from { Contains cell.now from }
     requires live { IsLive links.now.rows from }
+    requires row { (t : ℕ) → slice_index row.now t ≡ links_of links.now.rows t from }
     requires ends { (y : ℕ) × LeadsAcross K.kind (links_of links.now.rows) link beside cell.now from y }
     ensures { LeadsAcross K.kind (links_of links.now.rows) link beside cell.now from result }
 {
-    let Some(next) = across(links, link, beside, from) else {
+    let Some(next) = across(links, row, link, beside, from) else {
         return 0;
     };
     first_outside(links, link, beside, cell, next)

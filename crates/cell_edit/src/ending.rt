@@ -1,4 +1,4 @@
-ghost use Rattle.std.specs.Prelude.{◌≡◌, ℕ, ◌+◌, ◌≤◌, slice_index, Contains, IfOk, OnOk};
+ghost use Rattle.std.specs.Prelude.{◌≡◌, ℕ, ◌+◌, ◌≤◌, ◌<◌, slice_index, Contains, IfOk, vec_len, vec_capacity};
 ghost use Rattle.map_defs.specs.Rows.{links_of};
 ghost use Rattle.map_defs.specs.Laws.{Laws};
 ghost use Rattle.map_defs.specs.Removal.{Lands, IsBridged};
@@ -55,12 +55,13 @@ fn ending_changes<K: Kind, const DIM: usize>(
 {
     let mut changes = room_for_changes(alloc, darts.len(), links.dimension())?;
     for dart in darts {
-        push_dart(links, link, beside, darts, *dart, &mut changes)?;
+        push_dart(links, link, beside, darts, *dart, &mut changes);
     }
     Ok(changes)
 }
 
-/// Appends the changes of one dart that ends: those of its links, and that of the link that leads to it.
+/// Appends the changes of one dart that ends: those of its links, and that of the link that leads to it. There is room for
+/// them.
 fn push_dart<K: Kind, const DIM: usize>(
     links: &Links<K, DIM>,
     link: usize,
@@ -68,48 +69,54 @@ fn push_dart<K: Kind, const DIM: usize>(
     darts: &[Dart],
     dart: Dart,
     changes: &mut Vec<Change>,
-) -> Result<(), AllocError>
+)
     requires link { link ≤ DIM }
     requires can { CanEnd K.kind links.now.rows link beside darts.now }
     requires laws { Laws K.kind (links_of links.now.rows) }
     requires key { Contains darts.now dart }
-    ensures { OnOk result (Appends (links_of links.now.rows)
-        (IsDartEntry K.kind (links_of links.now.rows) link beside (DIM + 1) darts.now dart) changes.old.items changes.new.items) }
+    requires room { vec_len changes.old + (DIM + 2) ≤ vec_capacity changes.old }
+    ensures capacity { vec_capacity changes.new ≡ vec_capacity changes.old }
+    ensures few { vec_len changes.new ≤ vec_len changes.old + (DIM + 2) }
+    ensures entries { Appends (links_of links.now.rows)
+        (IsDartEntry K.kind (links_of links.now.rows) link beside (DIM + 1) darts.now dart) changes.old.items changes.new.items }
 {
     // A map has links 0 to 8 at most.
     links.see_sound();
     let row = links.live_row(dart);
-    push_links(links, row, dart, changes)?;
-    push_bridge(links, row, link, beside, darts, dart, changes)
+    push_links(links, row, dart, changes);
+    push_bridge(links, row, link, beside, darts, dart, changes);
 }
 
-/// Appends the changes by which each link of a dart with this row becomes free that is not.
+/// Appends the changes by which each link of a dart with this row becomes free that is not. There is room for them.
 fn push_links<K: Kind, const DIM: usize>(
     links: &Links<K, DIM>,
     row: &Row<DIM>,
     dart: Dart,
     changes: &mut Vec<Change>,
-) -> Result<(), AllocError>
-    requires { (t : ℕ) → slice_index row.now t ≡ links_of links.now.rows t dart }
-    ensures { OnOk result (Appends (links_of links.now.rows)
-        (IsEndingEntry (links_of links.now.rows) (DIM + 1) dart) changes.old.items changes.new.items) }
+)
+    requires row { (t : ℕ) → slice_index row.now t ≡ links_of links.now.rows t dart }
+    requires room { vec_len changes.old + (DIM + 1) ≤ vec_capacity changes.old }
+    ensures capacity { vec_capacity changes.new ≡ vec_capacity changes.old }
+    ensures few { vec_len changes.new ≤ vec_len changes.old + (DIM + 1) }
+    ensures entries { Appends (links_of links.now.rows)
+        (IsEndingEntry (links_of links.now.rows) (DIM + 1) dart) changes.old.items changes.new.items }
 {
     for link in 0..links.dimension() + 1 {
         let old = row.entry(link);
         if old == 0 {
             continue;
         }
-        changes.push(Change {
+        changes.push_reserved(Change {
             dart,
             link,
             old,
             new: 0,
-        })?;
+        });
     }
-    Ok(())
 }
 
 /// Appends the change of the link that leads to a dart that ends, which has this row, where it comes from a remaining dart.
+/// There is room for it.
 fn push_bridge<K: Kind, const DIM: usize>(
     links: &Links<K, DIM>,
     row: &Row<DIM>,
@@ -118,31 +125,33 @@ fn push_bridge<K: Kind, const DIM: usize>(
     darts: &[Dart],
     dart: Dart,
     changes: &mut Vec<Change>,
-) -> Result<(), AllocError>
+)
     requires link { link ≤ DIM }
     requires can { CanEnd K.kind links.now.rows link beside darts.now }
     requires laws { Laws K.kind (links_of links.now.rows) }
     requires key { Contains darts.now dart }
     requires row { (t : ℕ) → slice_index row.now t ≡ links_of links.now.rows t dart }
-    ensures { OnOk result (Appends (links_of links.now.rows)
-        (IsBridgeEntry K.kind (links_of links.now.rows) link beside darts.now dart) changes.old.items changes.new.items) }
+    requires room { vec_len changes.old < vec_capacity changes.old }
+    ensures capacity { vec_capacity changes.new ≡ vec_capacity changes.old }
+    ensures few { vec_len changes.new ≤ vec_len changes.old + 1 }
+    ensures entries { Appends (links_of links.now.rows)
+        (IsBridgeEntry K.kind (links_of links.now.rows) link beside darts.now dart) changes.old.items changes.new.items }
 {
     // Links name live darts.
     links.see_sound();
     let Some(remaining) = Dart::new(row.entry(link)) else {
-        return Ok(());
+        return;
     };
     if is_among(darts, remaining) {
-        return Ok(());
+        return;
     }
-    let end = first_outside_from_within(links, link, beside, darts, dart);
-    changes.push(Change {
+    let end = first_outside_from_within(links, row, link, beside, darts, dart);
+    changes.push_reserved(Change {
         dart: remaining,
         link,
         old: dart.number(),
         new: landing::<K>(remaining, end),
-    })?;
-    Ok(())
+    });
 }
 
 /// The new link of a dart whose walk ends at the dart of a number: in a generalized map 0, for free, where that is the dart

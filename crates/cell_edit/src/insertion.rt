@@ -1,15 +1,14 @@
-ghost use Rattle.std.specs.Prelude.{◌≡◌, ℕ, ◌+◌, ◌≤◌, ◌<◌, ◌↔◌, ◌++◌, All, map, slice_index, Contains, IsNone, IfSome, IfOk, OnOk};
+ghost use Rattle.std.specs.Prelude.{◌≡◌, ◌≢◌, ℕ, ◌+◌, ◌-◌, ◌≤◌, ◌<◌, ◌++◌, All, map, slice_index, Contains, IfOk, OnOk, vec_len, vec_capacity};
 ghost use Rattle.std.specs.List.Sorted.{IsStrictlyIncreasing};
-ghost use Rattle.map_defs.specs.Kind.{inverse};
+ghost use Rattle.map_defs.specs.Kind.{inverse, IsDistant};
 ghost use Rattle.map_defs.specs.Rows.{links_of, IsLive};
 ghost use Rattle.map_defs.specs.Laws.{Laws};
 ghost use Rattle.map_defs.specs.Insertion.{IsInsertable, IsInserted};
 ghost use Rattle.sewing.specs.Triples.{Lists, IsAscending};
 ghost use Rattle.cell_edit.specs.Stars.{star_of};
 ghost use Rattle.cell_edit.specs.Inserting.{PlansInsertion};
-ghost use Rattle.cell_edit.specs.Writing.{WritesEntries, Appends, copied, beyond, IsNewEntry, IsKeyEntry, IsCarriedEntry, AreReady, ArePairsOf};
+ghost use Rattle.cell_edit.specs.Writing.{WritesEntries, Appends, IsCopy, IsDistantCopy, IsKeyEntry, IsCarriedEntry, AreReady, ArePairsOf};
 
-use crate::kinds::is_just_below;
 use crate::room::room_for_changes;
 use crate::stars::Stars;
 use link_rows::{Change, Edit, Links, Row};
@@ -71,13 +70,13 @@ fn carried_changes<K: Kind, const DIM: usize>(
             darts[place],
             stars.star_at(place),
             &mut changes,
-        )?;
+        );
     }
     Ok(changes)
 }
 
 /// Appends the changes of one dart and of `new`, its new dart: the link becomes the new dart, and the new dart gets its
-/// links, but for those of the pairs.
+/// links, but for those of the pairs. There is room for them.
 fn push_dart<K: Kind, const DIM: usize>(
     links: &Links<K, DIM>,
     link: usize,
@@ -85,94 +84,89 @@ fn push_dart<K: Kind, const DIM: usize>(
     dart: Dart,
     new: Dart,
     changes: &mut Vec<Change>,
-) -> Result<(), AllocError>
+)
     requires link { link < DIM }
     requires own { inverse K.kind link ≡ link }
     requires ready { AreReady K.kind links.now.rows link stars.now }
     requires key { Contains stars.now.keys dart }
     requires new { new ≡ star_of stars.now dart }
     requires above { stars.now.made < new }
-    ensures { OnOk result (Appends (links_of links.now.rows)
-        (IsKeyEntry K.kind (links_of links.now.rows) link (star_of stars.now) (DIM + 1) dart) changes.old.items changes.new.items) }
+    requires room { vec_len changes.old + (DIM + 2) ≤ vec_capacity changes.old }
+    ensures capacity { vec_capacity changes.new ≡ vec_capacity changes.old }
+    ensures few { vec_len changes.new ≤ vec_len changes.old + (DIM + 2) }
+    ensures entries { Appends (links_of links.now.rows)
+        (IsKeyEntry K.kind (links_of links.now.rows) link (star_of stars.now) (DIM + 1) dart) changes.old.items changes.new.items }
 {
     // A map has links 0 to 8 at most.
     links.see_sound();
     let row = links.live_row(dart);
-    changes.push(Change {
+    let old = row.entry(link);
+    changes.push_reserved(Change {
         dart,
         link,
-        old: row.entry(link),
+        old,
         new: new.number(),
-    })?;
-    push_links(links, row, link, stars, dart, new, changes)
+    });
+    push_distant::<K, DIM>(row, link, stars, new, 0, link, changes);
+    changes.push_reserved(joining(new, link, dart));
+    push_copy(stars, new, link + 1, old, changes);
+    push_distant::<K, DIM>(
+        row,
+        link,
+        stars,
+        new,
+        link + 2,
+        links.dimension() + 1,
+        changes,
+    );
 }
 
-/// Appends the changes of the links of `new`, the new dart of a dart with this row, but for those of the pairs.
-fn push_links<K: Kind, const DIM: usize>(
-    links: &Links<K, DIM>,
+/// Appends the changes of those links of a new dart from `from` up to `to` that are distant from a link: they are copied
+/// from the row of its dart. There is room for them.
+fn push_distant<K: Kind, const DIM: usize>(
     row: &Row<DIM>,
     link: usize,
     stars: &Stars,
-    dart: Dart,
     new: Dart,
+    from: usize,
+    to: usize,
     changes: &mut Vec<Change>,
-) -> Result<(), AllocError>
-    requires row { (t : ℕ) → slice_index row.now t ≡ links_of links.now.rows t dart }
-    requires link { link < DIM }
-    requires own { inverse K.kind link ≡ link }
-    requires ready { AreReady K.kind links.now.rows link stars.now }
-    requires key { Contains stars.now.keys dart }
-    requires new { new ≡ star_of stars.now dart }
-    requires above { stars.now.made < new }
-    ensures { OnOk result (Appends (links_of links.now.rows)
-        (IsNewEntry K.kind (links_of links.now.rows) link (star_of stars.now) (DIM + 1) dart) changes.old.items changes.new.items) }
+)
+    requires low { 2 ≤ DIM }
+    requires high { DIM ≤ 8 }
+    requires from { from ≤ to }
+    requires to { to ≤ DIM + 1 }
+    requires carried { (t : ℕ) → IsDistant K.kind link t → slice_index row.now t ≢ 0 → Contains stars.now.keys (slice_index row.now t) }
+    requires nothing { star_of stars.now 0 ≡ 0 }
+    requires room { vec_len changes.old + (to - from) ≤ vec_capacity changes.old }
+    ensures capacity { vec_capacity changes.new ≡ vec_capacity changes.old }
+    ensures few { vec_len changes.new ≤ vec_len changes.old + (to - from) }
+    ensures copies { (L : ℕ → ℕ → ℕ) → ((t : ℕ) → L t new ≡ 0)
+        → Appends L (IsDistantCopy K.kind link row.now (star_of stars.now) from to new) changes.old.items changes.new.items }
 {
-    for at in 0..links.dimension() + 1 {
-        let Some(other) = beyond(links, row, link, stars, dart, at) else {
+    for at in from..to {
+        if !K::distant(link, at) {
             continue;
-        };
-        changes.push(joining(new, at, other))?;
+        }
+        push_copy(stars, new, at, row.entry(K::inverse(at)), changes);
     }
-    Ok(())
 }
 
-/// The dart to which a link of the new dart of a dart with this row leads; none where it stays free, or is left to the
-/// pairs.
-fn beyond<K: Kind, const DIM: usize>(
-    links: &Links<K, DIM>,
-    row: &Row<DIM>,
-    link: usize,
-    stars: &Stars,
-    dart: Dart,
-    at: usize,
-) -> Option<Dart>
-    requires row { (t : ℕ) → slice_index row.now t ≡ links_of links.now.rows t dart }
-    requires link { link < DIM }
-    requires at { at ≤ DIM }
-    requires own { inverse K.kind link ≡ link }
-    requires ready { AreReady K.kind links.now.rows link stars.now }
-    requires key { Contains stars.now.keys dart }
-    ensures free { IsNone result ↔ (beyond K.kind (links_of links.now.rows) link (star_of stars.now) dart at ≡ 0) }
-    ensures linked { IfSome result (λ other. other ≡ beyond K.kind (links_of links.now.rows) link (star_of stars.now) dart at) }
+/// Appends the change by which a link of a new dart becomes the new dart of the dart of a number; none where that is 0.
+/// There is room for it.
+fn push_copy(stars: &Stars, new: Dart, at: usize, number: u32, changes: &mut Vec<Change>)
+    requires key { number ≢ 0 → Contains stars.now.keys number }
+    requires nothing { star_of stars.now 0 ≡ 0 }
+    requires room { vec_len changes.old < vec_capacity changes.old }
+    ensures capacity { vec_capacity changes.new ≡ vec_capacity changes.old }
+    ensures few { vec_len changes.new ≤ vec_len changes.old + 1 }
+    ensures copy { (L : ℕ → ℕ → ℕ) → L at new ≡ 0
+        → Appends L (IsCopy (star_of stars.now) new at number) changes.old.items changes.new.items }
 {
-    if at == link {
-        return Some(dart);
-    }
-    if is_just_below::<K>(link, at) {
-        return None;
-    }
-    // A map has links 0 to 8 at most.
-    links.see_sound();
-    let other = Dart::new(row.entry(copied::<K>(link, at)))?;
-    Some(stars.star(other))
-}
-
-/// The link of an old dart from which a link of its new dart is copied, in an insertion at a link.
-fn copied<K: Kind>(link: usize, at: usize) -> usize
-    requires { link ≤ 8 }
-    ensures { result ≡ copied K.kind link at }
-{
-    if at == link + 1 { link } else { K::inverse(at) }
+    let Some(other) = Dart::new(number) else {
+        return;
+    };
+    changes.push_reserved(joining(new, at, stars.star(other)));
 }
 
 /// Appends the changes by which the new darts of pairs are joined.

@@ -12,7 +12,6 @@ mod ending;
 mod face;
 mod firsts;
 mod insertion;
-mod kinds;
 mod near;
 mod path;
 mod places;

@@ -1,7 +1,0 @@
-use Rattle.map_defs.specs.Rows.{links_of}
-use Rattle.cell_edit.specs.Stars.{star_of}
-use Rattle.cell_edit.specs.Writing.{Appends, IsNewEntry}
-use Rattle.cell_edit.proofs.insertion.push_links.Given as goal
-
-abbrev pub invariant-loop-at : goal.invariant-loop-at
-invariant-loop-at g l = Appends (links_of l.links.rows) (IsNewEntry g.K.Kind.kind (links_of l.links.rows) l.link (star_of l.stars) l.at l.dart) l.initial.changes.items l.changes.items
