@@ -1,4 +1,4 @@
-ghost use Rattle.std.specs.Prelude.{◌≡◌, ℕ, ◌+◌, ◌≤◌, ◌↔◌, All, Contains, IfOk, OnOk, IsErrOf, IsTrue, map};
+ghost use Rattle.std.specs.Prelude.{◌≡◌, ℕ, ◌+◌, ◌≤◌, ◌↔◌, All, Contains, IfOk, OnOk, IsErrOf, IsTrue, map, take, length};
 ghost use Rattle.std.specs.List.Sorted.{IsStrictlyIncreasing};
 ghost use Rattle.map_defs.specs.Rows.{links_of};
 ghost use Rattle.map_defs.specs.LinkWords.{one_link};
@@ -78,8 +78,8 @@ pub fn insertion_pairs<K: Kind, const DIM: usize>(
     ensures unpaired { IsErrOf result PairFault.Unpaired → IsGood K.kind (links_of links.now.rows) (IsPairing link)
         (InPairs K.kind (links_of links.now.rows) (IsPairing link) (Lists seeds.now)) → ⊥ }
 {
-    let pairing = pairing_links(alloc, links.dimension(), link)?;
-    pair(alloc, links, seeds, &pairing)
+    let (pairing, count) = pairing_links(links.dimension(), link);
+    pair(alloc, links, seeds, &pairing[..count])
 }
 
 /// The links up to `dim` along which the new darts of an insertion at a link lie: the link, and those distant from it.
@@ -101,20 +101,25 @@ pub fn carrying_links<K: Kind>(
     Ok(carrying)
 }
 
-/// The links up to `dim` along which the pairs of an insertion at a link go: the link, and those from the second above it.
-fn pairing_links(alloc: Global, dim: usize, link: usize) -> Result<Vec<usize>, AllocError>
+/// The links up to `dim` along which the pairs of an insertion at a link go, the link and those from the second above it: the
+/// first of the list, and how many they are.
+fn pairing_links(dim: usize, link: usize) -> ([usize; 9], usize)
     requires dim { dim ≤ 8 }
     requires link { link ≤ dim }
-    ensures { IfOk result (λ pairing. (j : ℕ) → Contains pairing.items j ↔ ((j ≤ dim) × IsPairing link j)) }
+    ensures few { result.1 ≤ 9 }
+    ensures long { length result.0 ≡ 9 }
+    ensures pairing { (j : ℕ) → Contains (take result.1 result.0) j ↔ ((j ≤ dim) × IsPairing link j) }
 {
-    let mut pairing = Vec::new(alloc);
+    let mut pairing = [0; 9];
+    let mut count = 0;
     for other in 0..dim + 1 {
         if other < link || other == link + 1 {
             continue;
         }
-        pairing.push(other)?;
+        pairing[count] = other;
+        count += 1;
     }
-    Ok(pairing)
+    (pairing, count)
 }
 
 /// The words of these links, one link each.

@@ -1,4 +1,5 @@
-use Rattle.std.proofs.Common.{ℕ, ◌≡◌, ◌+◌, ◌≤◌, ◌<◌, inl, inr, arith}
+use Rattle.std.proofs.Common.{ℕ, ◌≡◌, ◌+◌, ◌≤◌, ◌<◌, List, [], ◌∷◌, ◌++◌, length, take, slice_set, ◌∙◌, inl, inr, arith}
+use Rattle.std.proofs.lemmas.List.{take_more_set, length-set}
 use Rattle.map_defs.specs.Insertion.{IsPairing}
 use Rattle.sewing.proofs.DistantPairs.{distant-skip, distant-push, distant-all}
 use Rattle.link_laws.proofs.Basics.{same_or_not}
@@ -14,18 +15,27 @@ pairing : (link other : ℕ) → link ≤ other → (other ≡ link + 1 → ⊥)
 pairing link other low apart = elim (same_or_not other link) [ inl own ↦ inl own | inr n ↦ inr (omega arith) ]
 
 pub loop-other-preserved-then-other-link : goal.loop-other-preserved-then-other-link
-loop-other-preserved-then-other-link c =
-    distant-skip (IsPairing c.args.link) c.loop-other.other c.loop-other.pairing.items
-    (λ pairs. let apart = between c.args.link c.loop-other.other pairs in elim c.then-other-link.branch [
-      | then-other-link-via-then-other-link w ↦ apart.0 w.if-other-link.true
-      | then-other-link-via-else-other-link+then-other-link-2 w ↦ apart.1 w.if-other-link-2.true
-    ])
-    c.loop-other.invariant
+loop-other-preserved-then-other-link c = (
+  distant-skip (IsPairing c.args.link) c.loop-other.other (take c.loop-other.count c.loop-other.pairing)
+      (λ pairs. let apart = between c.args.link c.loop-other.other pairs in elim c.then-other-link.branch [
+        | then-other-link-via-then-other-link w ↦ apart.0 w.if-other-link.true
+        | then-other-link-via-else-other-link+then-other-link-2 w ↦ apart.1 w.if-other-link-2.true
+      ])
+      c.loop-other.invariant.0,
+  omega (arith, c.loop-other.invariant.1),
+  c.loop-other.invariant.2,
+)
 
 pub loop-other-preserved : goal.loop-other-preserved
 loop-other-preserved c =
-    rw c.in_ok-push.ensures.items
-    (distant-push (IsPairing c.args.link) c.loop-other.other c.loop-other.pairing.items (pairing c.args.link c.loop-other.other c.if-other-link.false c.if-other-link-2.false) c.loop-other.invariant)
+    let list : List ℕ = c.loop-other.pairing in
+    let short : c.loop-other.count < length list = omega (arith, c.loop-other.invariant.1, c.loop-other.invariant.2) in
+    let more : take (c.loop-other.count + 1) (slice_set list c.loop-other.count c.loop-other.other) ≡ take c.loop-other.count list ++ c.loop-other.other ∷ [] = take_more_set list c.loop-other.count c.loop-other.other short in (
+      rw more (distant-push (IsPairing c.args.link) c.loop-other.other (take c.loop-other.count list) (pairing c.args.link c.loop-other.other c.if-other-link.false c.if-other-link-2.false) c.loop-other.invariant.0),
+      omega (arith, c.loop-other.invariant.1),
+      length-set list c.loop-other.count c.loop-other.other ∙ c.loop-other.invariant.2,
+    )
 
-pub returns : goal.returns
-returns c = distant-all (IsPairing c.args.link) c.args.dim c.loop-other.other c.loop-other.pairing.items (omega arith) c.loop-other.invariant
+pub returns-clause-pairing : goal.returns-clause-pairing
+returns-clause-pairing c =
+    distant-all (IsPairing c.args.link) c.args.dim c.loop-other.other (take c.loop-other.count c.loop-other.pairing) (omega arith) c.loop-other.invariant.0
