@@ -1,12 +1,14 @@
 // The same scripts over CGAL's combinatorial and generalized maps: a mesh in OFF text with points as values of its vertices,
-// the lines polygon, sew, unsew, vertex, edge, close, dangle, center, remove, contract, dual and count. Only `count` is answered, in
-// the same words. Darts are named by the numbers that cellmap gives them; of the new darts of a line only the first is named, and
-// none of a closing.
+// the lines polygon, sew, unsew, vertex, edge, close, dangle, center, remove, contract, dual and count. Darts are named by the numbers
+// that cellmap gives them; of the new darts of a line only the first is named, and none of a closing. As `run` it asks before each line
+// whether it can be obeyed, where CGAL can be asked, and writes cellmap's replies (`no` alone where it cannot be). As `trust` it
+// asks nothing, and writes the replies to `count` alone. Neither looks whether a dart that a line names is live.
 #include <CGAL/Combinatorial_map.h>
 #include <CGAL/Generalized_map.h>
 
 #include <algorithm>
 #include <array>
+#include <charconv>
 #include <cstdint>
 #include <cstdio>
 #include <cstdlib>
@@ -56,6 +58,55 @@ static std::string next_word(const char *&at) {
   const char *begin = at;
   while (*at && *at != ' ' && *at != '\n') at++;
   return {begin, at};
+}
+
+static bool answers;
+static char replies[1 << 16];
+static char *reply = replies;
+
+static void hand_on() {
+  std::fwrite(replies, 1, reply - replies, stdout);
+  reply = replies;
+}
+
+template <std::size_t LENGTH>
+static void put(const char (&word)[LENGTH]) {
+  std::memcpy(reply, word, LENGTH - 1);
+  reply += LENGTH - 1;
+}
+
+static void put(std::size_t number) {
+  *reply++ = ' ';
+  reply = std::to_chars(reply, reply + 20, number).ptr;
+}
+
+// no line is longer than a fourth of what is kept
+static void end_line() {
+  *reply++ = '\n';
+  if (reply - replies > 3 << 14) hand_on();
+}
+
+// whether a line is to be obeyed: where it is not, it is refused
+static bool obeyed(bool can) {
+  if (can) return true;
+  put("no");
+  end_line();
+  return false;
+}
+
+// the reply to a line that was obeyed
+static void done() {
+  if (!answers) return;
+  put("ok");
+  end_line();
+}
+
+static void done(std::size_t first, std::size_t count) {
+  if (!answers) return;
+  put("ok");
+  put(first);
+  put(count);
+  end_line();
 }
 
 // Each kind makes a polygon, whose darts come in the order of their numbers, and joins the sides of two faces.
@@ -160,9 +211,39 @@ struct Machine {
 
   // names the first of the new darts, and leaves the numbers of the others without a dart
   void name_new(std::size_t before, Dart first) {
-    std::size_t made = darts.size() + (map.number_of_darts() - before);
+    std::size_t named = darts.size(), births = map.number_of_darts() - before;
     darts.push_back(first);
-    darts.resize(made);
+    darts.resize(named + births);
+    done(named, births);
+  }
+
+  bool can_sew(long long link, Dart one, Dart other) {
+    if (link == 1) return map.template is_sewable<1>(one, other);
+    if (link == 2) return map.template is_sewable<2>(one, other);
+    if constexpr (DIM >= 3)
+      if (link == 3) return map.template is_sewable<3>(one, other);
+    return false;
+  }
+
+  bool can_unsew(long long link, Dart dart) {
+    if (link == 1) return !map.template is_free<1>(dart);
+    if (link == 2) return !map.template is_free<2>(dart);
+    if constexpr (DIM >= 3)
+      if (link == 3) return !map.template is_free<3>(dart);
+    return false;
+  }
+
+  bool can_remove(long long dim, Dart dart) {
+    if (dim == 0) return map.template is_removable<0>(dart);
+    if (dim == 1) return map.template is_removable<1>(dart);
+    if (dim == 2) return map.template is_removable<2>(dart);
+    return false;
+  }
+
+  bool can_contract(long long dim, Dart dart) {
+    if (dim == 1) return map.template is_contractible<1>(dart);
+    if (dim == 2) return map.template is_contractible<2>(dart);
+    return false;
   }
 
   void sew(long long link, Dart one, Dart other) {
@@ -198,9 +279,10 @@ struct Machine {
 
   void count() {
     std::vector<unsigned> cells = map.count_all_cells();
-    std::printf("count %zu", static_cast<std::size_t>(map.number_of_darts()));
-    for (unsigned number : cells) std::printf(" %u", number);
-    std::printf("\n");
+    put("count");
+    put(map.number_of_darts());
+    for (unsigned number : cells) put(number);
+    end_line();
   }
 
   void dual() {
@@ -214,18 +296,25 @@ struct Machine {
     for (std::string word = next_word(at); !word.empty(); word = next_word(at)) {
       std::size_t before = map.number_of_darts();
       if (word == "polygon") {
+        std::size_t named = darts.size();
         Of::polygon(map, next_number(at), darts);
+        done(named, darts.size() - named);
       } else if (word == "sew") {
         long long link = next_number(at), one = next_number(at), other = next_number(at);
+        if (answers && !obeyed(can_sew(link, darts[one], darts[other]))) continue;
         sew(link, darts[one], darts[other]);
+        done();
       } else if (word == "unsew") {
         long long link = next_number(at), dart = next_number(at);
+        if (answers && !obeyed(can_unsew(link, darts[dart]))) continue;
         unsew(link, darts[dart]);
+        done();
       } else if (word == "vertex") {
         Dart dart = darts[next_number(at)];
         name_new(before, map.insert_cell_0_in_cell_1(dart));
       } else if (word == "edge") {
         long long one = next_number(at), other = next_number(at);
+        if (answers && !obeyed(map.is_insertable_cell_1_in_cell_2(darts[one], darts[other]))) continue;
         name_new(before, map.insert_cell_1_in_cell_2(darts[one], darts[other]));
       } else if (word == "close") {
         close(next_number(at));
@@ -238,12 +327,17 @@ struct Machine {
         name_new(before, map.insert_cell_0_in_cell_2(dart));
       } else if (word == "remove") {
         long long dim = next_number(at), dart = next_number(at);
+        if (answers && !obeyed(can_remove(dim, darts[dart]))) continue;
         remove(dim, darts[dart]);
+        done();
       } else if (word == "contract") {
         long long dim = next_number(at), dart = next_number(at);
+        if (answers && !obeyed(can_contract(dim, darts[dart]))) continue;
         contract(dim, darts[dart]);
+        done();
       } else if (word == "dual") {
         dual();
+        done();
       } else if (word == "count") {
         count();
       } else {
@@ -259,13 +353,16 @@ static void run(const char *mesh, const char *script) {
   Machine<Map, Oriented> machine;
   if (std::strcmp(mesh, "-")) machine.load(text_of(mesh));
   machine.obey(text_of(script));
+  hand_on();
   std::fflush(stdout);
   // the map is not given back piece by piece at the end
   std::_Exit(0);
 }
 
 int main(int count, char **words) {
-  if (count != 6 || std::strcmp(words[1], "run")) return 2;
+  if (count != 6) return 2;
+  answers = !std::strcmp(words[1], "run");
+  if (!answers && std::strcmp(words[1], "trust")) return 2;
   bool oriented = !std::strcmp(words[2], "c");
   bool solid = !std::strcmp(words[3], "3");
   if (oriented && solid) run<Combinatorial<3>, true>(words[4], words[5]);
