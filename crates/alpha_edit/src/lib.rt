@@ -8,8 +8,6 @@
 mod contraction;
 mod edge;
 mod removal;
-#[cfg(test)]
-mod tests;
 mod vertex;
 
 pub use cell_edit::face_plan;

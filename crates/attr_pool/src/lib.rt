@@ -5,8 +5,6 @@ mod column;
 mod id;
 mod labels;
 mod pool;
-#[cfg(test)]
-mod tests;
 
 pub use id::AttrId;
 pub use labels::Labels;

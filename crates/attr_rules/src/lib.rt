@@ -7,8 +7,6 @@ mod named;
 mod numbers;
 mod rule;
 mod table;
-#[cfg(test)]
-mod tests;
 
 pub use hooked::{HookName, Hooked, OrCopy};
 pub use name::RuleName;

@@ -11,14 +11,8 @@ mod crossing;
 mod cut;
 mod drawing;
 mod edge;
-#[cfg(test)]
-mod ending_tests;
 mod flat;
-#[cfg(test)]
-mod insertion_tests;
 mod removal;
-#[cfg(test)]
-mod test_maps;
 mod vertex;
 mod writing;
 

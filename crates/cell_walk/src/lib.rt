@@ -13,8 +13,6 @@ mod seen;
 mod spread;
 mod surface;
 mod sweep;
-#[cfg(test)]
-mod tests;
 mod ways;
 mod whole_map;
 

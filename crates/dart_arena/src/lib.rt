@@ -7,8 +7,6 @@ mod gather;
 mod places;
 mod row;
 mod slots;
-#[cfg(test)]
-mod tests;
 
 pub use arena::{Arena, DIM_MAX, MADE_MAX, ReserveFault};
 pub use row::Row;

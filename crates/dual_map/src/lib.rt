@@ -7,8 +7,6 @@ pub mod combinatorial;
 mod entries;
 pub mod generalized;
 mod plan;
-#[cfg(test)]
-mod tests;
 
 pub use boundary::dualable;
 pub use plan::dual_plan;

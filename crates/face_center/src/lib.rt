@@ -10,8 +10,4 @@ pub mod alpha;
 pub mod beta;
 mod center;
 mod hanging;
-#[cfg(test)]
-mod test_maps;
-#[cfg(test)]
-mod tests;
 mod writing;

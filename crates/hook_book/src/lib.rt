@@ -4,8 +4,6 @@
 mod book;
 mod boxed;
 mod named;
-#[cfg(test)]
-mod tests;
 
 pub use book::{Book, BookFault, BookWhat};
 pub use boxed::Kept;

@@ -7,8 +7,6 @@ mod combinatorial;
 mod generalized;
 mod plans;
 mod store;
-#[cfg(test)]
-mod tests;
 
 pub use plans::{Edits, Plans};
 pub use store::LinkStore;

@@ -7,8 +7,6 @@ mod edit;
 mod links;
 mod polygon;
 mod steps;
-#[cfg(test)]
-mod tests;
 
 pub use builder::LinkBuilder;
 pub use dart_arena::{MADE_MAX, ReserveFault, Row};

@@ -4,8 +4,6 @@
 mod again;
 mod cells;
 mod counts;
-#[cfg(test)]
-mod counts_tests;
 mod cursor;
 mod cut;
 mod fault;
@@ -15,16 +13,12 @@ mod laws;
 mod line;
 mod lines;
 mod links;
-#[cfg(test)]
-mod links_tests;
 mod listing;
 mod name;
 mod names;
 mod read;
 mod rows;
 mod table;
-#[cfg(test)]
-mod tests;
 mod told;
 mod values;
 mod words;

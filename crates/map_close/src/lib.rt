@@ -10,7 +10,3 @@ pub mod beta;
 mod boundary;
 mod closing;
 mod star_table;
-#[cfg(test)]
-mod test_maps;
-#[cfg(test)]
-mod tests;

@@ -11,8 +11,6 @@ pub mod memory;
 pub mod shelf;
 pub mod sink;
 pub mod sure;
-#[cfg(test)]
-mod tests;
 pub mod writer_sink;
 
 pub use file_shelf::FileShelf;

@@ -10,8 +10,6 @@ mod places;
 mod repeat;
 mod sew;
 mod side;
-#[cfg(test)]
-mod tests;
 
 pub use build::{Built, MeshMap, mesh_map, mesh_rows};
 pub use fault::MeshFault;

@@ -5,8 +5,6 @@ mod cursor;
 mod faces;
 mod fault;
 mod line;
-#[cfg(test)]
-mod map_tests;
 mod mesh;
 mod number;
 mod of_map;
@@ -14,8 +12,6 @@ mod points;
 mod read;
 mod round;
 mod rows;
-#[cfg(test)]
-mod tests;
 mod write;
 
 pub use fault::{OffFault, OffWhat};

@@ -3,16 +3,10 @@
 
 mod boundary;
 mod builder;
-#[cfg(test)]
-mod double_tests;
 mod doubling;
 mod fault;
-#[cfg(test)]
-mod half_tests;
 mod halving;
 mod laws;
-#[cfg(test)]
-mod orient_tests;
 mod orienting;
 mod ranks;
 mod search;

@@ -8,8 +8,6 @@ mod log_line;
 mod numbers;
 mod read;
 mod reply;
-#[cfg(test)]
-mod tests;
 
 pub use line::{Change, Line, Question};
 pub use log::{log_text, put_log};

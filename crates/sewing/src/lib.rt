@@ -5,8 +5,6 @@
 mod book;
 mod pairing;
 mod plans;
-#[cfg(test)]
-mod tests;
 mod triple;
 
 pub use pairing::{PairFault, pair};

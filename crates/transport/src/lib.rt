@@ -9,8 +9,6 @@ mod marks;
 mod merging;
 mod pieces;
 mod tally;
-#[cfg(test)]
-mod tests;
 mod touched;
 mod wanted;
 

@@ -6,8 +6,6 @@ mod journal;
 mod marks;
 mod rule_change;
 mod step;
-#[cfg(test)]
-mod tests;
 mod value_change;
 
 pub use journal::Journal;

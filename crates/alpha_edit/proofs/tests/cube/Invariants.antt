@@ -1,7 +1,0 @@
-use Rattle.map_defs.specs.Kind.{alpha}
-use Rattle.map_defs.specs.Rows.{links_of}
-use Rattle.map_defs.specs.Laws.{Laws}
-use Rattle.alpha_edit.proofs.tests.cube.Given as goal
-
-abbrev pub invariant-loop-square : goal.invariant-loop-square
-invariant-loop-square g l = Laws alpha (links_of l.links.rows)

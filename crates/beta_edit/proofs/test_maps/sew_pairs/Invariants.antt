@@ -1,7 +1,0 @@
-use Rattle.map_defs.specs.Kind.{beta}
-use Rattle.map_defs.specs.Rows.{links_of}
-use Rattle.map_defs.specs.Laws.{Laws}
-use Rattle.beta_edit.proofs.test_maps.sew_pairs.Given as goal
-
-abbrev pub invariant-loop-pair : goal.invariant-loop-pair
-invariant-loop-pair g l = Laws beta (links_of l.links.rows)
