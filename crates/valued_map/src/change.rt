@@ -52,7 +52,7 @@ impl<K: Kind, const DIM: usize> ValuedMap<K, DIM> {
         if self.links.reserve(edit.births).is_err() {
             return Err(AllocError);
         }
-        make_places(&mut self.labels, made + edit.births)?;
+        make_places(&mut self.labels, made, edit.births)?;
         self.links.apply(edit);
         Ok(finish_step(draft, Vec::new(alloc), Vec::new(alloc)))
     }
@@ -81,7 +81,7 @@ impl<K: Kind, const DIM: usize> ValuedMap<K, DIM> {
         if self.links.reserve(edit.births).is_err() {
             return Err(AllocError);
         }
-        make_places(&mut self.labels, made + edit.births)?;
+        make_places(&mut self.labels, made, edit.births)?;
         self.links.apply(edit);
         match moved(
             alloc,
@@ -145,15 +145,24 @@ impl<K: Kind, const DIM: usize> ValuedMap<K, DIM> {
     }
 }
 
-/// Makes places in the labels for the darts up to `made`, to the end of a block. Where there are, it costs nothing.
-fn make_places<const DIM: usize>(labels: &mut Labels<DIM>, made: u32) -> Result<(), AllocError>
-    requires { made ≤ MADE_MAX }
-    ensures long { OnOk result (made ≤ labels.new.made) }
+/// Makes places in the labels for so many births behind the darts up to `made`, to the end of a block. Where there are, it
+/// costs nothing.
+fn make_places<const DIM: usize>(
+    labels: &mut Labels<DIM>,
+    made: u32,
+    births: u32,
+) -> Result<(), AllocError>
+    requires long { made ≤ labels.old.made }
+    requires few { made + births ≤ MADE_MAX }
+    ensures long { OnOk result (made + births ≤ labels.new.made) }
     ensures longer { labels.old.made ≤ labels.new.made }
     ensures ids { KeepsIds labels.old labels.new }
     ensures places { KeepsPlaces labels.old labels.new }
 {
-    labels.grow(made.next_multiple_of(BLOCK))
+    if births == 0 {
+        return Ok(());
+    }
+    labels.grow((made + births).next_multiple_of(BLOCK))
 }
 
 /// The cells that the edit may have changed, with the values that are carried to them, and room in the pool for these values;
