@@ -232,7 +232,7 @@ def insertion():
 # The rows of the house, from above. A crate stands on crates of rows below, or of its own.
 ROWS = [
     ("code", [
-        ("laws, example, tests", ["map_laws", "first_map", "map_rows", "map_calls"]),
+        ("laws, example, tests", ["map_laws", "first_map", "map_rows", "map_calls", "link_calls", "text_calls"]),
         ("program", ["cellmap", "map_run", "script_text"]),
         ("the map", ["map_soak", "map_core", "valued_map", "undo_journal", "mesh_build"]),
         ("plans", ["kind_edit", "alpha_edit", "beta_edit", "map_close", "face_center"]),
@@ -253,7 +253,7 @@ ROWS = [
     ]),
 ]
 FILLS = {"code": ("#eaf1f8", "#cfe0ef"), "laws": ("#f6efe2", "#ecdfc4"), "definitions": ("#e6f2e8", "#c9e2ce")}
-TESTS = ("map_rows", "map_calls")
+TESTS = ("map_rows", "map_calls", "link_calls", "text_calls")
 WORDS = {
     "machine_defs": "what the program does",
     "store_defs": "words between layers",

@@ -1,0 +1,7 @@
+use Rattle.map_defs.specs.Kind.{beta}
+use Rattle.map_defs.specs.Rows.{links_of}
+use Rattle.map_defs.specs.Laws.{Laws}
+use Rattle.link_calls.proofs.dual_map_tests.two_volumes.Given as goal
+
+abbrev pub invariant-loop-triangle : goal.invariant-loop-triangle
+invariant-loop-triangle g l = Laws beta (links_of l.links.rows)
