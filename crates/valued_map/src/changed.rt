@@ -1,6 +1,6 @@
 //! The darts whose cells an edit may have changed. A cell that only gains darts just born is none of these: they are given its
 //! id, and nothing else of it is looked at.
-ghost use Rattle.std.specs.Prelude.{◌≡◌, ◌≢◌, ◌↔◌, ℕ, ◌+◌, ◌-◌, ◌≤◌, ◌<◌, length, map, Contains, IsTrue, IsNone, IsSome, IfOk, IfSome, None, OnOk};
+ghost use Rattle.std.specs.Prelude.{◌≡◌, ◌≢◌, ◌↔◌, ℕ, ◌+◌, ◌-◌, ◌≤◌, ◌<◌, length, map, Contains, IsTrue, IsNone, IsSome, IfOk, IfSome, Some, None, OnOk, slice_index};
 ghost use Rattle.map_defs.specs.LinkWords.{LinkWord as MapWord, through, IsCellWord, IsWithin};
 ghost use Rattle.map_defs.specs.Rows.{IsLive, IsSound, links_of, made};
 ghost use Rattle.store_defs.specs.Labelings.{id_of, HasPlaces};
@@ -10,10 +10,9 @@ ghost use Rattle.valued_map.specs.Changing.{AreAdded, IsListPut, IsApartAlong, L
 
 use crate::passing::may_touch;
 use crate::rules::has_rule;
-use crate::touched::{add_live, add_touched};
+use crate::touched::{add_live, add_touched, number_along};
 use attr_pool::{AttrId, Labels};
-use cell_walk::follow;
-use link_rows::{Edit, Links};
+use link_rows::{Edit, Links, Row};
 use map_kind::{Dart, Kind, LinkWord};
 use std::alloc::{AllocError, Global};
 use transport::{RuleRow, TouchedDarts};
@@ -168,59 +167,44 @@ fn graft<K: Kind, const DIM: usize>(
     ensures others { (j d : ℕ) → d ≢ number → id_of labels.new j d ≡ id_of labels.old j d }
     ensures added { OnOk result (AreAdded links.now.rows (λ x. (x ≡ number) × LeadsApart K.kind dim links.now.rows labels.new x) touched.old.items touched.new.items) }
 {
+    // A map has links 0 to 8 at most.
+    links.see_sound();
     let Some(dart) = Dart::new(number) else {
         return Ok(());
     };
-    if !join_cell(links, labels, dim, words, dart) {
+    let Some(row) = links.row(dart) else {
         return Ok(());
-    }
-    if !leads_apart(links, labels, dim, words, dart) {
+    };
+    let Some(id) = id_beside(links, labels, dim, words, row, dart) else {
+        return Ok(());
+    };
+    labels.put(dim, dart, Some(id));
+    if !leads_apart(links, labels, dim, words, row, dart, id) {
         return Ok(());
     }
     add_live(links, number, touched)
 }
 
-/// Gives a dart an id of a dart to which some word of a dimension's cells leads it, if there is one, and says whether there is.
-fn join_cell<K: Kind, const DIM: usize>(
-    links: &Links<K, DIM>,
-    labels: &mut Labels<DIM>,
-    dim: usize,
-    words: &[LinkWord],
-    dart: Dart,
-) -> bool
-    requires dim { dim ≤ DIM }
-    requires dart { dart ≤ labels.old.made }
-    requires placed { HasPlaces labels.old dim }
-    requires words { (w : MapWord) → Contains words.now w ↔ (IsCellWord K.kind dim w × IsWithin DIM w) }
-    ensures grafted { (older : ℕ) → older < dart → AreGrafted K.kind links.now.rows older (λ i. i ≡ dim) labels.old labels.new }
-    ensures others { (j d : ℕ) → d ≢ dart → id_of labels.new j d ≡ id_of labels.old j d }
-    ensures bare { (IsTrue result → ⊥) → (labels.new ≡ labels.old)
-        × ((w : MapWord) → Contains words.now w → through (links_of links.now.rows) w dart ≢ 0
-        → id_of labels.new dim (through (links_of links.now.rows) w dart) ≡ None) }
-{
-    let Some(id) = id_beside(links, labels, dim, words, dart) else {
-        return false;
-    };
-    labels.put(dim, dart, Some(id));
-    true
-}
-
-/// The id of a dart to which one of some words leads a dart, if one of these has an id.
+/// The id of a dart to which one of some words leads a dart, if one of these has an id. The dart has this row.
 fn id_beside<K: Kind, const DIM: usize>(
     links: &Links<K, DIM>,
     labels: &Labels<DIM>,
     dim: usize,
     words: &[LinkWord],
+    row: &Row<DIM>,
     dart: Dart,
 ) -> Option<AttrId>
-    requires { (w : MapWord) → Contains words.now w → IsWithin DIM w }
+    requires row { (t : ℕ) → slice_index row.now t ≡ links_of links.now.rows t dart }
+    requires words { (w : MapWord) → Contains words.now w → IsWithin DIM w }
     ensures none { IsNone result → (w : MapWord) → Contains words.now w → through (links_of links.now.rows) w dart ≢ 0
         → id_of labels.now dim (through (links_of links.now.rows) w dart) ≡ None }
     ensures some { IfSome result (λ id. (w : MapWord) × Contains words.now w × (through (links_of links.now.rows) w dart ≢ 0)
         × (id_of labels.now dim (through (links_of links.now.rows) w dart) ≡ Some id)) }
 {
+    // A map has links 0 to 8 at most.
+    links.see_sound();
     for word in words {
-        let id = id_along(links, labels, dim, *word, dart);
+        let id = id_along(links, labels, dim, *word, row, dart);
         if id.is_some() {
             return id;
         }
@@ -228,55 +212,67 @@ fn id_beside<K: Kind, const DIM: usize>(
     None
 }
 
-/// The id of the dart to which a word leads a dart, if there is one and it has an id.
+/// The id of the dart to which a word leads a dart with this row, if there is one and it has an id.
 fn id_along<K: Kind, const DIM: usize>(
     links: &Links<K, DIM>,
     labels: &Labels<DIM>,
     dim: usize,
     word: LinkWord,
+    row: &Row<DIM>,
     dart: Dart,
 ) -> Option<AttrId>
-    requires { IsWithin DIM word }
+    requires row { (t : ℕ) → slice_index row.now t ≡ links_of links.now.rows t dart }
+    requires word { IsWithin DIM word }
     ensures none { IsNone result → through (links_of links.now.rows) word dart ≢ 0
         → id_of labels.now dim (through (links_of links.now.rows) word dart) ≡ None }
     ensures some { IfSome result (λ id. (through (links_of links.now.rows) word dart ≢ 0)
         × (id_of labels.now dim (through (links_of links.now.rows) word dart) ≡ Some id)) }
 {
-    labels.id(dim, follow(links, word, dart)?)
+    labels.id(dim, Dart::new(number_along(links, word, row, dart))?)
 }
 
-/// Whether one of some words leads a dart to a lesser one with another id in a dimension.
+/// Whether one of some words leads a dart with this row and this id to a lesser one with another id in a dimension.
 fn leads_apart<K: Kind, const DIM: usize>(
     links: &Links<K, DIM>,
     labels: &Labels<DIM>,
     dim: usize,
     words: &[LinkWord],
+    row: &Row<DIM>,
     dart: Dart,
+    id: AttrId,
 ) -> bool
-    requires { (w : MapWord) → Contains words.now w → IsWithin DIM w }
+    requires row { (t : ℕ) → slice_index row.now t ≡ links_of links.now.rows t dart }
+    requires id { id_of labels.now dim dart ≡ Some id }
+    requires words { (w : MapWord) → Contains words.now w → IsWithin DIM w }
     ensures { (w : MapWord) → Contains words.now w → IsApartAlong links.now.rows labels.now dim w dart → IsTrue result }
 {
+    // A map has links 0 to 8 at most.
+    links.see_sound();
     for word in words {
-        if leads_to_another(links, labels, dim, *word, dart) {
+        if leads_to_another(links, labels, dim, *word, row, dart, id) {
             return true;
         }
     }
     false
 }
 
-/// Whether a word leads a dart to a lesser one with another id in a dimension.
+/// Whether a word leads a dart with this row and this id to a lesser one with another id in a dimension.
 fn leads_to_another<K: Kind, const DIM: usize>(
     links: &Links<K, DIM>,
     labels: &Labels<DIM>,
     dim: usize,
     word: LinkWord,
+    row: &Row<DIM>,
     dart: Dart,
+    id: AttrId,
 ) -> bool
-    requires { IsWithin DIM word }
+    requires row { (t : ℕ) → slice_index row.now t ≡ links_of links.now.rows t dart }
+    requires id { id_of labels.now dim dart ≡ Some id }
+    requires word { IsWithin DIM word }
     ensures { IsApartAlong links.now.rows labels.now dim word dart → IsTrue result }
 {
-    let Some(other) = follow(links, word, dart) else {
+    let Some(other) = Dart::new(number_along(links, word, row, dart)) else {
         return false;
     };
-    other.number() < dart.number() && labels.id(dim, other) != labels.id(dim, dart)
+    other.number() < dart.number() && labels.id(dim, other) != Some(id)
 }

@@ -35,8 +35,8 @@ fn may_reroute<K: Kind, const DIM: usize>(
 ) -> bool
     ensures { change.dart ≤ older → IsLive links.now.rows change.dart → IsFollowed K.kind dim change.link → IsTrue result }
 {
-    is_followed::<K>(dim, change.link)
-        && change.dart.number() <= older
+    change.dart.number() <= older
+        && is_followed::<K>(dim, change.link)
         && links.is_live(change.dart)
 }
 

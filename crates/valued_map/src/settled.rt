@@ -1,14 +1,15 @@
 //! Darts that need no look along a word of a dimension's cells, since it leads to a dart with the same id, and the dart to
 //! which it led is in the cell still.
-ghost use Rattle.std.specs.Prelude.{◌≡◌, ◌≢◌, ◌↔◌, Contains, IsTrue};
+ghost use Rattle.std.specs.Prelude.{◌≡◌, ◌≢◌, ℕ, ◌↔◌, Contains, IsTrue, slice_index};
 ghost use Rattle.map_defs.specs.LinkWords.{LinkWord as MapWord, IsCellWord, IsWithin};
 ghost use Rattle.map_defs.specs.Rows.{links_of};
 ghost use Rattle.map_defs.specs.Cells.{InCell};
 ghost use Rattle.store_defs.specs.Labelings.{id_of};
 
+use crate::touched::number_along;
 use attr_pool::Labels;
 use cell_walk::follow;
-use link_rows::Links;
+use link_rows::{Links, Row};
 use map_kind::{Dart, Kind, LinkWord};
 
 /// How many times a walk goes along both its words before it is given up.
@@ -71,29 +72,39 @@ fn is_near<K: Kind, const DIM: usize>(
     requires { (w : MapWord) → Contains words.now w ↔ (IsCellWord K.kind dim w × IsWithin DIM w) }
     ensures { IsTrue result → InCell K.kind (links_of links.now.rows) dim from goal }
 {
+    // A map has links 0 to 8 at most.
+    links.see_sound();
+    let Some(row) = links.row(from) else {
+        return false;
+    };
     for word in words {
-        if is_near_by(links, dim, words, *word, start, from, goal) {
+        if is_near_by(links, dim, words, *word, row, start, from, goal) {
             return true;
         }
     }
     false
 }
 
-/// Whether few steps lead from one dart to another, the first of them along a word, and not to the dart `start`.
+/// Whether few steps lead from one dart, which has this row, to another, the first of them along a word, and not to the dart
+/// `start`.
 fn is_near_by<K: Kind, const DIM: usize>(
     links: &Links<K, DIM>,
     dim: usize,
     words: &[LinkWord],
     first: LinkWord,
+    row: &Row<DIM>,
     start: Dart,
     from: Dart,
     goal: Dart,
 ) -> bool
     requires words { (w : MapWord) → Contains words.now w ↔ (IsCellWord K.kind dim w × IsWithin DIM w) }
     requires first { Contains words.now first }
+    requires row { (t : ℕ) → slice_index row.now t ≡ links_of links.now.rows t from }
     ensures { IsTrue result → InCell K.kind (links_of links.now.rows) dim from goal }
 {
-    let Some(next) = follow(links, first, from) else {
+    // A map has links 0 to 8 at most.
+    links.see_sound();
+    let Some(next) = Dart::new(number_along(links, first, row, from)) else {
         return false;
     };
     if next == goal {

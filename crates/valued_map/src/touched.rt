@@ -1,14 +1,14 @@
 //! Which darts an edit touches.
-ghost use Rattle.std.specs.Prelude.{◌≡◌, ◌≢◌, ◌+◌, ◌≤◌, ◌<◌, ◌↔◌, Contains, IsTrue, IfSome, IsNone, OnOk};
+ghost use Rattle.std.specs.Prelude.{◌≡◌, ◌≢◌, ℕ, ◌+◌, ◌≤◌, ◌<◌, ◌↔◌, Contains, IsTrue, IfSome, IsNone, OnOk, slice_index};
 ghost use Rattle.map_defs.specs.Kind.{inverse};
-ghost use Rattle.map_defs.specs.LinkWords.{LinkWord as MapWord, through_second, IsCellWord, IsWithin};
+ghost use Rattle.map_defs.specs.LinkWords.{LinkWord as MapWord, through, through_second, IsCellWord, IsWithin};
 ghost use Rattle.map_defs.specs.Rows.{Rows, IsLive, IsSound, links_of, made};
 ghost use Rattle.map_defs.specs.Edits.{Change as LinkChange, IsLed};
 ghost use Rattle.valued_map.specs.Changing.{AreAdded, IsUnsettledFrom, IsFirstUnsettled, IsThenUnsettled, IsUnsettledAt};
 
 use crate::settled::is_settled;
 use attr_pool::Labels;
-use link_rows::{Change, Edit, Links};
+use link_rows::{Change, Edit, Links, Row};
 use map_kind::{Dart, Kind, LinkWord};
 use std::alloc::AllocError;
 
@@ -247,6 +247,22 @@ fn led_to<K: Kind, const DIM: usize>(
         return None;
     }
     Some(number_before(links, edit, number, link))
+}
+
+/// The number of the dart to which a word leads a dart with this row; 0 for none.
+pub(crate) fn number_along<K: Kind, const DIM: usize>(
+    links: &Links<K, DIM>,
+    word: LinkWord,
+    row: &Row<DIM>,
+    dart: Dart,
+) -> u32
+    requires row { (t : ℕ) → slice_index row.now t ≡ links_of links.now.rows t dart }
+    requires word { IsWithin DIM word }
+    ensures { result ≡ through (links_of links.now.rows) word dart }
+{
+    // Links name live darts.
+    links.see_sound();
+    leads_to(links, word.second, row.entry(word.first))
 }
 
 /// The number of the dart to which a link leads from the dart of a number, if there is such a link, and else the number itself;

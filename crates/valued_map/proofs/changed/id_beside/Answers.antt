@@ -1,4 +1,4 @@
-use Rattle.std.proofs.Common.{List, ◌≡◌, ◌≢◌, None, Contains, lit<, sym, subst, take_all, ⊎_elim, ◌∙◌}
+use Rattle.std.proofs.Common.{List, ◌≡◌, ◌≢◌, None, Contains, lit<, sym, subst, take_all, arith, ⊎_elim, ◌∙◌}
 use Rattle.map_defs.specs.LinkWords.{LinkWord, through}
 use Rattle.map_defs.specs.Rows.{links_of}
 use Rattle.store_defs.specs.Labelings.{id_of}
@@ -6,7 +6,7 @@ use Rattle.valued_map.proofs.Heads.{among-more, among-none}
 use Rattle.valued_map.proofs.changed.id_beside.Goals as goal
 
 pub id_along-id-requires : goal.id_along-id-requires
-id_along-id-requires g c = (lit< tt, (lit< tt, c.requires c.word-item.result (c.loop-word.word-index, c.loop-word-test.true, sym c.word-item.is)))
+id_along-id-requires g c = (lit< tt, (lit< tt, (omega (arith, c.see_sound.ensures.high), (c.requires.row, c.requires.words c.word-item.result (c.loop-word.word-index, c.loop-word-test.true, sym c.word-item.is)))))
 
 pub loop-word-init : goal.loop-word-init
 loop-word-init g c = λ w here there. absurd (among-none c.args.words.now w here)

@@ -1,4 +1,4 @@
-use Rattle.std.proofs.Common.{List, Contains, lit<, subst, sym, ◌∙◌, take_all, ⊎_elim}
+use Rattle.std.proofs.Common.{List, Contains, lit<, subst, sym, ◌∙◌, take_all, arith, ⊎_elim}
 use Rattle.std.proofs.lemmas.Bool.{false≢true}
 use Rattle.map_defs.specs.LinkWords.{LinkWord}
 use Rattle.valued_map.specs.Changing.{IsApartAlong}
@@ -6,7 +6,7 @@ use Rattle.valued_map.proofs.Heads.{among-more, among-none}
 use Rattle.valued_map.proofs.changed.leads_apart.Goals as goal
 
 pub leads_to_another-requires : goal.leads_to_another-requires
-leads_to_another-requires g c = (lit< tt, (lit< tt, c.requires c.word-item.result (c.loop-word.word-index, c.loop-word-test.true, sym c.word-item.is)))
+leads_to_another-requires g c = (lit< tt, (lit< tt, (omega (arith, c.see_sound.ensures.high), (c.requires.row, (c.requires.id, c.requires.words c.word-item.result (c.loop-word.word-index, c.loop-word-test.true, sym c.word-item.is))))))
 
 pub loop-word-init : goal.loop-word-init
 loop-word-init g c = λ w here apart. among-none c.args.words.now w here
