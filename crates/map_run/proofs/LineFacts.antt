@@ -12,7 +12,14 @@ use Rattle.map_defs.specs.Refusal.{Syntax}
 use Rattle.machine_defs.specs.Machine.{Step, Obeys, blank, obeyed, unread}
 use Rattle.std.specs.declared.alloc.AllocError.{AllocError}
 use Rattle.text_lines.specs.Writing.{WritesText, IsWritten}
-use Rattle.map_run.specs.Writing.{IsSaid, Says, IsAnswered, AnswersLine}
+use Rattle.map_core.specs.Calls.{Does}
+use Rattle.map_kind.specs.declared.done.Done.{Done}
+use Rattle.map_kind.specs.declared.refusal.Refused as rust
+use Rattle.map_kind.specs.declared.refusal.Refused.TheVariants as why
+use Rattle.map_kind.specs.Refusals.{meaning}
+use Rattle.machine_defs.specs.Text as text
+use Rattle.script_text.specs.Meanings.{IsSyntax}
+use Rattle.map_run.specs.Writing.{IsSaid, Says, SaysRefused, SaysMade, IsAnswered, AnswersLine}
 use Rattle.text_lines.proofs.WritingFacts.{Appended-nothing}
 
 -- a reply that was written, or cut short, and is told to be a refusal or not
@@ -91,3 +98,21 @@ AnswersLine-said meaning hook before after s new words line (Err fault) result r
 -- a line without a word has no reply
 pub AnswersLine-blank : (hook : Hook) (o : Option (List ℕ)) (s : State) (words : List (List ℕ)) → words ≡ [] → AnswersLine hook o o s s words (Ok false)
 AnswersLine-blank hook o s words none = record { piece = []; appended = Appended-nothing o; is = ([], blank none refl refl, refl, refl) }
+
+-- a line that was read and obeyed, and what it made was said, if there was memory for it
+pub AnswersLine-made : (hook : Hook) (before after : Option (List ℕ)) (s new : State) (words : List (List ℕ)) (line : Line) (made : Result Done rust.Refused) (result : Result Bool PutFault)
+    → line_of words ≡ Some line → Does hook s line made new → SaysMade before after made result → AnswersLine hook before after s new words result
+AnswersLine-made hook before after s new words line (Ok done) result read does said =
+    AnswersLine-told hook before after s new words line (text.Done done.first done.count) result read does said
+AnswersLine-made hook before after s new words line (Err (why.Line refusal)) result read does said =
+    AnswersLine-told hook before after s new words line (Refused (meaning refusal)) result read does said
+AnswersLine-made hook before after s new words line (Err why.NoMemory) result read does said =
+    rw (said.0, said.1) (AnswersLine-nothing hook before s new words)
+
+-- a line that was not read
+pub AnswersLine-refused : (hook : Hook) (before after : Option (List ℕ)) (s : State) (words : List (List ℕ)) (refused : rust.Refused) (result : Result Bool PutFault)
+    → IsSyntax words refused → SaysRefused before after refused result → AnswersLine hook before after s s words result
+AnswersLine-refused hook before after s words (why.Line refusal) result outside said =
+    AnswersLine-unread hook before after s words result outside.1.0 outside.1.1 (rw outside.0 at said)
+AnswersLine-refused hook before after s words why.NoMemory result outside said =
+    rw (said.0, said.1) (AnswersLine-nothing hook before s s words)

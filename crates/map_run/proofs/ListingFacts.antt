@@ -1,5 +1,5 @@
 -- What a command answers that is made of one listing, by what was fetched and read.
-use Rattle.std.proofs.Common.{◌≡◌, ℕ, List, [], Option, Some, Ok, Err, refl, sym, subst, inl, inr}
+use Rattle.std.proofs.Common.{◌≡◌, ℕ, List, [], Option, Some, Err, refl, sym, subst, inl, inr}
 use Rattle.map_io.specs.Fetched.{IsFetched}
 use Rattle.map_io.specs.declared.shelf.FetchFault.{FetchFault}
 use Rattle.map_io.specs.declared.shelf.FetchFault.TheVariants as fetch

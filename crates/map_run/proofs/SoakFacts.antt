@@ -1,5 +1,5 @@
 -- What a soak answers, by its summary.
-use Rattle.std.proofs.Common.{◌≡◌, ℕ, suc, ◌≤◌, ◌||◌, nat_lt, Bool, true, false, List, [], ◌∷◌, ◌++◌, length, refl, sym, ap, ◌∙◌, arith, lit≤}
+use Rattle.std.proofs.Common.{◌≡◌, ℕ, suc, ◌≤◌, nat_lt, Bool, true, false, List, [], ◌∷◌, ◌++◌, length, refl, ap, ◌∙◌, arith, lit≤}
 use Prim.Native.Nat.compare
 use lib.Dec.{is_le}
 use Rattle.std.proofs.lemmas.Bool.{lt-ltb}

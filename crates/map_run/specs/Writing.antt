@@ -5,8 +5,13 @@ use Rattle.map_io.specs.declared.sink.PutFault.TheVariants.{Failed, NoMemory}
 use Rattle.machine_defs.specs.Outside.{Appended, IsFront}
 use Rattle.machine_defs.specs.Program.{EndsLine}
 use Rattle.map_defs.specs.Values.{Hook}
+use Rattle.map_kind.specs.declared.done.Done.{Done}
+use Rattle.map_kind.specs.declared.refusal.Refused.{Refused}
+use Rattle.map_kind.specs.declared.refusal.Refused.TheVariants as why
+use Rattle.map_kind.specs.Refusals.{meaning}
 use Rattle.machine_defs.specs.State.{State}
 use Rattle.machine_defs.specs.Text.{Reply, reply_text, replies_text, is_refused, any_refused}
+use Rattle.machine_defs.specs.Text as text
 use Rattle.machine_defs.specs.Machine.{Obeys}
 
 -- a front of what a line answers
@@ -35,3 +40,13 @@ pub record Says (before after : Option (List ℕ)) (reply : Reply) (result : Res
   pub piece : List ℕ
   pub appended : Appended before after piece
   pub is : IsSaid reply result piece
+
+-- why a line was refused was said; where memory was wanting, nothing was written
+abbrev pub SaysRefused : Option (List ℕ) → Option (List ℕ) → Refused → Result Bool PutFault → Type 0
+SaysRefused before after (why.Line refusal) result = Says before after (text.Refused (meaning refusal)) result
+SaysRefused before after why.NoMemory result = (result ≡ Err NoMemory) × (after ≡ before)
+
+-- what a changing line made was said, or why it was refused
+abbrev pub SaysMade : Option (List ℕ) → Option (List ℕ) → Result Done Refused → Result Bool PutFault → Type 0
+SaysMade before after (Ok done) result = Says before after (text.Done done.first done.count) result
+SaysMade before after (Err refused) result = SaysRefused before after refused result

@@ -5,7 +5,7 @@ ghost use Rattle.machine_defs.specs.State.{State};
 ghost use Rattle.machine_defs.specs.Script.{Line as MapLine};
 ghost use Rattle.machine_defs.specs.Machine.{Step};
 ghost use Rattle.machine_defs.specs.Text.{reply_text, Truth, Darts, CellValue, Counts, Logged, Meshed, is_refused};
-ghost use Rattle.map_core.specs.Calls.{Does, AnswersQuestion, AnswersAtOnce};
+ghost use Rattle.map_core.specs.Calls.{AnswersQuestion, AnswersAtOnce};
 ghost use Rattle.map_io.specs.Cause.{HasCause};
 ghost use Rattle.off_text.specs.MapViews.{off_view};
 ghost use Rattle.script_text.specs.Meanings.{reply_meaning};
@@ -14,7 +14,7 @@ ghost use Rattle.map_run.specs.Lines.{answer_meaning};
 
 use list_text::{Listing, put_listing};
 use map_io::{PutFault, Sink};
-use map_kind::{Dart, Done, Refusal, Refused, Value};
+use map_kind::{Dart, Refusal, Refused, Value};
 use off_text::{OffRows, put_off};
 use script_text::{Reply, put_log};
 use std::alloc::{AllocError, Global};
@@ -56,17 +56,6 @@ impl<'a> Answer<'a> {
             Answer::Off(rows) => put_off(alloc, out, rows),
             Answer::Log(steps) => put_log(alloc, out, steps),
         }
-    }
-}
-
-/// The reply to a changing line.
-pub fn done(done: Result<Done, Refused>) -> Result<Reply, AllocError>
-    ensures { (hook : Hook) (s : State) (new : State) (line : MapLine) → Does hook s line done new → IfOk result (λ reply. Step hook s line (reply_meaning reply) new) }
-{
-    match done {
-        Ok(done) => Ok(Reply::Done(done)),
-        Err(Refused::Line(refusal)) => Ok(Reply::No(refusal)),
-        Err(Refused::NoMemory) => Err(AllocError),
     }
 }
 

@@ -1,18 +1,19 @@
 //! One line of a script, obeyed.
-ghost use Rattle.std.specs.Prelude.{◌≡◌, IfOk, IfErr, IsErrOf};
+ghost use Rattle.std.specs.Prelude.{◌≡◌, ℕ, List, Some, IfOk, IfErr, IsErrOf};
 ghost use Rattle.map_defs.specs.TextWords.{words_of};
 ghost use Rattle.machine_defs.specs.Machine.{Step};
+ghost use Rattle.machine_defs.specs.Script.{line_of};
 ghost use Rattle.map_core.specs.Calls.{Does};
 ghost use Rattle.map_io.specs.Cause.{HasCause};
 ghost use Rattle.script_text.specs.Meanings.{change_meaning, question_meaning, reply_meaning};
 ghost use Rattle.map_run.specs.Lines.{answer_meaning, IsTold};
-ghost use Rattle.map_run.specs.Writing.{AnswersLine, Says};
+ghost use Rattle.map_run.specs.Writing.{AnswersLine, Says, SaysMade, SaysRefused};
 
-use crate::answer::{Answer, cell_value, counts, darts, done, logged, meshed, told, truth};
+use crate::answer::{Answer, cell_value, counts, darts, logged, meshed, told, truth};
 use attr_rules::Hook;
 use map_core::{Done, Edits, Map};
 use map_io::{PutFault, Sink};
-use map_kind::Refused;
+use map_kind::{Refusal, Refused};
 use script_text::{Change, Line, Question, Reply, read_line};
 use std::alloc::{AllocError, Global};
 
@@ -31,30 +32,73 @@ pub fn obey_line<K: Edits<DIM>, H: Hook, const DIM: usize, S: Sink>(
 {
     match read_line(alloc, line) {
         Ok(None) => Ok(false),
-        Ok(Some(Line::Change(line))) => say_done(text, out, done(change(alloc, &line, map))),
-        Ok(Some(Line::Question(line))) => say(alloc, text, out, ask(alloc, &line, map)),
-        Err(Refused::Line(refusal)) => say(alloc, text, out, Ok(Answer::Line(Reply::No(refusal)))),
-        Err(Refused::NoMemory) => Err(PutFault::NoMemory),
+        Ok(Some(Line::Change(line))) => say_made(text, out, change(alloc, &line, map)),
+        Ok(Some(Line::Question(line))) => answer_question(alloc, &line, map, text, out),
+        Err(refused) => say_refused(text, out, refused),
     }
 }
 
 /// Writes the reply to a changing line, if there is one, and tells whether it is a refusal.
-fn say_done<S: Sink>(
+fn say_made<S: Sink>(
     text: &mut Vec<u8>,
     out: &mut S,
-    reply: Result<Reply, AllocError>,
+    made: Result<Done, Refused>,
 ) -> Result<bool, PutFault>
-    ensures said { IfOk reply (λ reply. Says (S.written out.old) (S.written out.new) (reply_meaning reply) result) }
-    ensures unsaid { IfErr reply (λ fault. (result ≡ Err PutFault.NoMemory) × (S.written out.new ≡ S.written out.old)) }
+    ensures said { SaysMade (S.written out.old) (S.written out.new) made result }
     ensures cause { HasCause (S.faults out.old) (S.faults out.new) (IsErrOf result PutFault.Failed) }
 {
-    match reply {
-        Ok(reply) => match reply.put_over(text, out) {
-            Ok(()) => Ok(reply.is_refused()),
-            Err(fault) => Err(fault),
-        },
-        Err(_) => Err(PutFault::NoMemory),
+    match made {
+        Ok(done) => say_done(text, out, done),
+        Err(refused) => say_refused(text, out, refused),
     }
+}
+
+/// Writes what a changing line made.
+fn say_done<S: Sink>(text: &mut Vec<u8>, out: &mut S, done: Done) -> Result<bool, PutFault>
+    ensures said { Says (S.written out.old) (S.written out.new) (reply_meaning (Reply.Done done)) result }
+    ensures cause { HasCause (S.faults out.old) (S.faults out.new) (IsErrOf result PutFault.Failed) }
+{
+    match Reply::Done(done).put_over(text, out) {
+        Ok(()) => Ok(false),
+        Err(fault) => Err(fault),
+    }
+}
+
+/// Writes why a line was refused; where memory was wanting there is no reply.
+fn say_refused<S: Sink>(text: &mut Vec<u8>, out: &mut S, refused: Refused) -> Result<bool, PutFault>
+    ensures said { SaysRefused (S.written out.old) (S.written out.new) refused result }
+    ensures cause { HasCause (S.faults out.old) (S.faults out.new) (IsErrOf result PutFault.Failed) }
+{
+    match refused {
+        Refused::Line(refusal) => say_refusal(text, out, refusal),
+        Refused::NoMemory => Err(PutFault::NoMemory),
+    }
+}
+
+/// Writes a refusal.
+fn say_refusal<S: Sink>(text: &mut Vec<u8>, out: &mut S, refusal: Refusal) -> Result<bool, PutFault>
+    ensures said { Says (S.written out.old) (S.written out.new) (reply_meaning (Reply.No refusal)) result }
+    ensures cause { HasCause (S.faults out.old) (S.faults out.new) (IsErrOf result PutFault.Failed) }
+{
+    match Reply::No(refusal).put_over(text, out) {
+        Ok(()) => Ok(true),
+        Err(fault) => Err(fault),
+    }
+}
+
+/// Answers a line that asks, and tells whether it was refused.
+fn answer_question<K: Edits<DIM>, H: Hook, const DIM: usize, S: Sink>(
+    alloc: Global,
+    line: &Question,
+    map: &Map<'_, K, H, DIM>,
+    text: &mut Vec<u8>,
+    out: &mut S,
+) -> Result<bool, PutFault>
+    ensures answered { (words : List (List ℕ)) → line_of words ≡ Some (question_meaning line.now)
+        → AnswersLine (H.hook map.now.hook) (S.written out.old) (S.written out.new) map.now.state map.now.state words result }
+    ensures cause { HasCause (S.faults out.old) (S.faults out.new) (IsErrOf result PutFault.Failed) }
+{
+    say(alloc, text, out, ask(alloc, line, map))
 }
 
 /// Writes an answer, if there is one, and tells whether it is a refusal.

@@ -1,6 +1,4 @@
-use Rattle.std.proofs.Common.{subst, List, ℕ, Option, Some}
 use Rattle.machine_defs.specs.Outside.{Rose}
-use Rattle.map_run.specs.Ending.{IsRefused}
 use Rattle.map_run.proofs.AnswerFacts.{unwritten-line}
 use Rattle.map_run.proofs.half.refuse_map.Goals as goal
 
