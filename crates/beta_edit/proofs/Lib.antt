@@ -7,6 +7,7 @@ mod DrawnEnds
 mod DrawnEntries
 mod DrawnTurned
 mod EdgePlan
+mod LoneCorner
 mod EdgeTurns
 mod GrowthFacts
 mod HighEnds

@@ -77,7 +77,8 @@ fn are_on_one_side<const DIM: usize>(
     leads(alloc, links, &[0, 1], one, other)
 }
 
-/// Whether two darts lie in one corner of a face.
+/// Whether two darts lie in one corner of a face. Where faces have one side alone, each corner is one dart, and no walk is
+/// made.
 fn are_in_one_corner<const DIM: usize>(
     alloc: Global,
     links: &Links<Beta, DIM>,
@@ -87,6 +88,9 @@ fn are_in_one_corner<const DIM: usize>(
     ensures { IfOk result (λ one_corner. IsTrue one_corner ↔ InBetaCorner (links_of links.now.rows) one other) }
 {
     let copying = copying_links(alloc, links.dimension())?;
+    if copying.is_empty() {
+        return Ok(one == other);
+    }
     let words = corner_words(alloc, &copying)?;
     reaches(alloc, links, &words, one, other)
 }
