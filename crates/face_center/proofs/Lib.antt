@@ -2,10 +2,12 @@ mod AlphaHung
 mod BetaHung
 mod BetaPlans
 mod CornerWords
+mod EdgeRoom
 mod Hangable
 mod HungEntries
 mod HungFacts
 mod HungLinks
+mod HungNeighbours
 mod HungPlaces
 mod KindFacts
 mod Plans

@@ -1,12 +1,12 @@
-ghost use Rattle.std.specs.Prelude.{◌≡◌, ◌≢◌, ◌+◌, ◌≤◌, Contains, IfOk, OnOk};
-ghost use Rattle.map_defs.specs.Rows.{links_of, made};
+ghost use Rattle.std.specs.Prelude.{◌≡◌, ◌≢◌, ℕ, ◌+◌, ◌*◌, ◌^◌, ◌≤◌, ◌<◌, length, slice_index, Contains, IfOk, vec_len, vec_capacity};
+ghost use Rattle.map_defs.specs.Rows.{links_of, made, IsLive};
 ghost use Rattle.cell_edit.specs.Stars.{star_of};
 ghost use Rattle.cell_edit.specs.Writing.{WritesEntries, Appends};
-ghost use Rattle.face_center.specs.Hanging.{tip_of, before, turning, across, beside, star_link, tip_link, IsOldEntry, IsNewEntry, IsHungEntry, AreHungEntries, CanPair, CanHang, HangsEdges};
+ghost use Rattle.face_center.specs.Hanging.{tip_of, before, turning, star_link, tip_link, IsOldEntry, IsNewEntry, IsHungEntry, AreHungEntries, CanPair, CanHang, HangsEdges};
 
 use crate::writing::{push_link, room_for_edges};
 use cell_edit::Stars;
-use link_rows::{Change, Edit, Links};
+use link_rows::{Change, Edit, Links, Row};
 use map_kind::{Dart, Kind, is_generalized};
 use std::alloc::{AllocError, Global};
 
@@ -17,6 +17,13 @@ pub(crate) enum Hanging {
     Corner,
     /// At all darts of a face, as the edges to a vertex in its middle.
     Face,
+}
+
+/// The darts at which a new edge begins and ends.
+#[derive(Drop)]
+struct Edge {
+    begin: Dart,
+    end: Dart,
 }
 
 /// The edit that hangs an edge on each of these darts, which are ascending.
@@ -51,216 +58,188 @@ fn hung_changes<K: Kind, const DIM: usize>(
     ensures { IfOk result (λ changes. WritesEntries (links_of links.now.rows)
         (AreHungEntries K.kind hanging (links_of links.now.rows) (star_of stars.now) (tip_of stars.now) (DIM + 1) stars.now.keys) changes.items) }
 {
-    // A map has links 0 to 2 at least.
+    // A map has links 0 to 8 at most.
     links.see_sound();
-    let mut changes = room_for_edges(alloc, stars.darts().len(), links.dimension())?;
-    for dart in stars.darts() {
-        push_dart(links, hanging, stars, *dart, &mut changes)?;
+    let darts = stars.darts();
+    let mut changes = room_for_edges(alloc, darts.len(), links.dimension())?;
+    for place in 0..darts.len() {
+        push_dart(
+            links,
+            hanging,
+            stars,
+            darts[place],
+            &edge_at(stars, place),
+            &mut changes,
+        );
     }
     Ok(changes)
 }
 
-/// Appends the changes by which an edge is hung on one dart.
+/// Appends the changes by which its new edge is hung on one dart. There is room for them.
 fn push_dart<K: Kind, const DIM: usize>(
     links: &Links<K, DIM>,
     hanging: Hanging,
     stars: &Stars,
     dart: Dart,
+    edge: &Edge,
     changes: &mut Vec<Change>,
-) -> Result<(), AllocError>
+)
     requires can { CanHang K.kind links.now.rows hanging stars.now }
     requires key { Contains stars.now.keys dart }
-    ensures { OnOk result (Appends (links_of links.now.rows)
-        (IsHungEntry K.kind hanging (links_of links.now.rows) (star_of stars.now) (tip_of stars.now) (DIM + 1) dart) changes.old.items changes.new.items) }
+    requires begin { edge.now.begin ≡ star_of stars.now dart }
+    requires end { edge.now.end ≡ tip_of stars.now dart }
+    requires room { vec_len changes.old + (2 * DIM + 4) ≤ vec_capacity changes.old }
+    ensures capacity { vec_capacity changes.new ≡ vec_capacity changes.old }
+    ensures few { vec_len changes.new ≤ vec_len changes.old + (2 * DIM + 4) }
+    ensures entries { Appends (links_of links.now.rows)
+        (IsHungEntry K.kind hanging (links_of links.now.rows) (star_of stars.now) (tip_of stars.now) (DIM + 1) dart) changes.old.items changes.new.items }
 {
-    push_old(links, hanging, stars, dart, changes)?;
-    push_new(links, hanging, stars, dart, changes)
+    // A map has links 0 to 8 at most.
+    links.see_sound();
+    let row = links.live_row(dart);
+    push_old(links, row, hanging, dart, edge, changes);
+    push_new(links, row, hanging, stars, dart, edge, changes);
 }
 
-/// Appends the changes of old darts, by which links 1 and 0 lead to the new edge.
+/// Appends the changes of old darts, by which links 1 and 0 lead to the new edge of a dart with this row. There is room for
+/// them.
 fn push_old<K: Kind, const DIM: usize>(
     links: &Links<K, DIM>,
+    row: &Row<DIM>,
     hanging: Hanging,
-    stars: &Stars,
     dart: Dart,
+    edge: &Edge,
     changes: &mut Vec<Change>,
-) -> Result<(), AllocError>
-    requires can { CanHang K.kind links.now.rows hanging stars.now }
-    requires key { Contains stars.now.keys dart }
-    ensures { OnOk result (Appends (links_of links.now.rows)
-        (IsOldEntry K.kind hanging (links_of links.now.rows) (star_of stars.now) (tip_of stars.now) dart) changes.old.items changes.new.items) }
+)
+    requires row { (t : ℕ) → slice_index row.now t ≡ links_of links.now.rows t dart }
+    requires live { IsLive links.now.rows (before K.kind hanging (links_of links.now.rows) dart) }
+    requires room { vec_len changes.old + 2 ≤ vec_capacity changes.old }
+    ensures capacity { vec_capacity changes.new ≡ vec_capacity changes.old }
+    ensures few { vec_len changes.new ≤ vec_len changes.old + 2 }
+    ensures entries { (star tip : ℕ → ℕ) → edge.now.begin ≡ star dart → edge.now.end ≡ tip dart
+        → Appends (links_of links.now.rows) (IsOldEntry K.kind hanging (links_of links.now.rows) star tip dart) changes.old.items changes.new.items }
 {
-    // A map has links 0 to 2 at least.
+    // A map has links 0 to 2 at least, and to 8 at most.
     links.see_sound();
-    let before = Dart::new(before(links, hanging, dart)).unwrap();
-    push_link(links, before, 1, stars.star(dart).number(), changes)?;
+    let before = before(links, row, hanging, dart);
+    changes.push_reserved(Change {
+        dart: before,
+        link: 1,
+        old: links.live_row(before).entry(1),
+        new: edge.begin.number(),
+    });
     if is_generalized::<K>() {
-        return Ok(());
+        return;
     }
-    push_link(links, dart, 0, tip(stars, dart).number(), changes)
+    changes.push_reserved(Change {
+        dart,
+        link: 0,
+        old: row.entry(0),
+        new: edge.end.number(),
+    });
 }
 
-/// Appends the changes of a dart's two new darts.
+/// Appends the changes of the two new darts of a dart with this row. There is room for them.
 fn push_new<K: Kind, const DIM: usize>(
     links: &Links<K, DIM>,
+    row: &Row<DIM>,
     hanging: Hanging,
     stars: &Stars,
     dart: Dart,
+    edge: &Edge,
     changes: &mut Vec<Change>,
-) -> Result<(), AllocError>
+)
     requires can { CanHang K.kind links.now.rows hanging stars.now }
     requires key { Contains stars.now.keys dart }
-    ensures { OnOk result (Appends (links_of links.now.rows)
-        (IsNewEntry K.kind hanging (links_of links.now.rows) (star_of stars.now) (tip_of stars.now) (DIM + 1) dart) changes.old.items changes.new.items) }
+    requires row { (t : ℕ) → slice_index row.now t ≡ links_of links.now.rows t dart }
+    requires begin { edge.now.begin ≡ star_of stars.now dart }
+    requires end { edge.now.end ≡ tip_of stars.now dart }
+    requires room { vec_len changes.old + (2 * DIM + 2) ≤ vec_capacity changes.old }
+    ensures capacity { vec_capacity changes.new ≡ vec_capacity changes.old }
+    ensures few { vec_len changes.new ≤ vec_len changes.old + (2 * DIM + 2) }
+    ensures entries { Appends (links_of links.now.rows)
+        (IsNewEntry K.kind hanging (links_of links.now.rows) (star_of stars.now) (tip_of stars.now) (DIM + 1) dart) changes.old.items changes.new.items }
 {
-    let begin = stars.star(dart);
-    let end = tip(stars, dart);
     for at in 0..links.dimension() + 1 {
-        push_link(
-            links,
-            begin,
-            at,
-            star_link(links, hanging, stars, dart, at),
-            changes,
-        )?;
-        push_link(
-            links,
-            end,
-            at,
-            tip_link(links, hanging, stars, dart, at),
-            changes,
-        )?;
+        let (begin_link, end_link) = new_links(links, row, hanging, stars, dart, edge, at);
+        push_link(edge.begin, at, begin_link, changes);
+        push_link(edge.end, at, end_link, changes);
     }
-    Ok(())
 }
 
-/// The number at a link of the dart at which a dart's new edge begins; 0 where it stays free.
-fn star_link<K: Kind, const DIM: usize>(
+/// The numbers at a link of the darts at which the new edge of a dart with this row begins and ends; 0 where the link stays
+/// free. From link 2 on they are those of the new edges of neighbours: in a generalized map begins lead to begins, and in a
+/// combinatorial one begins lead to ends.
+fn new_links<K: Kind, const DIM: usize>(
     links: &Links<K, DIM>,
+    row: &Row<DIM>,
     hanging: Hanging,
     stars: &Stars,
     dart: Dart,
+    edge: &Edge,
     at: usize,
-) -> u32
-    requires at { at ≤ DIM }
+) -> (u32, u32)
     requires can { CanHang K.kind links.now.rows hanging stars.now }
     requires key { Contains stars.now.keys dart }
-    ensures { result ≡ star_link K.kind hanging (links_of links.now.rows) (star_of stars.now) (tip_of stars.now) dart at }
-{
-    let beside = beside(links, hanging, 1, dart, at);
-    if is_generalized::<K>() {
-        match at {
-            0 => tip_number(stars, beside),
-            1 => dart.number(),
-            _ => star_number(stars, beside),
-        }
-    } else {
-        match at {
-            0 => before(links, hanging, dart),
-            _ => tip_number(stars, beside),
-        }
-    }
-}
-
-/// The number at a link of the dart at which a dart's new edge ends; 0 where it stays free.
-fn tip_link<K: Kind, const DIM: usize>(
-    links: &Links<K, DIM>,
-    hanging: Hanging,
-    stars: &Stars,
-    dart: Dart,
-    at: usize,
-) -> u32
+    requires row { (t : ℕ) → slice_index row.now t ≡ links_of links.now.rows t dart }
+    requires begin { edge.now.begin ≡ star_of stars.now dart }
+    requires end { edge.now.end ≡ tip_of stars.now dart }
     requires at { at ≤ DIM }
-    requires can { CanHang K.kind links.now.rows hanging stars.now }
-    requires key { Contains stars.now.keys dart }
-    ensures { result ≡ tip_link K.kind hanging (links_of links.now.rows) (star_of stars.now) (tip_of stars.now) dart at }
-{
-    let beside = beside(links, hanging, 0, dart, at);
-    if is_generalized::<K>() {
-        match at {
-            0 => star_number(stars, beside),
-            _ => tip_number(stars, beside),
-        }
-    } else {
-        match at {
-            1 => dart.number(),
-            _ => star_number(stars, beside),
-        }
-    }
-}
-
-/// The number of the dart to whose new darts a link of a dart's new darts leads; 0 where there is none. The side is 1 where
-/// the new edge begins, and 0 where it ends.
-fn beside<K: Kind, const DIM: usize>(
-    links: &Links<K, DIM>,
-    hanging: Hanging,
-    side: usize,
-    dart: Dart,
-    at: usize,
-) -> u32
-    requires side { side ≤ 1 }
-    requires at { at ≤ DIM }
-    ensures { result ≡ beside K.kind hanging (links_of links.now.rows) side dart at }
+    ensures begin { result.0 ≡ star_link K.kind hanging (links_of links.now.rows) (star_of stars.now) (tip_of stars.now) dart at }
+    ensures end { result.1 ≡ tip_link K.kind hanging (links_of links.now.rows) (star_of stars.now) (tip_of stars.now) dart at }
 {
     // A map has links 0 to 2 at least.
     links.see_sound();
+    let (begin, end) = (edge.begin.number(), edge.end.number());
     if is_generalized::<K>() {
         match at {
-            0 => dart.number(),
-            1 => links.number_at(dart, turning(hanging)),
-            2 => links.number_at(dart, 1),
-            _ => links.number_at(dart, at),
+            0 => (end, begin),
+            1 => (
+                dart.number(),
+                tip_number(stars, row.entry(turning(hanging))),
+            ),
+            2 => edge_numbers(stars, row.entry(1)),
+            _ => edge_numbers(stars, row.entry(at)),
         }
     } else {
         match at {
-            0 | 1 => dart.number(),
-            2 => across(links, hanging, side, dart),
-            _ => beyond(links, before(links, hanging, dart), at),
+            0 => (before(links, row, hanging, dart).number(), begin),
+            1 => (end, dart.number()),
+            2 => match hanging {
+                Hanging::Corner => (end, begin),
+                Hanging::Face => (
+                    tip_number(stars, row.entry(1)),
+                    star_number(stars, row.entry(0)),
+                ),
+            },
+            _ => {
+                let row = links.live_row(before(links, row, hanging, dart));
+                let (begin, end) = edge_numbers(stars, row.entry(at));
+                (end, begin)
+            }
         }
     }
 }
 
-/// The number at a link of the dart of this number; 0 for 0.
-fn beyond<K: Kind, const DIM: usize>(links: &Links<K, DIM>, number: u32, at: usize) -> u32
-    requires { at ≤ DIM }
-    ensures { result ≡ links_of links.now.rows at number }
-{
-    // 0 is no dart.
-    links.see_sound();
-    match Dart::new(number) {
-        Some(dart) => links.number_at(dart, at),
-        None => 0,
-    }
-}
-
-/// The number of the dart whose link 1 leads to the begin of a dart's new edge.
-fn before<K: Kind, const DIM: usize>(links: &Links<K, DIM>, hanging: Hanging, dart: Dart) -> u32
+/// The dart whose link 1 leads to the begin of the new edge of a dart with this row.
+fn before<K: Kind, const DIM: usize>(
+    links: &Links<K, DIM>,
+    row: &Row<DIM>,
+    hanging: Hanging,
+    dart: Dart,
+) -> Dart
+    requires row { (t : ℕ) → slice_index row.now t ≡ links_of links.now.rows t dart }
+    requires live { IsLive links.now.rows (before K.kind hanging (links_of links.now.rows) dart) }
     ensures { result ≡ before K.kind hanging (links_of links.now.rows) dart }
 {
-    // A map has links 0 to 2 at least.
+    // 0 is no dart, and a map has links 0 to 8 at most.
     links.see_sound();
     if is_generalized::<K>() {
-        return dart.number();
+        return dart;
     }
     match hanging {
-        Hanging::Corner => links.number_at(dart, 0),
-        Hanging::Face => dart.number(),
-    }
-}
-
-/// The number of the dart to whose new darts link 2 of a dart's new darts leads, in a combinatorial map.
-fn across<K: Kind, const DIM: usize>(
-    links: &Links<K, DIM>,
-    hanging: Hanging,
-    side: usize,
-    dart: Dart,
-) -> u32
-    requires { side ≤ DIM }
-    ensures { result ≡ across hanging (links_of links.now.rows) side dart }
-{
-    match hanging {
-        Hanging::Corner => dart.number(),
-        Hanging::Face => links.number_at(dart, side),
+        Hanging::Corner => Dart::new(row.entry(0)).unwrap(),
+        Hanging::Face => dart,
     }
 }
 
@@ -281,10 +260,7 @@ fn star_number(stars: &Stars, number: u32) -> u32
     requires key { number ≢ 0 → Contains stars.now.keys number }
     ensures { result ≡ star_of stars.now number }
 {
-    match Dart::new(number) {
-        Some(dart) => stars.star(dart).number(),
-        None => 0,
-    }
+    edge_numbers(stars, number).0
 }
 
 /// The number of the dart at which the new edge of the dart of this number ends; 0 for 0.
@@ -293,17 +269,41 @@ fn tip_number(stars: &Stars, number: u32) -> u32
     requires key { number ≢ 0 → Contains stars.now.keys number }
     ensures { result ≡ tip_of stars.now number }
 {
-    match Dart::new(number) {
-        Some(dart) => tip(stars, dart).number(),
-        None => 0,
+    edge_numbers(stars, number).1
+}
+
+/// The numbers of the darts at which the new edge of the dart of this number begins and ends; 0 and 0 for 0.
+fn edge_numbers(stars: &Stars, number: u32) -> (u32, u32)
+    requires pair { CanPair stars.now }
+    requires key { number ≢ 0 → Contains stars.now.keys number }
+    ensures begin { result.0 ≡ star_of stars.now number }
+    ensures end { result.1 ≡ tip_of stars.now number }
+{
+    let Some(dart) = Dart::new(number) else {
+        return (0, 0);
+    };
+    let begin = stars.star(dart);
+    (begin.number(), tip(stars, begin).number())
+}
+
+/// The new edge of the dart at a place.
+fn edge_at(stars: &Stars, place: usize) -> Edge
+    requires pair { CanPair stars.now }
+    requires place { place < length stars.now.keys }
+    ensures begin { result.begin ≡ star_of stars.now (slice_index stars.now.keys place) }
+    ensures end { result.end ≡ tip_of stars.now (slice_index stars.now.keys place) }
+{
+    let begin = stars.star_at(place);
+    Edge {
+        begin,
+        end: tip(stars, begin),
     }
 }
 
-/// The dart at which a dart's new edge ends: the ends are numbered on from the begins.
-fn tip(stars: &Stars, dart: Dart) -> Dart
-    requires pair { CanPair stars.now }
-    requires key { Contains stars.now.keys dart }
-    ensures { result ≡ tip_of stars.now dart }
+/// The dart at which the edge ends that begins at a dart: the ends are numbered on from the begins.
+fn tip(stars: &Stars, begin: Dart) -> Dart
+    requires { begin + length stars.now.keys < 2 ^ 32 }
+    ensures { result ≡ begin + length stars.now.keys }
 {
-    Dart::new(stars.star(dart).number() + stars.births()).unwrap()
+    Dart::new(begin.number() + stars.births()).unwrap()
 }

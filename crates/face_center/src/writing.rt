@@ -1,10 +1,9 @@
-ghost use Rattle.std.specs.Prelude.{◌≡◌, ◌+◌, ◌*◌, ◌≤◌, [], IfOk, OnOk, vec_capacity};
-ghost use Rattle.map_defs.specs.Rows.{links_of};
+ghost use Rattle.std.specs.Prelude.{ℕ, ◌≡◌, ◌+◌, ◌*◌, ◌≤◌, ◌<◌, [], IfOk, vec_len, vec_capacity};
 ghost use Rattle.cell_edit.specs.Writing.{Appends};
 ghost use Rattle.face_center.specs.Hanging.{IsLinkEntry};
 
-use link_rows::{Change, Links};
-use map_kind::{Dart, Kind};
+use link_rows::Change;
+use map_kind::Dart;
 use std::alloc::{AllocError, Global};
 
 /// No changes yet, with room for those of so many darts of a map of dimension `dim`, on each of which an edge is hung: one of
@@ -21,25 +20,22 @@ pub(crate) fn room_for_edges(
     Vec::with_capacity(alloc, darts.saturating_mul(2 * dim + 4))
 }
 
-/// Appends the change by which a link of a dart becomes the dart of this number; none where the number is 0.
-pub(crate) fn push_link<K: Kind, const DIM: usize>(
-    links: &Links<K, DIM>,
-    dart: Dart,
-    link: usize,
-    number: u32,
-    changes: &mut Vec<Change>,
-) -> Result<(), AllocError>
-    requires { link ≤ DIM }
-    ensures { OnOk result (Appends (links_of links.now.rows) (IsLinkEntry dart link number) changes.old.items changes.new.items) }
+/// Appends the change by which a link of a new dart becomes the dart of this number; none where the number is 0. There is room
+/// for it.
+pub(crate) fn push_link(new: Dart, link: usize, number: u32, changes: &mut Vec<Change>)
+    requires { vec_len changes.old < vec_capacity changes.old }
+    ensures capacity { vec_capacity changes.new ≡ vec_capacity changes.old }
+    ensures few { vec_len changes.new ≤ vec_len changes.old + 1 }
+    ensures entry { (L : ℕ → ℕ → ℕ) → L link new ≡ 0
+        → Appends L (IsLinkEntry new link number) changes.old.items changes.new.items }
 {
     if number == 0 {
-        return Ok(());
+        return;
     }
-    changes.push(Change {
-        dart,
+    changes.push_reserved(Change {
+        dart: new,
         link,
-        old: links.number_at(dart, link),
+        old: 0,
         new: number,
-    })?;
-    Ok(())
+    });
 }

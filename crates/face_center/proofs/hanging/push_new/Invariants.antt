@@ -1,3 +1,5 @@
+use Rattle.std.proofs.Common.{◌≡◌, ◌+◌, ◌*◌, ◌≤◌}
+use Rattle.std.specs.Prelude.{vec_len, vec_capacity}
 use Rattle.map_defs.specs.Rows.{links_of}
 use Rattle.cell_edit.specs.Stars.{star_of}
 use Rattle.cell_edit.specs.Writing.{Appends}
@@ -5,4 +7,6 @@ use Rattle.face_center.specs.Hanging.{tip_of, IsNewEntry}
 use Rattle.face_center.proofs.hanging.push_new.Given as goal
 
 abbrev pub invariant-loop-at : goal.invariant-loop-at
-invariant-loop-at g l = Appends (links_of l.links.rows) (IsNewEntry g.K.Kind.kind l.hanging (links_of l.links.rows) (star_of l.stars) (tip_of l.stars) l.at l.dart) l.initial.changes.items l.changes.items
+invariant-loop-at g l =
+    Appends (links_of l.links.rows) (IsNewEntry g.K.Kind.kind l.hanging (links_of l.links.rows) (star_of l.stars) (tip_of l.stars) l.at l.dart) l.initial.changes.items l.changes.items
+    × (vec_capacity l.changes ≡ vec_capacity l.initial.changes) × (vec_len l.changes ≤ vec_len l.initial.changes + 2 * l.at)

@@ -1,29 +1,38 @@
-use Rattle.std.proofs.Common.{◌≡◌, sym, ◌∙◌}
+use Rattle.std.proofs.Common.{ℕ, ◌≡◌, ◌≢◌, ◌++◌, ◌∷◌, [], List, sym, ap, ◌∙◌, arith}
 use Rattle.std.proofs.lemmas.Bool.{false≢true}
-use Rattle.std.proofs.lemmas.Result.{on_ok_weaker}
+use Rattle.map_defs.specs.Edits.{Change}
 use Rattle.map_defs.specs.Rows.{links_of}
-use Rattle.cell_edit.specs.Stars.{star_of}
-use Rattle.face_center.specs.Hanging.{tip_of, before}
-use Rattle.face_center.proofs.HungEntries.{old-alone, old-both}
+use Rattle.cell_edit.specs.Writing.{Appends}
+use Rattle.face_center.specs.Hanging.{before, IsLinkEntry}
+use Rattle.face_center.proofs.HungEntries.{link-pushed, old-alone, old-both}
 use Rattle.face_center.proofs.KindFacts.{other-kind}
 use Rattle.face_center.proofs.hanging.push_old.Goals as goal
 
-pub returns-then-is_generalized : goal.returns-then-is_generalized
-returns-then-is_generalized g c =
+pub returns-then-is_generalized-clause-entries : goal.returns-then-is_generalized-clause-entries
+returns-then-is_generalized-clause-entries g c = λ star tip begin end.
     let rows = c.args.links.now.rows in
-    let stars = c.args.stars.now in
-    let at : c.unwrap-before.result ≡ before g.K.Kind.kind c.args.hanging (links_of rows) c.args.dart = (rw c.unwrap-before.ensures at c.new.ensures.same) ∙ c.before-2.ensures in
-    old-alone g.K.Kind.kind c.args.hanging (links_of rows) (star_of stars) (tip_of stars) c.args.dart c.args.changes.now.items c.push_link.new.changes.items
-    (c.is_generalized.ensures.0 c.if-is_generalized.true)
-    (rw (at, c.number.ensures.same, c.star.ensures.star) at c.in_ok-push_link.ensures)
+    let start : List Change = c.args.changes.now.items in
+    let ahead : ℕ = before g.K.Kind.kind c.args.hanging (links_of rows) c.args.dart in
+    let some : star c.args.dart ≢ 0 = λ none. omega (arith, c.number.ensures.some, c.number.ensures.same) in
+    let old : c.entry.result ≡ links_of rows 1 ahead = c.entry.ensures ∙ c.live_row.ensures 1 ∙ ap (links_of rows 1) c.before-before.ensures in
+    let led : c.push_reserved.new.self.items ≡ start ++ record { dart = ahead; link = 1; old = links_of rows 1 ahead; new = star c.args.dart } ∷ [] =
+    rw (old, c.before-before.ensures, c.number.ensures.same, begin) at c.push_reserved.ensures.items in
+    old-alone g.K.Kind.kind c.args.hanging (links_of rows) star tip c.args.dart start c.push_reserved.new.self.items
+    (c.is_generalized.ensures.0 c.if-is_generalized.true) (rw led (link-pushed (links_of rows) ahead 1 (star c.args.dart) start some))
 
-pub returns : goal.returns
-returns g c =
+pub returns-clause-entries : goal.returns-clause-entries
+returns-clause-entries g c = λ star tip begin end.
     let rows = c.args.links.now.rows in
-    let stars = c.args.stars.now in
-    let at : c.unwrap-before.result ≡ before g.K.Kind.kind c.args.hanging (links_of rows) c.args.dart = (rw c.unwrap-before.ensures at c.new.ensures.same) ∙ c.before-2.ensures in
-    on_ok_weaker c.push_link-2.result
-    (old-both g.K.Kind.kind c.args.hanging (links_of rows) (star_of stars) (tip_of stars) c.args.dart c.args.changes.now.items c.push_link.new.changes.items c.push_link-2.new.changes.items
-    (other-kind g.K.Kind.kind (λ is. false≢true (sym c.if-is_generalized.false ∙ c.is_generalized.ensures.1 is)))
-    (rw (at, c.number.ensures.same, c.star.ensures.star) at c.in_ok-push_link.ensures))
-    (rw (c.number-2.ensures.same, c.tip.ensures) at c.push_link-2.ensures)
+    let start : List Change = c.args.changes.now.items in
+    let ahead : ℕ = before g.K.Kind.kind c.args.hanging (links_of rows) c.args.dart in
+    let some : star c.args.dart ≢ 0 = λ none. omega (arith, c.number.ensures.some, c.number.ensures.same) in
+    let old : c.entry.result ≡ links_of rows 1 ahead = c.entry.ensures ∙ c.live_row.ensures 1 ∙ ap (links_of rows 1) c.before-before.ensures in
+    let led : c.push_reserved.new.self.items ≡ start ++ record { dart = ahead; link = 1; old = links_of rows 1 ahead; new = star c.args.dart } ∷ [] =
+    rw (old, c.before-before.ensures, c.number.ensures.same, begin) at c.push_reserved.ensures.items in
+    let first : Appends (links_of rows) (IsLinkEntry ahead 1 (star c.args.dart)) start c.push_reserved.new.self.items = rw led (link-pushed (links_of rows) ahead 1 (star c.args.dart) start some) in
+    let there : tip c.args.dart ≢ 0 = λ none. omega (arith, c.number-2.ensures.some, c.number-2.ensures.same) in
+    let back : c.entry-2.result ≡ links_of rows 0 c.args.dart = c.entry-2.ensures ∙ c.requires.row 0 in
+    let then : Appends (links_of rows) (IsLinkEntry c.args.dart 0 (tip c.args.dart)) c.push_reserved.new.self.items c.push_reserved-2.new.self.items =
+    rw (c.push_reserved-2.ensures.items, back, c.number-2.ensures.same, end) (link-pushed (links_of rows) c.args.dart 0 (tip c.args.dart) c.push_reserved.new.self.items there) in
+    old-both g.K.Kind.kind c.args.hanging (links_of rows) star tip c.args.dart start c.push_reserved.new.self.items c.push_reserved-2.new.self.items
+    (other-kind g.K.Kind.kind (λ is. false≢true (sym c.if-is_generalized.false ∙ c.is_generalized.ensures.1 is))) first then
