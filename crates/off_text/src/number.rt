@@ -7,13 +7,17 @@ ghost use Rattle.map_defs.specs.Off.{is_natural, is_below, is_point, magnitude, 
 ghost use Rattle.off_text.specs.Meanings.{Finds};
 
 use crate::OffWhat;
-use text_words::is_digits;
+use text_words::{is_digits, read_numeral};
 
 /// The natural number that a word writes, or `u64::MAX` where it is greater; none exactly where the word is not one or more
 /// digits.
 pub fn read_natural(word: &[u8]) -> Option<u64>
     ensures { result ≡ (if is_natural word.now then Some (min (value_of word.now) u64.MAX) else None) }
 {
+    // Most words are numerals, which are read at once.
+    if let Some(value) = read_numeral(word) {
+        return Some(value);
+    }
     if word.is_empty() || !is_digits(word) {
         return None;
     }
