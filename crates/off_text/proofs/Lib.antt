@@ -6,6 +6,7 @@ mod Rounds
 mod CellPlaces
 mod Refusing
 mod RoundLists
+mod PlainLines
 mod Placing
 mod Putting
 mod Zips
