@@ -3,6 +3,7 @@ pub mod KeyLemmas
 pub mod SlotLemmas
 pub mod Arranged
 pub mod RowSize
+pub mod Births
 pub mod Freed
 pub mod Stages
 pub mod Gathering

@@ -1,6 +1,6 @@
-ghost use Rattle.std.specs.Prelude.{◌≡◌, ℕ, ◌+◌, ◌^◌, ◌≤◌, ◌<◌, ◌↔◌, [], ◌∷◌, None, reverse, map, option_map, option_copied, slice_index, IsTrue, IfSome, IfNone, IsOk, OnOk, OnErr, IsErrOf};
+ghost use Rattle.std.specs.Prelude.{◌≡◌, ℕ, ◌+◌, ◌-◌, ◌^◌, ◌≤◌, ◌<◌, ◌↔◌, [], ◌∷◌, None, reverse, map, option_map, option_copied, slice_index, IsTrue, IfSome, IfNone, IsOk, OnOk, OnErr, IsErrOf};
 ghost use Rattle.map_defs.specs.Rows.{entry_of, links_of};
-ghost use Rattle.map_defs.specs.Edits.{free_row, with_entry};
+ghost use Rattle.map_defs.specs.Edits.{free_row, with_births, with_entry};
 ghost use Rattle.dart_arena.specs.Stock.{made, row_at, IsLive, live_count, IsStock, born, unborn, buried, revived, IsNextLive};
 
 use crate::places::Places;
@@ -242,6 +242,28 @@ impl<const DIM: usize> Arena<DIM> {
         self.spare -= 1;
         self.room -= 1;
         Dart::new(self.places.made() as u32).unwrap()
+    }
+
+    /// Makes so many darts whose entries are all 0. Their numbers go on from that of the dart made last.
+    pub fn bear(&mut self, births: u32)
+        requires spare { births ≤ self.old.spare }
+        requires room { births ≤ self.old.room }
+        requires few { made self.old + births ≤ MADE_MAX }
+        ensures rows { self.new.rows ≡ with_births DIM births self.old.rows }
+        ensures spare { self.new.spare ≡ self.old.spare - births }
+        ensures room { self.new.room ≡ self.old.room - births }
+    {
+        if !self.places.is_in_order() {
+            for _birth in 0..births {
+                self.birth();
+            }
+            return;
+        }
+        let births = births as usize;
+        self.places.push_in_order(births);
+        self.count += births;
+        self.spare -= births;
+        self.room -= births;
     }
 
     /// Takes the last birth back: the number of dart `made`, which must live, can be given again.

@@ -1,4 +1,4 @@
-ghost use Rattle.std.specs.Prelude.{◌≡◌, ◌≢◌, ◌+◌, ◌-◌, ◌^◌, ◌≤◌, ◌<◌, ◌++◌, [], ◌∷◌, true, false, cond, length, take, slice_set, vec_len, vec_capacity, IfOk, OnOk, OnErr};
+ghost use Rattle.std.specs.Prelude.{◌≡◌, ◌≢◌, ◌+◌, ◌-◌, ◌^◌, ◌≤◌, ◌<◌, ◌++◌, [], ◌∷◌, true, false, cond, length, take, replicate, slice_set, vec_len, vec_capacity, IfOk, OnOk, OnErr};
 ghost use Rattle.dart_arena.specs.Layout.{is_in_order, keys_of, key_at, keys_from, places_capacity};
 
 use std::alloc::{AllocError, Global};
@@ -142,6 +142,19 @@ impl Places {
             self.live.push_reserved(true);
         } else {
             self.keys.push_reserved(key as u32);
+        }
+    }
+
+    /// Appends places for so many darts that live, while no keys are kept. It takes no memory: room for them was reserved.
+    pub fn push_in_order(&mut self, births: usize)
+        requires order { is_in_order self.old ≡ true }
+        requires room { length (keys_of self.old) + births ≤ places_capacity self.old }
+        ensures order { is_in_order self.new ≡ true }
+        ensures keys { keys_of self.new ≡ keys_from 0 (self.old.live.items ++ replicate births true) }
+        ensures capacity { places_capacity self.new ≡ places_capacity self.old }
+    {
+        for _birth in 0..births {
+            self.live.push_reserved(true);
         }
     }
 

@@ -17,9 +17,7 @@ pub fn bear<const DIM: usize>(rows: &mut Arena<DIM>, births: u32)
     ensures spare { rows.new.spare ≡ rows.old.spare - births }
     ensures room { rows.new.room ≡ rows.old.room - births }
 {
-    for _birth in 0..births {
-        rows.birth();
-    }
+    rows.bear(births);
 }
 
 /// Takes the last births back.
