@@ -1,11 +1,13 @@
 -- The faults of faces as a loop finds them.
-use Rattle.std.proofs.Common.{◌≡◌, ℕ, ◌+◌, ◌<◌, false, List, [], ◌∷◌, ◌++◌, length, get_or, drop, Vec, Global, Option, Err, refl, sym, ap, subst, ◌∙◌}
-use Rattle.std.proofs.lemmas.List.{drop_more}
+use Rattle.std.proofs.Common.{◌≡◌, ℕ, suc, ◌+◌, ◌*◌, ◌<◌, ◌≤◌, false, List, [], ◌∷◌, ◌++◌, length, get_or, drop, Option, Err, refl, sym, ap, subst, ◌∙◌, arith}
+use Rattle.std.specs.Prelude.{All}
+use Rattle.std.specs.List.{concat}
+use Rattle.std.proofs.lemmas.List.{drop_more, length-append}
 use Rattle.map_defs.specs.Kind.{Kind}
-use Rattle.map_defs.specs.MeshMap.{Side, MapFault, repeats, face_sides, or_else, sides_fault, faces_fault}
+use Rattle.map_defs.specs.MeshMap.{Side, MapFault, repeats, face_sides, sides_from, or_else, sides_fault, faces_fault}
 use Rattle.mesh_build.specs.declared.fault.MeshFault.{MeshFault}
 use Rattle.mesh_build.specs.declared.fault.MeshFault.TheVariants as told
-use Rattle.off_text.specs.Meanings.{faces_view}
+use Rattle.mesh_laws.proofs.FaceSides.{length-sides_from}
 use Rattle.mesh_build.specs.Sides.{Fails}
 
 -- the first of two faults is told
@@ -17,8 +19,23 @@ fails-first A (told.Turned d) first other h = ap (λ (o : Option MapFault). or_e
 fails-first A told.NoMemory first other h = tt
 
 -- the first of some faces, and those behind it
-pub faces_view-split : (items : List (Vec ℕ Global)) (i : ℕ) (item : Vec ℕ Global) → i < length items → item ≡ get_or items i item → faces_view (drop i items) ≡ item.items ∷ faces_view (drop (i + 1) items)
-faces_view-split items i item h is = ap faces_view (drop_more items i item h ∙ ap (λ (x : Vec ℕ Global). x ∷ drop (i + 1) items) (sym is))
+pub faces-split : (faces : List (List ℕ)) (i : ℕ) (corners : List ℕ) → i < length faces → corners ≡ get_or faces i [] → drop i faces ≡ corners ∷ drop (i + 1) faces
+faces-split faces i corners h is = drop_more faces i [] h ∙ ap (λ (face : List ℕ). face ∷ drop (i + 1) faces) (sym is)
+
+-- there is a side for each corner
+pub length-sides : (base : ℕ) (faces : List (List ℕ)) → length (sides_from base faces) ≡ length (concat faces)
+length-sides base [] = refl
+length-sides base (corners ∷ faces) =
+    length-sides_from base corners faces ∙ (ap (λ (n : ℕ). length corners + n) (length-sides (base + length corners) faces) ∙ sym (length-append corners (concat faces)))
+
+-- faces of few corners have few sides
+pub few-sides : (most base : ℕ) (faces : List (List ℕ)) → All (λ (corners : List ℕ). length corners ≤ most) faces → length (sides_from base faces) ≤ most * length faces
+few-sides most base [] each = omega arith
+few-sides most base (corners ∷ faces) each =
+    let first : length corners ≤ most = each 0 [] (omega arith) in
+    let more : length (sides_from (base + length corners) faces) ≤ most * length faces = few-sides most (base + length corners) faces (λ k z h. each (suc k) z (omega (arith, h))) in
+    let whole : most * suc (length faces) ≡ most + most * length faces = grind arith in
+    omega (arith, length-sides_from base corners faces, first, more, whole)
 
 pub faces_fault-stop : (A : Type 0) (f : MeshFault) (k : Kind) (face n : ℕ) (earlier : List Side) (corners : List ℕ) (faces all : List (List ℕ)) (total : Option MapFault) → n ≡ length earlier → all ≡ corners ∷ faces
     → repeats [] corners ≡ false → Fails {A = Unit {0}} (Err f) (sides_fault k face earlier (face_sides n corners)) → faces_fault k face earlier all ≡ total → Fails {A = A} (Err f) total

@@ -1,11 +1,11 @@
-ghost use Rattle.std.specs.Prelude.{◌≡◌, ◌+◌, ◌*◌, ◌≤◌, ◌<◌, ◌^◌, [], ◌∷◌, None, length, map, All, vec_len, IfOk, IfErr};
+ghost use Rattle.std.specs.Prelude.{◌≡◌, ◌+◌, ◌*◌, ◌≤◌, ◌<◌, ◌^◌, [], ◌∷◌, None, length, map, IfOk, IfErr};
 ghost use Rattle.map_defs.specs.Edits.{after_edit};
 ghost use Rattle.map_defs.specs.Edits as edits;
 ghost use Rattle.map_defs.specs.Rows.{links_of};
 ghost use Rattle.map_defs.specs.Off.{HasFaces};
 ghost use Rattle.map_defs.specs.MeshMap.{sides_of, mesh_fault, MakesMesh};
 ghost use Rattle.map_defs.specs.Polygon.{per_side};
-ghost use Rattle.off_text.specs.Meanings.{mesh_view, faces_view};
+ghost use Rattle.off_text.specs.Meanings.{mesh_view};
 ghost use Rattle.cell_walk.specs.CellLists.{AreCellsOf, lists_of};
 ghost use Rattle.mesh_build.specs.Sides.{sides_view, Fails};
 ghost use Rattle.mesh_laws.specs.Sides.{kind_of, IsSewn};
@@ -19,7 +19,7 @@ use crate::sew::{Sewn, sew_faces};
 use cell_walk::cell_lists;
 use link_rows::{Edit, Links, MADE_MAX};
 use map_kind::{Dart, Kind, Place};
-use off_text::{CORNERS_MAX, Mesh};
+use off_text::{FaceList, Mesh};
 use std::alloc::Global;
 
 /// The map of a mesh: an edit that makes it from nothing, and for each 0-cell its least dart and its point, ascending.
@@ -123,11 +123,11 @@ pub fn sew_few(alloc: Global, oriented: bool, mesh: &Mesh) -> Result<Sewn, MeshF
     ensures fault { Fails result (mesh_fault (kind_of oriented) (mesh_view mesh.now)) }
 {
     let sides = count_sides(&mesh.faces);
-    let darts = dart_count(oriented, sides);
+    let darts = dart_count(oriented, sides as u64);
     if darts > u64::from(MADE_MAX) {
         return Err(MeshFault::Full { darts });
     }
-    sew_faces(alloc, oriented, mesh, sides as usize)
+    sew_faces(alloc, oriented, mesh, sides)
 }
 
 /// Whether the kind is that of combinatorial maps, whose faces have one dart for each side.
@@ -145,16 +145,9 @@ fn dart_count(oriented: bool, sides: u64) -> u64
     if oriented { sides } else { 2 * sides }
 }
 
-/// How many sides the faces have.
-fn count_sides(faces: &[Vec<u32>]) -> u64
-    requires few { length faces.now < 2 ^ 32 }
-    requires short { All (λ face. vec_len face ≤ CORNERS_MAX) faces.now }
-    ensures sides { result ≡ length (sides_of (faces_view faces.now)) }
-    ensures few { result ≤ CORNERS_MAX * length faces.now }
+/// How many sides the faces have: one for each corner.
+fn count_sides(faces: &FaceList) -> usize
+    ensures { result ≡ length (sides_of faces.now) }
 {
-    let mut sides = 0;
-    for face in faces {
-        sides += face.len() as u64;
-    }
-    sides
+    faces.corner_count()
 }

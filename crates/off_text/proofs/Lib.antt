@@ -1,4 +1,5 @@
 pub mod Cuts
+mod CutFaces
 pub mod Counted
 pub mod Corners
 pub mod Fitting

@@ -1,3 +1,4 @@
+pub mod Cutting
 pub mod Meanings
 pub mod Reading
 pub mod Views

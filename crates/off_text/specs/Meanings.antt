@@ -27,7 +27,7 @@ faces_view faces = map items_of faces
 
 -- a mesh without where it lies in memory
 abbrev pub mesh_view : Mesh → off.Mesh
-mesh_view mesh = record { points = mesh.points.items; faces = faces_view mesh.faces.items }
+mesh_view mesh = record { points = mesh.points.items; faces = mesh.faces }
 
 -- Want of memory is free.
 abbrev pub IsFault : {Y : Type 0} → OffFault → Result Y off.TextFault → Type 0

@@ -2,6 +2,7 @@
 #![tactic(auto)]
 
 mod cursor;
+mod face_list;
 mod faces;
 mod fault;
 mod line;
@@ -14,6 +15,7 @@ mod round;
 mod rows;
 mod write;
 
+pub use face_list::FaceList;
 pub use fault::{OffFault, OffWhat};
 pub use line::OffLine;
 pub use mesh::Mesh;

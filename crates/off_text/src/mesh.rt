@@ -1,3 +1,4 @@
+use crate::FaceList;
 use map_kind::Value;
 
 /// A mesh: points, and faces along them.
@@ -5,6 +6,6 @@ use map_kind::Value;
 pub struct Mesh {
     /// The points, each by its three coordinates.
     pub points: Vec<Value>,
-    /// The faces. Each has its corners in the order in which it goes round: places of `points`, from 0.
-    pub faces: Vec<Vec<u32>>,
+    /// The faces. Their corners are places of `points`, from 0.
+    pub faces: FaceList,
 }

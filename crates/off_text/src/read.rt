@@ -1,8 +1,9 @@
 //! The mesh that a text tells.
 ghost use Rattle.std.specs.Prelude.{◌≡◌, ◌+◌, ◌-◌, ◌≤◌, ◌<◌, length, nat_lt, Ok, Some, None, IfOk, if◌then◌else◌};
-ghost use Rattle.map_defs.specs.Off.{three, counts, counts_behind, header, on_line, line_read, point, face, corners, many, ended, mesh_left, mesh_of, HasFaces, is_side_count, Short, BadIndex};
+ghost use Rattle.map_defs.specs.Off.{three, counts, counts_behind, header, on_line, line_read, point, face, many, ended, mesh_left, mesh_of, HasFaces, is_side_count, Short, BadIndex};
+ghost use Rattle.map_defs.specs.Off as off;
 ghost use Rattle.map_defs.specs.TextWords.{value_of};
-ghost use Rattle.off_text.specs.Meanings.{meaning, mesh_view, items_of, faces_view, Gives, Finds};
+ghost use Rattle.off_text.specs.Meanings.{meaning, mesh_view, Gives, Finds};
 ghost use Rattle.text_words.specs.Taking.{words_in};
 ghost use Rattle.off_text.specs.Reading.{corner_of, pushed};
 ghost use Rattle.off_text.specs.Views.{row_view, cursor_view, counts_view, words_view};
@@ -10,7 +11,7 @@ ghost use Rattle.off_text.specs.Views.{row_view, cursor_view, counts_view, words
 use crate::cursor::{Cursor, Row};
 use crate::number::{read_below, read_coordinate, read_count};
 use crate::rows::{check_text, next, next_row};
-use crate::{Mesh, OffFault, OffWhat};
+use crate::{FaceList, Mesh, OffFault, OffWhat};
 use map_kind::Value;
 use std::alloc::Global;
 use text_words::take_word;
@@ -201,45 +202,45 @@ fn read_point(row: Row) -> Result<Value, OffWhat>
     Ok(Value { a, b, c })
 }
 
-fn read_faces(
-    alloc: Global,
-    counts: Counts,
-    cursor: Cursor,
-) -> Result<(Vec<Vec<u32>>, Cursor), OffFault>
-    ensures { Gives (λ x. (faces_view x.0.items, cursor_view x.1)) result
+fn read_faces(alloc: Global, counts: Counts, cursor: Cursor) -> Result<(FaceList, Cursor), OffFault>
+    ensures { Gives (λ x. (x.0, cursor_view x.1)) result
         (many (line_read (face counts.points)) counts.faces (cursor_view cursor.entry)) }
 {
-    let mut faces = Vec::new(alloc);
+    let mut faces = FaceList::new(alloc);
+    let mut corners = Vec::new(alloc);
     let mut left = cursor;
     for _ in 0..counts.faces {
-        match read_face_line(alloc, counts.points, left) {
-            Ok((face, after)) => {
-                faces.push(face)?;
-                left = after;
-            }
+        match push_face(&mut faces, &mut corners, counts.points, left) {
+            Ok(after) => left = after,
             Err(fault) => return Err(fault),
         }
     }
     Ok((faces, left))
 }
 
+/// Reads the face of the next row, appends it, and answers what is left. The corners are read into `corners` first.
 #[tactic(auto, unfolding(map_defs::specs::Off::line_read))]
-fn read_face_line(
-    alloc: Global,
+fn push_face<'a>(
+    faces: &mut FaceList,
+    corners: &mut Vec<u32>,
     points: u32,
-    cursor: Cursor,
-) -> Result<(Vec<u32>, Cursor), OffFault>
-    ensures { Gives (λ x. (x.0.items, cursor_view x.1)) result (line_read (face points) (cursor_view cursor.entry)) }
+    cursor: Cursor<'a>,
+) -> Result<Cursor<'a>, OffFault>
+    ensures { Gives (λ left. (faces.new, cursor_view left)) result
+        (pushed faces.old (line_read (face points) (cursor_view cursor.entry))) }
 {
     let (row, left) = next(cursor, OffWhat::Short)?;
-    Ok((read_face(alloc, points, row)?, left))
+    read_face(corners, points, row)?;
+    faces.push(corners)?;
+    Ok(left)
 }
 
-fn read_face(alloc: Global, points: u32, row: Row) -> Result<Vec<u32>, OffFault>
-    ensures { Gives items_of result (on_line row.entry.line (face points (row_view row.entry).first (row_view row.entry).others)) }
+/// Reads the corners of the face on a row in place of those that were there.
+fn read_face(corners: &mut Vec<u32>, points: u32, row: Row) -> Result<(), OffFault>
+    ensures { Gives (λ _. corners.new.items) result (on_line row.entry.line (face points (row_view row.entry).first (row_view row.entry).others)) }
 {
     match read_side_count(row.first) {
-        Some(count) => read_corners(alloc, points, count, row),
+        Some(count) => read_corners(corners, points, count, row),
         None => Err(OffFault::Bad {
             line: row.line,
             what: OffWhat::BadFace,
@@ -258,11 +259,12 @@ fn read_side_count(word: &[u8]) -> Option<u32>
     Some(count)
 }
 
-/// The first `count` numbers behind the first word of a row, each below `points`.
-fn read_corners(alloc: Global, points: u32, count: u32, row: Row) -> Result<Vec<u32>, OffFault>
-    ensures { Gives items_of result (on_line row.entry.line (corners points count (row_view row.entry).others)) }
+/// Reads the first `count` numbers behind the first word of a row, each below `points`, in place of the corners that were
+/// there.
+fn read_corners(corners: &mut Vec<u32>, points: u32, count: u32, row: Row) -> Result<(), OffFault>
+    ensures { Gives (λ _. corners.new.items) result (on_line row.entry.line (off.corners points count (row_view row.entry).others)) }
 {
-    let mut corners = Vec::new(alloc);
+    corners.clear();
     let mut rest = row.others;
     for place in 0..count {
         match take_corner(points, count - place, rest) {
@@ -278,7 +280,7 @@ fn read_corners(alloc: Global, points: u32, count: u32, row: Row) -> Result<Vec<
             }
         }
     }
-    Ok(corners)
+    Ok(())
 }
 
 /// The corner that the first word of a text tells, and what stands behind it, where `owed` words were to come.

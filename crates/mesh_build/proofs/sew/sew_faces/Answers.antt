@@ -1,12 +1,10 @@
-use Rattle.std.proofs.Common.{◌≡◌, ℕ, ◌+◌, ◌<◌, ◌≤◌, true, false, List, [], ◌∷◌, ◌++◌, length, get_or, drop, map, Vec, Global, None, Err, replicate, refl, sym, ap, subst, ◌∙◌, arith}
-use Rattle.std.proofs.lemmas.List.{length-map, length-append, append-nil, drop_all, get_or-map, get_or-replicate}
-use Rattle.std.specs.Prelude.{All}
-use Rattle.map_defs.specs.MeshMap.{Side, repeats, face_sides, sides_from, sides_of, sides_fault, faces_fault}
-use Rattle.off_text.specs.Meanings.{items_of, faces_view}
-use Rattle.mesh_build.specs.Sides.{side_view, sides_view, Fails}
+use Rattle.std.proofs.Common.{◌≡◌, ℕ, ◌+◌, ◌<◌, true, false, List, [], ◌∷◌, ◌++◌, length, get_or, drop, map, replicate, refl, sym, ap, subst, ◌∙◌, arith}
+use Rattle.std.proofs.lemmas.List.{length-map, length-append, append-nil, drop_all, get_or-replicate}
+use Rattle.map_defs.specs.MeshMap.{Side, repeats, face_sides, sides_from, faces_fault}
+use Rattle.mesh_build.specs.Sides.{side_view, sides_view}
 use Rattle.mesh_laws.specs.Sides.{kind_of, IsRing}
 use Rattle.mesh_build.specs.declared.sew.Sewn.{Sewn}
-use Rattle.mesh_build.proofs.FaceSides.{faces_view-split, faces_fault-stop}
+use Rattle.mesh_build.proofs.FaceSides.{faces-split, faces_fault-stop}
 use Rattle.mesh_laws.proofs.FaceSides.{length-sides_from, length-face_sides, faces_fault-on, faces_fault-repeated, sides-on}
 use Rattle.mesh_laws.proofs.Rings.{is_ring}
 use Rattle.mesh_build.proofs.Partners.{is_sewn}
@@ -28,87 +26,71 @@ loop-face-init c =
     }
 
 pub has_repeat-requires-clause-points : goal.has_repeat-requires-clause-points
-has_repeat-requires-clause-points c = λ k d h.
-    let item : List ℕ = c.corners-item.result.items in
-    let P : List (Vec ℕ Global) → Type 0 = λ fs. All (λ (corners : List ℕ). All (λ (v : ℕ). v < length c.args.mesh.now.points.items) corners) (faces_view fs) in
-    let all : P c.deref-corners-items.result.now = subst P (sym c.deref-corners-items.ensures.value) c.requires.faces.points in
-    let within : c.loop-face.face < length (faces_view c.deref-corners-items.result.now) = omega (arith, length-map c.deref-corners-items.result.now items_of, c.loop-face-test.true) in
-    let its : get_or (faces_view c.deref-corners-items.result.now) c.loop-face.face [] ≡ item =
-    get_or-map items_of c.deref-corners-items.result.now c.loop-face.face c.corners-item.result [] c.loop-face-test.true ∙ ap items_of (sym c.corners-item.is) in
-    let each : All (λ (v : ℕ). v < length c.args.mesh.now.points.items) item = subst (All (λ (v : ℕ). v < length c.args.mesh.now.points.items)) its (all c.loop-face.face [] within) in
-    rw (c.deref.ensures.value, c.loop-face.invariant.long) (each k d (rw c.deref.ensures.value at h))
+has_repeat-requires-clause-points c =
+    let within : c.loop-face.face < length c.args.mesh.now.faces = omega (arith, c.loop-face-test.true, c.len-face-end.ensures) in
+    rw (c.face-corners.ensures, c.loop-face.invariant.long) (c.requires.faces.points c.loop-face.face [] within)
 
 pub returns-then-has_repeat-clause-fault : goal.returns-then-has_repeat-clause-fault
 returns-then-has_repeat-clause-fault c =
-    let split = faces_view-split c.deref-corners-items.result.now c.loop-face.face c.corners-item.result c.loop-face-test.true c.corners-item.is in
-    let twice : repeats [] c.corners-item.result.items ≡ true = ap (repeats []) (sym c.deref.ensures.value) ∙ (sym c.has_repeat.ensures.result ∙ c.if-has_repeat.true) in
-    rw (← c.deref-corners-items.ensures.value)
-    (faces_fault-repeated (kind_of c.args.oriented) c.loop-face.face (sides_view c.loop-face.book.sides) c.corners-item.result.items _ _ _ split twice c.loop-face.invariant.fault)
+    let split = faces-split c.args.mesh.now.faces c.loop-face.face c.face-corners.result.now (omega (arith, c.loop-face-test.true, c.len-face-end.ensures)) c.face-corners.ensures in
+    let twice : repeats [] c.face-corners.result.now ≡ true = sym c.has_repeat.ensures.result ∙ c.if-has_repeat.true in
+    faces_fault-repeated (kind_of c.args.oriented) c.loop-face.face (sides_view c.loop-face.book.sides) c.face-corners.result.now _ _ _ split twice c.loop-face.invariant.fault
 
 pub add_face-requires-clause-few : goal.add_face-requires-clause-few
 add_face-requires-clause-few c =
     let n : ℕ = length c.loop-face.book.sides.items in
-    let rest : List (List ℕ) = faces_view (drop (c.loop-face.face + 1) c.deref-corners-items.result.now) in
-    let split = faces_view-split c.deref-corners-items.result.now c.loop-face.face c.corners-item.result c.loop-face-test.true c.corners-item.is in
+    let rest : List (List ℕ) = drop (c.loop-face.face + 1) c.args.mesh.now.faces in
+    let split = faces-split c.args.mesh.now.faces c.loop-face.face c.face-corners.result.now (omega (arith, c.loop-face-test.true, c.len-face-end.ensures)) c.face-corners.ensures in
     let whole = ap (λ (fs : List (List ℕ)). sides_view c.loop-face.book.sides ++ sides_from n fs) (sym split) ∙ c.loop-face.invariant.sides in
-    let few : length (sides_of (faces_view c.deref-corners-items.result.now)) ≤ 4194304 = rw c.deref-corners-items.ensures.value c.requires.few in
-    rw c.deref-in-loop-face.ensures.value
-    (omega (
+    omega (
       arith,
-      few,
+      c.requires.few,
       ap length whole,
-      length-append (sides_view c.loop-face.book.sides) (sides_from n (c.corners-item.result.items ∷ rest)),
+      length-append (sides_view c.loop-face.book.sides) (sides_from n (c.face-corners.result.now ∷ rest)),
       length-map c.loop-face.book.sides.items side_view,
-      length-sides_from n c.corners-item.result.items rest,
-    ))
+      length-sides_from n c.face-corners.result.now rest,
+    )
 
 pub returns-in-Err-clause-fault : goal.returns-in-Err-clause-fault
 returns-in-Err-clause-fault c =
     let n : ℕ = length c.loop-face.book.sides.items in
     let earlier : List Side = sides_view c.loop-face.book.sides in
-    let split = faces_view-split c.deref-corners-items.result.now c.loop-face.face c.corners-item.result c.loop-face-test.true c.corners-item.is in
-    let once : repeats [] c.corners-item.result.items ≡ false = ap (repeats []) (sym c.deref.ensures.value) ∙ (sym c.has_repeat.ensures.result ∙ c.if-has_repeat.false) in
+    let split = faces-split c.args.mesh.now.faces c.loop-face.face c.face-corners.result.now (omega (arith, c.loop-face-test.true, c.len-face-end.ensures)) c.face-corners.ensures in
+    let once : repeats [] c.face-corners.result.now ≡ false = sym c.has_repeat.ensures.result ∙ c.if-has_repeat.false in
     let long : n ≡ length earlier = omega (arith, length-map c.loop-face.book.sides.items side_view) in
-    let fails = subst (λ (corners : List ℕ). Fails {A = Unit {0}} (Err c.in-Err.fault) (sides_fault (kind_of c.args.oriented) c.loop-face.face earlier (face_sides n corners))) c.deref-in-loop-face.ensures.value c.in-Err.ensures.fault in
-    let total = subst (λ (fs : List (Vec ℕ Global)). faces_fault (kind_of c.args.oriented) c.loop-face.face earlier (faces_view (drop c.loop-face.face c.deref-corners-items.result.now))
-    ≡ faces_fault (kind_of c.args.oriented) 0 [] (faces_view fs)) c.deref-corners-items.ensures.value c.loop-face.invariant.fault in
-    faces_fault-stop Sewn c.in-Err.fault (kind_of c.args.oriented) c.loop-face.face n earlier c.corners-item.result.items _ _ _ long split once fails total
+    faces_fault-stop Sewn c.in-Err.fault (kind_of c.args.oriented) c.loop-face.face n earlier c.face-corners.result.now _ _ _ long split once c.in-Err.ensures.fault c.loop-face.invariant.fault
 
 pub loop-face-preserved : goal.loop-face-preserved
 loop-face-preserved c =
     let n : ℕ = length c.loop-face.book.sides.items in
     let earlier : List Side = sides_view c.loop-face.book.sides in
-    let corners : List ℕ = c.corners-item.result.items in
-    let split = faces_view-split c.deref-corners-items.result.now c.loop-face.face c.corners-item.result c.loop-face-test.true c.corners-item.is in
-    let once : repeats [] corners ≡ false = ap (repeats []) (sym c.deref.ensures.value) ∙ (sym c.has_repeat.ensures.result ∙ c.if-has_repeat.false) in
+    let corners : List ℕ = c.face-corners.result.now in
+    let split = faces-split c.args.mesh.now.faces c.loop-face.face c.face-corners.result.now (omega (arith, c.loop-face-test.true, c.len-face-end.ensures)) c.face-corners.ensures in
+    let once : repeats [] corners ≡ false = sym c.has_repeat.ensures.result ∙ c.if-has_repeat.false in
     let long : n ≡ length earlier = omega (arith, length-map c.loop-face.book.sides.items side_view) in
-    let more : sides_view c.add_face.new.book.sides ≡ earlier ++ face_sides n corners = c.in-Ok.ensures.sides ∙ ap (λ (cs : List ℕ). earlier ++ face_sides n cs) c.deref-in-loop-face.ensures.value in
-    let none : sides_fault (kind_of c.args.oriented) c.loop-face.face earlier (face_sides n corners) ≡ None =
-    ap (λ (cs : List ℕ). sides_fault (kind_of c.args.oriented) c.loop-face.face earlier (face_sides n cs)) (sym c.deref-in-loop-face.ensures.value) ∙ c.in-Ok.ensures.fault in
+    let more : sides_view c.add_face.new.book.sides ≡ earlier ++ face_sides n corners = c.in-Ok.ensures.sides in
     let longer : length c.add_face.new.book.sides.items ≡ n + length corners =
     omega (arith, ap length more, length-append earlier (face_sides n corners), length-face_sides n corners, length-map c.loop-face.book.sides.items side_view, length-map c.add_face.new.book.sides.items side_view) in
     record {
       kept = c.in-Ok.ensures.kept;
       sides = sides-on n (length c.add_face.new.book.sides.items) earlier (sides_view c.add_face.new.book.sides) corners _ _ _ split more longer c.loop-face.invariant.sides;
-      fault = faces_fault-on (kind_of c.args.oriented) c.loop-face.face n earlier (sides_view c.add_face.new.book.sides) corners _ _ _ long more split once none c.loop-face.invariant.fault;
+      fault = faces_fault-on (kind_of c.args.oriented) c.loop-face.face n earlier (sides_view c.add_face.new.book.sides) corners _ _ _ long more split once c.in-Ok.ensures.fault c.loop-face.invariant.fault;
       long = c.has_repeat.ensures.long ∙ c.loop-face.invariant.long;
       fresh = c.has_repeat.ensures.stamped;
     }
 
 pub returns-clause-sides : goal.returns-clause-sides
 returns-clause-sides c =
-    let none : faces_view (drop c.loop-face.face c.deref-corners-items.result.now) ≡ [] = ap faces_view (drop_all c.loop-face.face c.deref-corners-items.result.now c.loop-face-test.false) in
+    let none : drop c.loop-face.face c.args.mesh.now.faces ≡ [] = drop_all c.loop-face.face c.args.mesh.now.faces (omega (arith, c.loop-face-test.false, c.len-face-end.ensures)) in
     sym (append-nil (sides_view c.loop-face.book.sides))
-    ∙ (ap (λ (fs : List (List ℕ)). sides_view c.loop-face.book.sides ++ sides_from (length c.loop-face.book.sides.items) fs) (sym none)
-    ∙ (c.loop-face.invariant.sides ∙ ap (λ (fs : List (Vec ℕ Global)). sides_of (faces_view fs)) c.deref-corners-items.ensures.value))
+    ∙ (ap (λ (fs : List (List ℕ)). sides_view c.loop-face.book.sides ++ sides_from (length c.loop-face.book.sides.items) fs) (sym none) ∙ c.loop-face.invariant.sides)
 
 pub returns-clause-sewn : goal.returns-clause-sewn
 returns-clause-sewn c =
     is_sewn c.args.oriented c.loop-face.book.last c.loop-face.book.partners.items (sides_view c.loop-face.book.sides) c.loop-face.invariant.kept
-    (subst (λ (sides : List Side). (s : ℕ) → s < length sides → IsRing sides s) (sym (returns-clause-sides c)) (is_ring (faces_view c.args.mesh.now.faces.items)))
+    (subst (λ (sides : List Side). (s : ℕ) → s < length sides → IsRing sides s) (sym (returns-clause-sides c)) (is_ring c.args.mesh.now.faces))
 
 pub returns-clause-fault : goal.returns-clause-fault
 returns-clause-fault c =
-    let none : faces_view (drop c.loop-face.face c.deref-corners-items.result.now) ≡ [] = ap faces_view (drop_all c.loop-face.face c.deref-corners-items.result.now c.loop-face-test.false) in
-    ap (λ (fs : List (Vec ℕ Global)). faces_fault (kind_of c.args.oriented) 0 [] (faces_view fs)) (sym c.deref-corners-items.ensures.value)
-    ∙ (sym c.loop-face.invariant.fault ∙ ap (faces_fault (kind_of c.args.oriented) c.loop-face.face (sides_view c.loop-face.book.sides)) none)
+    let none : drop c.loop-face.face c.args.mesh.now.faces ≡ [] = drop_all c.loop-face.face c.args.mesh.now.faces (omega (arith, c.loop-face-test.false, c.len-face-end.ensures)) in
+    sym c.loop-face.invariant.fault ∙ ap (faces_fault (kind_of c.args.oriented) c.loop-face.face (sides_view c.loop-face.book.sides)) none
