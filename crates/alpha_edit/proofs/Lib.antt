@@ -1,5 +1,4 @@
 mod VertexPlan
 mod EdgePlan
-mod OneSidedCorner
 mod CellEnds
 mod CellPlans

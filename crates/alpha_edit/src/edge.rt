@@ -3,11 +3,11 @@ ghost use Rattle.std.specs.List.Sorted.{IsStrictlyIncreasing};
 ghost use Rattle.map_defs.specs.Kind.{alpha};
 ghost use Rattle.map_defs.specs.Rows.{links_of, IsLive};
 ghost use Rattle.map_defs.specs.Laws.{Laws};
-ghost use Rattle.map_defs.specs.Insertion.{AreOnOneSide, InAlphaCorner, AlphaEdgeDarts, AlphaEdgePairs, AreAlphaEdgePaired};
+ghost use Rattle.map_defs.specs.Insertion.{AreOnOneSide, AlphaEdgeDarts, AlphaEdgePairs, AreAlphaEdgePaired};
 ghost use Rattle.sewing.specs.Triples.{Lists, IsAscending};
 ghost use Rattle.cell_edit.specs.Planning.{PlansEdge};
 
-use cell_edit::{carrying_links, corners, insertion_edit, insertion_pairs, is_near, leads};
+use cell_edit::{are_in_one_alpha_corner, corners, insertion_edit, insertion_pairs, is_near, leads};
 use link_rows::{Edit, Links};
 use map_kind::{Alpha, Dart, Refusal, Refused};
 use sewing::{PairFault, Triple};
@@ -38,7 +38,7 @@ pub fn edge_plan<const DIM: usize>(
     if !are_on_one_side(alloc, links, one, other)? {
         return Err(Refused::Line(Refusal::OtherCell));
     }
-    if are_in_one_corner(alloc, links, one, other)? {
+    if are_in_one_alpha_corner(alloc, links, one, other)? {
         return Err(Refused::Line(Refusal::SameCorner));
     }
     match edge_pairs(alloc, links, one, other) {
@@ -66,39 +66,6 @@ fn are_on_one_side<const DIM: usize>(
         return Ok(true);
     }
     leads(alloc, links, &[0, 1], one, other)
-}
-
-/// Whether two darts lie in one corner of a face. On a face of one side alone the corner of a dart has that dart and the dart
-/// at its link 1, and no walk is made.
-fn are_in_one_corner<const DIM: usize>(
-    alloc: Global,
-    links: &Links<Alpha, DIM>,
-    one: Dart,
-    other: Dart,
-) -> Result<bool, AllocError>
-    requires other { IsLive links.now.rows other }
-    requires laws { Laws alpha (links_of links.now.rows) }
-    ensures { IfOk result (λ one_corner. IsTrue one_corner ↔ InAlphaCorner (links_of links.now.rows) one other) }
-{
-    // Links above the dimension are free.
-    links.see_sound();
-    if is_on_one_side_alone(links, one) {
-        return Ok(other == one || links.number_at(one, 1) == other.number());
-    }
-    let carrying = carrying_links::<Alpha>(alloc, links.dimension(), 1)?;
-    leads(alloc, links, &carrying, one, other)
-}
-
-/// Whether all links of a dart from link 3 upwards are free.
-fn is_on_one_side_alone<const DIM: usize>(links: &Links<Alpha, DIM>, dart: Dart) -> bool
-    ensures { IsTrue result → (j : ℕ) → 3 ≤ j → j ≤ DIM → links_of links.now.rows j dart ≡ 0 }
-{
-    for link in 3..links.dimension() + 1 {
-        if links.number_at(dart, link) != 0 {
-            return false;
-        }
-    }
-    true
 }
 
 /// The pairs of the darts of two corners, ascending. `Unpaired` comes exactly where they cannot be paired.

@@ -7,7 +7,6 @@ mod DrawnEnds
 mod DrawnEntries
 mod DrawnTurned
 mod EdgePlan
-mod LoneCorner
 mod EdgeTurns
 mod GrowthFacts
 mod HighEnds

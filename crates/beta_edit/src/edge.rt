@@ -1,17 +1,15 @@
-ghost use Rattle.std.specs.Prelude.{◌≡◌, ℕ, ◌≤◌, ◌↔◌, Contains, IfOk, OnOk, IsErrOf, IsTrue, map};
+ghost use Rattle.std.specs.Prelude.{◌≡◌, ℕ, ◌≤◌, ◌↔◌, IfOk, OnOk, IsErrOf, IsTrue};
 ghost use Rattle.map_defs.specs.Kind.{beta};
 ghost use Rattle.map_defs.specs.Rows.{links_of, IsLive};
 ghost use Rattle.map_defs.specs.Laws.{Laws};
-ghost use Rattle.map_defs.specs.LinkWords.{two_links};
-ghost use Rattle.map_defs.specs.Insertion.{AreOnOneSide, InBetaCorner, BetaEdgePairs, AreBetaEdgePaired};
+ghost use Rattle.map_defs.specs.Insertion.{AreOnOneSide, BetaEdgePairs, AreBetaEdgePaired};
 ghost use Rattle.sewing.specs.Triples.{Lists, IsAscending};
 ghost use Rattle.cell_edit.specs.Planning.{PlansEdge};
 
 use crate::cut::cut_changes;
-use cell_edit::{Stars, corners, is_near, leads};
-use cell_walk::reaches;
+use cell_edit::{Stars, are_in_one_beta_corner, copying_links, corners, is_near, leads};
 use link_rows::{Edit, Links};
-use map_kind::{Beta, Dart, LinkWord, Refusal, Refused};
+use map_kind::{Beta, Dart, Refusal, Refused};
 use sewing::{PairFault, Triple, pair};
 use std::alloc::{AllocError, Global};
 
@@ -42,7 +40,7 @@ pub fn edge_plan<const DIM: usize>(
     if !are_on_one_side(alloc, links, one, other)? {
         return Err(Refused::Line(Refusal::OtherCell));
     }
-    if are_in_one_corner(alloc, links, one, other)? {
+    if are_in_one_beta_corner(alloc, links, one, other)? {
         return Err(Refused::Line(Refusal::SameCorner));
     }
     match edge_pairs(alloc, links, one, other) {
@@ -75,24 +73,6 @@ fn are_on_one_side<const DIM: usize>(
         return Ok(true);
     }
     leads(alloc, links, &[0, 1], one, other)
-}
-
-/// Whether two darts lie in one corner of a face. Where faces have one side alone, each corner is one dart, and no walk is
-/// made.
-fn are_in_one_corner<const DIM: usize>(
-    alloc: Global,
-    links: &Links<Beta, DIM>,
-    one: Dart,
-    other: Dart,
-) -> Result<bool, AllocError>
-    ensures { IfOk result (λ one_corner. IsTrue one_corner ↔ InBetaCorner (links_of links.now.rows) one other) }
-{
-    let copying = copying_links(alloc, links.dimension())?;
-    if copying.is_empty() {
-        return Ok(one == other);
-    }
-    let words = corner_words(alloc, &copying)?;
-    reaches(alloc, links, &words, one, other)
 }
 
 /// The pairs of the ways into two corners, ascending. `Unpaired` comes exactly where no way leads into one of them, or they
@@ -130,27 +110,4 @@ fn edge_pairs<const DIM: usize>(
     ];
     let copying = copying_links(alloc, links.dimension())?;
     pair(alloc, links, &seeds, &copying)
-}
-
-/// The links up to `dim` at which the copies of a corner lie on the other sides of the face: those from 3 upwards.
-fn copying_links(alloc: Global, dim: usize) -> Result<Vec<usize>, AllocError>
-    requires low { 2 ≤ dim }
-    requires high { dim ≤ 8 }
-    ensures { IfOk result (λ copying. (j : ℕ) → Contains copying.items j ↔ ((j ≤ dim) × (3 ≤ j))) }
-{
-    let mut copying = Vec::new(alloc);
-    for link in 3..dim + 1 {
-        copying.push(link)?;
-    }
-    Ok(copying)
-}
-
-/// The words "0, then j" for these links j.
-fn corner_words(alloc: Global, copying: &[usize]) -> Result<Vec<LinkWord>, AllocError>
-    ensures { IfOk result (λ words. words.items ≡ map (two_links 0) copying.now) }
-{
-    copying
-        .iter()
-        .map(|link| LinkWord::two(0, *link))
-        .collect(alloc)
 }

@@ -2,7 +2,7 @@ pub mod StarNumbers
 pub mod Writings
 mod DartEntries
 mod CopyEntries
-mod ChangeRoom
+pub mod ChangeRoom
 pub mod Beyond
 mod PairEntries
 mod InsertionEdit
@@ -22,3 +22,7 @@ pub mod CornerList
 mod FaceSteps
 mod RowSize
 pub mod Commuting
+mod CornerWords
+mod LoneCorner
+mod ListedDart
+mod OneSidedCorner

@@ -7,6 +7,7 @@
 #![tactic(auto)]
 
 mod along;
+mod corner;
 mod crossing;
 mod ending;
 mod face;
@@ -19,6 +20,9 @@ mod room;
 mod stars;
 
 pub use along::{carried_darts, carrying_links, insertion_pairs, leads};
+pub use corner::{
+    alpha_corner, are_in_one_alpha_corner, are_in_one_beta_corner, beta_corner, copying_links,
+};
 pub use crossing::are_commuting;
 pub use ending::ending_edit;
 pub use face::face_plan;

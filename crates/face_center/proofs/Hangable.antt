@@ -1,5 +1,5 @@
 -- Edges can be hung on the darts of a corner and of a face.
-use Rattle.std.proofs.Common.{ℕ, zero, suc, ◌≡◌, ◌≢◌, ◌≤◌, ◌↔◌, List, [], ◌∷◌, Contains, refl, sym, ap, ◌∙◌, subst, inl, inr, arith}
+use Rattle.std.proofs.Common.{ℕ, zero, suc, ◌≡◌, ◌≢◌, ◌≤◌, ◌↔◌, List, Contains, refl, sym, ap, ◌∙◌, subst, inl, inr, arith}
 use Rattle.std.specs.Prelude.{All}
 use Rattle.std.specs.List.Sorted.{IsStrictlyIncreasing}
 use Rattle.std.proofs.lemmas.List.Elements.{All-contains}
@@ -7,7 +7,7 @@ use Rattle.map_defs.specs.Kind.{Kind, alpha, beta}
 use Rattle.map_defs.specs.Links.{Links}
 use Rattle.map_defs.specs.Laws.{Laws}
 use Rattle.map_defs.specs.LinkWords.{two_links, through, IsCellWord}
-use Rattle.map_defs.specs.Cells.{InOrbit, here, onward, Leads, InCell}
+use Rattle.map_defs.specs.Cells.{here, onward, Leads, InCell}
 use Rattle.map_defs.specs.Rows.{Rows, links_of, made, IsLive, IsSound}
 use Rattle.map_defs.specs.Insertion.{IsLinkedBy, IsCarrying, InAlphaCorner, InBetaCorner, IsCornerWord}
 use Rattle.link_laws.proofs.CellFacts.{beta_closed}
@@ -59,14 +59,6 @@ cell-live k n rows sound d live x o = orbit-live (Leads (links_of rows) (IsCellW
 
 pub beta-corner-live : (n : ℕ) (rows : Rows) → IsSound beta n rows → (d : ℕ) → IsLive rows d → (x : ℕ) → InBetaCorner (links_of rows) d x → IsLive rows x
 beta-corner-live n rows sound d live x o = orbit-live (Leads (links_of rows) IsCornerWord) rows (leads-live beta n rows sound IsCornerWord) d x live o
-
--- the darts of the corner of one listed dart
-pub one-corner : (L : Links) (d x : ℕ) → ((b : ℕ) × Contains (d ∷ []) b × InOrbit (IsLinkedBy L (IsCarrying alpha 1)) b x) ↔ InAlphaCorner L d x
-one-corner L d x = (to, λ o. (d, (0, omega arith, refl), o))
-  where
-    to : (b : ℕ) × Contains (d ∷ []) b × InOrbit (IsLinkedBy L (IsCarrying alpha 1)) b x → InAlphaCorner L d x
-    to (b, (zero, low, is), o) = subst (λ c. InOrbit (IsLinkedBy L (IsCarrying alpha 1)) c x) (sym is) o
-    to (b, (suc p, low, is), o) = absurd (omega arith)
 
 -- ---- at a corner of a combinatorial map
 -- a side leads into each copy of a corner into which one leads

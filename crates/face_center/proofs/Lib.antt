@@ -1,8 +1,6 @@
 mod AlphaHung
 mod BetaHung
 mod BetaPlans
-mod CornerWords
-mod EdgeRoom
 mod Hangable
 mod HungEntries
 mod HungFacts

@@ -1,10 +1,10 @@
 -- What the plans of a dangling edge and of a centre answer, in one form for both kinds of map: the edit where it is possible,
 -- and why it is not. Besides, memory may lack.
-use Rattle.std.specs.Prelude.{ℕ, ◌≡◌, ◌≢◌, ◌+◌, List, [], length, Result, Ok, Err}
+use Rattle.std.specs.Prelude.{ℕ, ◌≡◌, ◌+◌, List, [], length, Result, Ok, Err}
 use Rattle.map_kind.specs.declared.refusal.Refusal.TheVariants as told
 use Rattle.map_kind.specs.declared.refusal.Refused.{Refused}
 use Rattle.map_kind.specs.declared.refusal.Refused.TheVariants as why
-use Rattle.map_defs.specs.Kind.{Kind, alpha, beta}
+use Rattle.map_defs.specs.Kind.{Kind}
 use Rattle.map_defs.specs.Links.{Links}
 use Rattle.map_defs.specs.Laws.{Laws}
 use Rattle.map_defs.specs.Rows.{Rows, links_of, made}

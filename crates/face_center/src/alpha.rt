@@ -1,15 +1,12 @@
 //! The plans for generalized maps.
-ghost use Rattle.std.specs.Prelude.{ℕ, ◌↔◌, Contains, IfOk};
-ghost use Rattle.std.specs.List.Sorted.{IsStrictlyIncreasing};
 ghost use Rattle.map_defs.specs.Kind.{alpha};
 ghost use Rattle.map_defs.specs.Rows.{links_of, IsLive};
 ghost use Rattle.map_defs.specs.Laws.{Laws};
-ghost use Rattle.map_defs.specs.Insertion.{InAlphaCorner};
 ghost use Rattle.face_center.specs.Planning.{PlansDangling};
 
 pub use crate::center::center_plan;
 use crate::hanging::{Hanging, hanging_edit};
-use cell_edit::carried_darts;
+use cell_edit::alpha_corner;
 use link_rows::{Edit, Links};
 use map_kind::{Alpha, Dart, Refused};
 use std::alloc::{AllocError, Global};
@@ -33,18 +30,6 @@ pub fn dangle_plan<const DIM: usize>(
 {
     // Links and back links agree.
     links.see_sound();
-    let darts = corner_darts(alloc, links, dart)?;
+    let darts = alpha_corner(alloc, links, dart)?;
     Ok(hanging_edit(alloc, links, Hanging::Corner, darts)?)
-}
-
-/// The darts of a corner, with its copies on the other sides of the face, ascending.
-fn corner_darts<const DIM: usize>(
-    alloc: Global,
-    links: &Links<Alpha, DIM>,
-    dart: Dart,
-) -> Result<Vec<Dart>, AllocError>
-    ensures members { IfOk result (λ darts. (x : ℕ) → Contains darts.items x ↔ InAlphaCorner (links_of links.now.rows) dart x) }
-    ensures ascending { IfOk result (λ darts. IsStrictlyIncreasing darts.items) }
-{
-    carried_darts(alloc, links, 1, &[dart])
 }

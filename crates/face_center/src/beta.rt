@@ -1,18 +1,14 @@
 //! The plans for combinatorial maps.
-ghost use Rattle.std.specs.Prelude.{◌≡◌, ℕ, ◌≤◌, ◌↔◌, Contains, IfOk, map};
-ghost use Rattle.std.specs.List.Sorted.{IsStrictlyIncreasing};
 ghost use Rattle.map_defs.specs.Kind.{beta};
 ghost use Rattle.map_defs.specs.Rows.{links_of, IsLive};
 ghost use Rattle.map_defs.specs.Laws.{Laws};
-ghost use Rattle.map_defs.specs.LinkWords.{two_links};
-ghost use Rattle.map_defs.specs.Insertion.{InBetaCorner};
 ghost use Rattle.face_center.specs.Planning.{PlansDangling};
 
 pub use crate::center::center_plan;
 use crate::hanging::{Hanging, hanging_edit};
-use cell_walk::orbit;
+use cell_edit::beta_corner;
 use link_rows::{Edit, Links};
-use map_kind::{Beta, Dart, LinkWord, Refusal, Refused};
+use map_kind::{Beta, Dart, Refusal, Refused};
 use std::alloc::{AllocError, Global};
 
 /// The edit that hangs a dangling edge in the face of a dart, at the dart's corner. Each dart of the corner, on all sides of
@@ -37,43 +33,6 @@ pub fn dangle_plan<const DIM: usize>(
     if links.number_at(dart, 0) == 0 {
         return Err(Refused::Line(Refusal::Unpaired));
     }
-    let darts = corner_darts(alloc, links, dart)?;
+    let darts = beta_corner(alloc, links, dart)?;
     Ok(hanging_edit(alloc, links, Hanging::Corner, darts)?)
-}
-
-/// The darts of a corner, with its copies on the other sides of the face, ascending.
-fn corner_darts<const DIM: usize>(
-    alloc: Global,
-    links: &Links<Beta, DIM>,
-    dart: Dart,
-) -> Result<Vec<Dart>, AllocError>
-    ensures members { IfOk result (λ darts. (x : ℕ) → Contains darts.items x ↔ InBetaCorner (links_of links.now.rows) dart x) }
-    ensures ascending { IfOk result (λ darts. IsStrictlyIncreasing darts.items) }
-{
-    let copying = copying_links(alloc, links.dimension())?;
-    let words = corner_words(alloc, &copying)?;
-    orbit(alloc, links, &words, dart)
-}
-
-/// The links up to `dim` at which the copies of a corner lie on the other sides of the face: those from 3 upwards.
-fn copying_links(alloc: Global, dim: usize) -> Result<Vec<usize>, AllocError>
-    requires low { 2 ≤ dim }
-    requires high { dim ≤ 8 }
-    ensures { IfOk result (λ copying. (j : ℕ) → Contains copying.items j ↔ ((j ≤ dim) × (3 ≤ j))) }
-{
-    let mut copying = Vec::new(alloc);
-    for link in 3..dim + 1 {
-        copying.push(link)?;
-    }
-    Ok(copying)
-}
-
-/// The words "0, then j" for these links j.
-fn corner_words(alloc: Global, copying: &[usize]) -> Result<Vec<LinkWord>, AllocError>
-    ensures { IfOk result (λ words. words.items ≡ map (two_links 0) copying.now) }
-{
-    copying
-        .iter()
-        .map(|link| LinkWord::two(0, *link))
-        .collect(alloc)
 }

@@ -1,7 +1,6 @@
--- The changes of one open dart and of its new dart, those of two open darts, and the room for those of all.
-use Rattle.std.proofs.Common.{ℕ, ◌≡◌, ◌≢◌, ◌+◌, ◌*◌, ◌<◌, ◌≤◌, ◌⊎◌, List, sym, ◌∙◌, subst, inl, inr, arith}
+-- The changes of one open dart and of its new dart, and those of two open darts.
+use Rattle.std.proofs.Common.{ℕ, ◌≡◌, ◌≢◌, ◌+◌, ◌<◌, ◌≤◌, ◌⊎◌, List, sym, ◌∙◌, subst, inl, inr, arith}
 use Rattle.std.proofs.lemmas.Bool.{cases_lt}
-use Rattle.std.proofs.Math.Nat.{mul-le-mul_right}
 use Rattle.map_defs.specs.Kind.{Kind}
 use Rattle.map_defs.specs.Links.{Links}
 use Rattle.map_defs.specs.Edits.{Change}
@@ -42,12 +41,3 @@ entries-apart k i L star m u x d t y z apart (inl e) (inl f) = apart.0 (sym e.0 
 entries-apart k i L star m u x d t y z apart (inl e) (inr f) = apart.2 (sym e.0 ∙ f.0)
 entries-apart k i L star m u x d t y z apart (inr e) (inl f) = apart.3 (sym f.0 ∙ e.0)
 entries-apart k i L star m u x d t y z apart (inr e) (inr f) = apart.1 (sym e.0 ∙ f.0)
-
--- ---- room for m changes of each of n darts, where p of them are done
-pub room-used : (p m long longer : ℕ) → long ≤ p * m → longer ≤ long + m → longer ≤ (p + 1) * m
-room-used p m long longer few more = omega (arith, few, more)
-
-pub room-left : (p n m long room : ℕ) → p < n → long ≤ p * m → n * m ≤ room → long + m ≤ room
-room-left p n m long room low few most =
-    let all : (p + 1) * m ≤ n * m = mul-le-mul_right {m = p + 1} {n = n} m (omega arith) in
-    omega (arith, all, few, most)

@@ -46,7 +46,7 @@ returns-in_ok-insertion_edit-in-Ok g c =
     let other : c.args.other ≢ 0 = live-dart alpha g.row.DIM rows c.see_sound.ensures.sound c.args.other c.requires.other in
     let members = corner-members (links_of rows) c.args.one c.args.other one other c.in-Ok.ensures.paired c.in_ok-darts-in-Ok.darts.items c.in-Ok.pairs.items c.in-Ok.ensures.members (rw c.deref.ensures.value at c.in_ok-darts-in-Ok.ensures.members) in (
       c.in_ok-are_on_one_side.ensures.0 c.if-not-branch.false,
-      λ same. false≢true (sym c.if-branch.false ∙ c.in_ok-are_in_one_corner.ensures.1 same),
+      λ same. false≢true (sym c.if-branch.false ∙ c.in_ok-are_in_one_alpha_corner.ensures.1 same),
       c.in-Ok.ensures.paired,
       inserts-same g.row.DIM rows (AlphaEdgeDarts (links_of rows) c.args.one c.args.other) (Contains c.in_ok-darts-in-Ok.darts.items) alpha 1
           (AlphaEdgePairs (links_of rows) c.args.one c.args.other) (Lists c.in-Ok.pairs.items) c.in_ok-insertion_edit-in-Ok.field-0 members c.in-Ok.ensures.members

@@ -14,7 +14,7 @@ use Rattle.beta_edit.proofs.edge.edge_plan.Goals as goal
 pub new-stars-requires-clause-made : goal.new-stars-requires-clause-made
 new-stars-requires-clause-made g c =
     let rows = c.args.links.now.rows in
-    let apart : InBetaCorner (links_of rows) c.args.one c.args.other → ⊥ = λ same. false≢true (sym c.if-branch.false ∙ c.in_ok-are_in_one_corner.ensures.1 same) in
+    let apart : InBetaCorner (links_of rows) c.args.one c.args.other → ⊥ = λ same. false≢true (sym c.if-branch.false ∙ c.in_ok-are_in_one_beta_corner.ensures.1 same) in
     rw c.made.ensures.made (all-made beta g.row.DIM rows c.made.ensures.sound c.in_ok-corners-in-Ok.field-0.items
     (corners-live rows c.requires.laws c.args.one c.args.other c.in-Ok.ensures.paired apart c.in-Ok.pairs.items c.in-Ok.ensures.members c.in_ok-corners-in-Ok.field-0.items
     (rw c.deref.ensures.value at c.in_ok-corners-in-Ok.ensures.members)))
@@ -22,7 +22,7 @@ new-stars-requires-clause-made g c =
 pub cut_changes-requires : goal.cut_changes-requires
 cut_changes-requires g c =
     let rows = c.args.links.now.rows in
-    let apart : InBetaCorner (links_of rows) c.args.one c.args.other → ⊥ = λ same. false≢true (sym c.if-branch.false ∙ c.in_ok-are_in_one_corner.ensures.1 same) in
+    let apart : InBetaCorner (links_of rows) c.args.one c.args.other → ⊥ = λ same. false≢true (sym c.if-branch.false ∙ c.in_ok-are_in_one_beta_corner.ensures.1 same) in
     rw (c.deref-in-Ok.ensures.value, c.new-stars.ensures) (
       lit< tt,
       (
@@ -43,7 +43,7 @@ returns-in_ok-changes-in-Ok g c =
     let paired = c.in-Ok.ensures.paired in
     let same = c.in-Ok.ensures.members in
     let members = rw c.deref.ensures.value at c.in_ok-corners-in-Ok.ensures.members in
-    let apart : InBetaCorner (links_of rows) one other → ⊥ = λ same. false≢true (sym c.if-branch.false ∙ c.in_ok-are_in_one_corner.ensures.1 same) in (
+    let apart : InBetaCorner (links_of rows) one other → ⊥ = λ same. false≢true (sym c.if-branch.false ∙ c.in_ok-are_in_one_beta_corner.ensures.1 same) in (
       c.in_ok-are_on_one_side.ensures.0 c.if-not-branch.false,
       apart,
       paired,

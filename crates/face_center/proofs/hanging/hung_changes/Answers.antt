@@ -5,7 +5,7 @@ use Rattle.map_defs.specs.Rows.{links_of}
 use Rattle.cell_edit.specs.Stars.{star_of}
 use Rattle.face_center.specs.Hanging.{tip_of, IsHungEntry}
 use Rattle.cell_edit.proofs.Appending.{each-more}
-use Rattle.face_center.proofs.EdgeRoom.{room-left, room-used}
+use Rattle.cell_edit.proofs.ChangeRoom.{room-left, room-used}
 use Rattle.face_center.proofs.HungPlaces.{keys-hung-apart}
 use Rattle.face_center.proofs.hanging.hung_changes.Goals as goal
 

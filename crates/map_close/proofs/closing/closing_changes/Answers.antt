@@ -6,7 +6,8 @@ use Rattle.cell_edit.specs.Stars.{star_of}
 use Rattle.cell_edit.proofs.Beyond.{keys-apart}
 use Rattle.map_close.specs.NewLinks.{IsOpenEntry}
 use Rattle.cell_edit.proofs.Appending.{each-more}
-use Rattle.map_close.proofs.ClosingEntries.{entries-apart, room-left, room-used}
+use Rattle.cell_edit.proofs.ChangeRoom.{room-left, room-used}
+use Rattle.map_close.proofs.ClosingEntries.{entries-apart}
 use Rattle.map_close.proofs.OpenFacts.{keys-made}
 use Rattle.map_close.proofs.closing.closing_changes.Goals as goal
 

@@ -5,9 +5,9 @@ use Rattle.std.proofs.lemmas.Result.{IfOk-weaker}
 use Rattle.map_defs.specs.Rows.{links_of}
 use Rattle.map_defs.specs.LinkWords.{two_links}
 use Rattle.link_laws.proofs.RowFacts.{rows_dimension}
-use Rattle.beta_edit.proofs.EdgePlan.{copies-within, corner-orbit}
-use Rattle.beta_edit.proofs.LoneCorner.{lone-corner}
-use Rattle.beta_edit.proofs.edge.are_in_one_corner.Goals as goal
+use Rattle.cell_edit.proofs.CornerWords.{copies-within, corner-orbit}
+use Rattle.cell_edit.proofs.LoneCorner.{lone-corner}
+use Rattle.cell_edit.proofs.corner.are_in_one_beta_corner.Goals as goal
 
 pub reaches-requires : goal.reaches-requires
 reaches-requires g c =

@@ -7,15 +7,14 @@ use Rattle.map_defs.specs.Insertion.{IsCarrying}
 use Rattle.link_laws.proofs.RowFacts.{rows_dimension}
 use Rattle.cell_edit.proofs.AlongLinks.{listed-orbit, listed-low}
 use Rattle.cell_edit.proofs.Premises.{live-dart}
-use Rattle.alpha_edit.proofs.OneSidedCorner.{one-sided-corner}
-use Rattle.alpha_edit.proofs.edge.are_in_one_corner.Goals as goal
+use Rattle.cell_edit.proofs.OneSidedCorner.{one-sided-corner}
+use Rattle.cell_edit.proofs.corner.are_in_one_alpha_corner.Goals as goal
 
 pub returns-then-eq : goal.returns-then-eq
 returns-then-eq g c =
     let rows = c.args.links.now.rows in
     let sound = c.see_sound.ensures.sound in
-    let some : c.args.other ≢ 0 = live-dart alpha g.row.DIM rows sound c.args.other c.requires.other in
-    let corner = one-sided-corner g.row.DIM (links_of rows) (rows_dimension g.row.DIM rows sound.wide) c.requires.laws c.args.one (c.is_on_one_side_alone.ensures c.if-is_on_one_side_alone.true) c.args.other some in
+    let corner = one-sided-corner g.row.DIM (links_of rows) (rows_dimension g.row.DIM rows sound.wide) c.requires.laws c.args.one (c.is_on_one_side_alone.ensures c.if-is_on_one_side_alone.true) c.args.other in
     (λ same. corner.0 (inl (eqb-true _ _ (sym c.eq.ensures ∙ same))), λ _. c.if-eq.true)
 
 pub returns-else-eq : goal.returns-else-eq
@@ -23,11 +22,11 @@ returns-else-eq g c =
     let rows = c.args.links.now.rows in
     let sound = c.see_sound.ensures.sound in
     let some : c.args.other ≢ 0 = live-dart alpha g.row.DIM rows sound c.args.other c.requires.other in
-    let corner = one-sided-corner g.row.DIM (links_of rows) (rows_dimension g.row.DIM rows sound.wide) c.requires.laws c.args.one (c.is_on_one_side_alone.ensures c.if-is_on_one_side_alone.true) c.args.other some in (
-      λ next. corner.0 (inr (sym c.number_at.ensures ∙ (eqb-true _ _ next ∙ c.number.ensures.same))),
+    let corner = one-sided-corner g.row.DIM (links_of rows) (rows_dimension g.row.DIM rows sound.wide) c.requires.laws c.args.one (c.is_on_one_side_alone.ensures c.if-is_on_one_side_alone.true) c.args.other in (
+      λ next. corner.0 (inr (sym c.number_at.ensures ∙ (eqb-true _ _ next ∙ c.number.ensures.same), some)),
       λ among. elim (corner.1 among) [
         | inl same ↦ absurd (false≢true (sym c.if-eq.false ∙ (c.eq.ensures ∙ eq-eqb _ _ same)))
-        | inr next ↦ eq-eqb _ _ (c.number_at.ensures ∙ (next ∙ sym c.number.ensures.same))
+        | inr next ↦ eq-eqb _ _ (c.number_at.ensures ∙ (next.0 ∙ sym c.number.ensures.same))
       ],
     )
 

@@ -1,6 +1,6 @@
 use Rattle.std.proofs.Common.{◌≤◌, arith}
 use Rattle.sewing.proofs.DistantPairs.{distant-push, distant-all}
-use Rattle.beta_edit.proofs.edge.copying_links.Goals as goal
+use Rattle.cell_edit.proofs.corner.copying_links.Goals as goal
 
 pub loop-link-preserved : goal.loop-link-preserved
 loop-link-preserved c =
