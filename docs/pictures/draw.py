@@ -240,7 +240,7 @@ ROWS = [
         ("text", ["list_text", "off_text"]),
         ("values", ["transport", "attr_pool", "hook_book", "attr_rules"]),
         ("words, lines", ["text_lines", "text_words", "map_io"]),
-        ("rows", ["cell_walk", "link_rows", "dart_arena", "map_kind"]),
+        ("rows", ["cell_walk", "link_rows", "dart_arena", "flat_lists", "map_kind"]),
     ]),
     ("laws", [
         ("texts, totals", ["off_laws", "listing_laws", "total_laws"]),

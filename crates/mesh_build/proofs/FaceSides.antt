@@ -1,8 +1,9 @@
 -- The faults of faces as a loop finds them.
 use Rattle.std.proofs.Common.{◌≡◌, ℕ, suc, ◌+◌, ◌*◌, ◌<◌, ◌≤◌, false, List, [], ◌∷◌, ◌++◌, length, get_or, drop, Option, Err, refl, sym, ap, subst, ◌∙◌, arith}
 use Rattle.std.specs.Prelude.{All}
-use Rattle.std.specs.List.{concat}
-use Rattle.std.proofs.lemmas.List.{drop_more, length-append}
+use Rattle.std.specs.List.{sum_by}
+use Rattle.std.proofs.lemmas.List.{drop_more}
+use Rattle.std.proofs.lemmas.List.Sums.{sum_by-cons}
 use Rattle.map_defs.specs.Kind.{Kind}
 use Rattle.map_defs.specs.MeshMap.{Side, MapFault, repeats, face_sides, sides_from, or_else, sides_fault, faces_fault}
 use Rattle.mesh_build.specs.declared.fault.MeshFault.{MeshFault}
@@ -23,10 +24,10 @@ pub faces-split : (faces : List (List ℕ)) (i : ℕ) (corners : List ℕ) → i
 faces-split faces i corners h is = drop_more faces i [] h ∙ ap (λ (face : List ℕ). face ∷ drop (i + 1) faces) (sym is)
 
 -- there is a side for each corner
-pub length-sides : (base : ℕ) (faces : List (List ℕ)) → length (sides_from base faces) ≡ length (concat faces)
+pub length-sides : (base : ℕ) (faces : List (List ℕ)) → length (sides_from base faces) ≡ sum_by length faces
 length-sides base [] = refl
 length-sides base (corners ∷ faces) =
-    length-sides_from base corners faces ∙ (ap (λ (n : ℕ). length corners + n) (length-sides (base + length corners) faces) ∙ sym (length-append corners (concat faces)))
+    length-sides_from base corners faces ∙ (ap (λ (n : ℕ). length corners + n) (length-sides (base + length corners) faces) ∙ sym (sum_by-cons length corners faces))
 
 -- faces of few corners have few sides
 pub few-sides : (most base : ℕ) (faces : List (List ℕ)) → All (λ (corners : List ℕ). length corners ≤ most) faces → length (sides_from base faces) ≤ most * length faces

@@ -17,9 +17,10 @@ use crate::links::links_of;
 use crate::places::places_of;
 use crate::sew::{Sewn, sew_faces};
 use cell_walk::cell_lists;
+use flat_lists::Lists;
 use link_rows::{Edit, Links, MADE_MAX};
 use map_kind::{Dart, Kind, Place};
-use off_text::{FaceList, Mesh};
+use off_text::Mesh;
 use std::alloc::Global;
 
 /// The map of a mesh: an edit that makes it from nothing, and for each 0-cell its least dart and its point, ascending.
@@ -146,8 +147,8 @@ fn dart_count(oriented: bool, sides: u64) -> u64
 }
 
 /// How many sides the faces have: one for each corner.
-fn count_sides(faces: &FaceList) -> usize
+fn count_sides(faces: &Lists<u32>) -> usize
     ensures { result ≡ length (sides_of faces.now) }
 {
-    faces.corner_count()
+    faces.item_count()
 }

@@ -38,7 +38,7 @@ pub fn sew_faces(
     let mut book = Book::with_capacity(alloc, sides)?;
     let mut marks = vec![in alloc; 0u32; mesh.points.len()]?;
     for face in 0..mesh.faces.len() as u32 {
-        let corners = mesh.faces.face(face as usize);
+        let corners = mesh.faces.list(face as usize);
         if has_repeat(&mut marks, face + 1, corners) {
             return Err(MeshFault::Repeated { face });
         }

@@ -1,5 +1,4 @@
 pub mod Cuts
-mod CutFaces
 pub mod Counted
 pub mod Corners
 pub mod Fitting

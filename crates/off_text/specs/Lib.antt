@@ -1,4 +1,3 @@
-pub mod Cutting
 pub mod Meanings
 pub mod Reading
 pub mod Views

@@ -2,7 +2,6 @@
 #![tactic(auto)]
 
 mod cursor;
-mod face_list;
 mod faces;
 mod fault;
 mod line;
@@ -15,7 +14,6 @@ mod round;
 mod rows;
 mod write;
 
-pub use face_list::FaceList;
 pub use fault::{OffFault, OffWhat};
 pub use line::OffLine;
 pub use mesh::Mesh;

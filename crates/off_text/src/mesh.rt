@@ -1,4 +1,4 @@
-use crate::FaceList;
+use flat_lists::Lists;
 use map_kind::Value;
 
 /// A mesh: points, and faces along them.
@@ -6,6 +6,6 @@ use map_kind::Value;
 pub struct Mesh {
     /// The points, each by its three coordinates.
     pub points: Vec<Value>,
-    /// The faces. Their corners are places of `points`, from 0.
-    pub faces: FaceList,
+    /// The faces, each a list of its corners in the order in which it goes round: places of `points`, from 0.
+    pub faces: Lists<u32>,
 }

@@ -11,7 +11,8 @@ ghost use Rattle.off_text.specs.Views.{row_view, cursor_view, counts_view, words
 use crate::cursor::{Cursor, Row};
 use crate::number::{read_below, read_coordinate, read_count};
 use crate::rows::{check_text, next, next_row};
-use crate::{FaceList, Mesh, OffFault, OffWhat};
+use crate::{Mesh, OffFault, OffWhat};
+use flat_lists::Lists;
 use map_kind::Value;
 use std::alloc::Global;
 use text_words::take_word;
@@ -202,11 +203,15 @@ fn read_point(row: Row) -> Result<Value, OffWhat>
     Ok(Value { a, b, c })
 }
 
-fn read_faces(alloc: Global, counts: Counts, cursor: Cursor) -> Result<(FaceList, Cursor), OffFault>
+fn read_faces(
+    alloc: Global,
+    counts: Counts,
+    cursor: Cursor,
+) -> Result<(Lists<u32>, Cursor), OffFault>
     ensures { Gives (λ x. (x.0, cursor_view x.1)) result
         (many (line_read (face counts.points)) counts.faces (cursor_view cursor.entry)) }
 {
-    let mut faces = FaceList::new(alloc);
+    let mut faces = Lists::new(alloc);
     let mut corners = Vec::new(alloc);
     let mut left = cursor;
     for _ in 0..counts.faces {
@@ -221,7 +226,7 @@ fn read_faces(alloc: Global, counts: Counts, cursor: Cursor) -> Result<(FaceList
 /// Reads the face of the next row, appends it, and answers what is left. The corners are read into `corners` first.
 #[tactic(auto, unfolding(map_defs::specs::Off::line_read))]
 fn push_face<'a>(
-    faces: &mut FaceList,
+    faces: &mut Lists<u32>,
     corners: &mut Vec<u32>,
     points: u32,
     cursor: Cursor<'a>,

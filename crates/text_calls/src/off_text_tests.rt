@@ -68,7 +68,7 @@ fn a_cube(rt: HostRuntime) -> Result<(), Fail> {
     ];
     assert_eq!(rt; mesh.faces.len(), faces.len());
     for (place, corners) in faces.iter().enumerate() {
-        assert_eq!(rt; mesh.faces.face(place), corners.as_slice());
+        assert_eq!(rt; mesh.faces.list(place), corners.as_slice());
     }
     Ok(())
 }
@@ -170,7 +170,7 @@ fn coordinates(rt: HostRuntime) -> Result<(), Fail> {
     let points = [at(2, 2, 0), at(7, -2, i64::MAX), at(i64::MIN, 0, 0)];
     assert_eq!(rt; mesh.points.as_slice(), points.as_slice());
     assert_eq!(rt; mesh.faces.len(), 1);
-    assert_eq!(rt; mesh.faces.face(0), [2, 0, 1].as_slice());
+    assert_eq!(rt; mesh.faces.list(0), [2, 0, 1].as_slice());
     Ok(())
 }
 

@@ -28,44 +28,44 @@ loop-face-init c =
 pub has_repeat-requires-clause-points : goal.has_repeat-requires-clause-points
 has_repeat-requires-clause-points c =
     let within : c.loop-face.face < length c.args.mesh.now.faces = omega (arith, c.loop-face-test.true, c.len-face-end.ensures) in
-    rw (c.face-corners.ensures, c.loop-face.invariant.long) (c.requires.faces.points c.loop-face.face [] within)
+    rw (c.list-corners.ensures, c.loop-face.invariant.long) (c.requires.faces.points c.loop-face.face [] within)
 
 pub returns-then-has_repeat-clause-fault : goal.returns-then-has_repeat-clause-fault
 returns-then-has_repeat-clause-fault c =
-    let split = faces-split c.args.mesh.now.faces c.loop-face.face c.face-corners.result.now (omega (arith, c.loop-face-test.true, c.len-face-end.ensures)) c.face-corners.ensures in
-    let twice : repeats [] c.face-corners.result.now ≡ true = sym c.has_repeat.ensures.result ∙ c.if-has_repeat.true in
-    faces_fault-repeated (kind_of c.args.oriented) c.loop-face.face (sides_view c.loop-face.book.sides) c.face-corners.result.now _ _ _ split twice c.loop-face.invariant.fault
+    let split = faces-split c.args.mesh.now.faces c.loop-face.face c.list-corners.result.now (omega (arith, c.loop-face-test.true, c.len-face-end.ensures)) c.list-corners.ensures in
+    let twice : repeats [] c.list-corners.result.now ≡ true = sym c.has_repeat.ensures.result ∙ c.if-has_repeat.true in
+    faces_fault-repeated (kind_of c.args.oriented) c.loop-face.face (sides_view c.loop-face.book.sides) c.list-corners.result.now _ _ _ split twice c.loop-face.invariant.fault
 
 pub add_face-requires-clause-few : goal.add_face-requires-clause-few
 add_face-requires-clause-few c =
     let n : ℕ = length c.loop-face.book.sides.items in
     let rest : List (List ℕ) = drop (c.loop-face.face + 1) c.args.mesh.now.faces in
-    let split = faces-split c.args.mesh.now.faces c.loop-face.face c.face-corners.result.now (omega (arith, c.loop-face-test.true, c.len-face-end.ensures)) c.face-corners.ensures in
+    let split = faces-split c.args.mesh.now.faces c.loop-face.face c.list-corners.result.now (omega (arith, c.loop-face-test.true, c.len-face-end.ensures)) c.list-corners.ensures in
     let whole = ap (λ (fs : List (List ℕ)). sides_view c.loop-face.book.sides ++ sides_from n fs) (sym split) ∙ c.loop-face.invariant.sides in
     omega (
       arith,
       c.requires.few,
       ap length whole,
-      length-append (sides_view c.loop-face.book.sides) (sides_from n (c.face-corners.result.now ∷ rest)),
+      length-append (sides_view c.loop-face.book.sides) (sides_from n (c.list-corners.result.now ∷ rest)),
       length-map c.loop-face.book.sides.items side_view,
-      length-sides_from n c.face-corners.result.now rest,
+      length-sides_from n c.list-corners.result.now rest,
     )
 
 pub returns-in-Err-clause-fault : goal.returns-in-Err-clause-fault
 returns-in-Err-clause-fault c =
     let n : ℕ = length c.loop-face.book.sides.items in
     let earlier : List Side = sides_view c.loop-face.book.sides in
-    let split = faces-split c.args.mesh.now.faces c.loop-face.face c.face-corners.result.now (omega (arith, c.loop-face-test.true, c.len-face-end.ensures)) c.face-corners.ensures in
-    let once : repeats [] c.face-corners.result.now ≡ false = sym c.has_repeat.ensures.result ∙ c.if-has_repeat.false in
+    let split = faces-split c.args.mesh.now.faces c.loop-face.face c.list-corners.result.now (omega (arith, c.loop-face-test.true, c.len-face-end.ensures)) c.list-corners.ensures in
+    let once : repeats [] c.list-corners.result.now ≡ false = sym c.has_repeat.ensures.result ∙ c.if-has_repeat.false in
     let long : n ≡ length earlier = omega (arith, length-map c.loop-face.book.sides.items side_view) in
-    faces_fault-stop Sewn c.in-Err.fault (kind_of c.args.oriented) c.loop-face.face n earlier c.face-corners.result.now _ _ _ long split once c.in-Err.ensures.fault c.loop-face.invariant.fault
+    faces_fault-stop Sewn c.in-Err.fault (kind_of c.args.oriented) c.loop-face.face n earlier c.list-corners.result.now _ _ _ long split once c.in-Err.ensures.fault c.loop-face.invariant.fault
 
 pub loop-face-preserved : goal.loop-face-preserved
 loop-face-preserved c =
     let n : ℕ = length c.loop-face.book.sides.items in
     let earlier : List Side = sides_view c.loop-face.book.sides in
-    let corners : List ℕ = c.face-corners.result.now in
-    let split = faces-split c.args.mesh.now.faces c.loop-face.face c.face-corners.result.now (omega (arith, c.loop-face-test.true, c.len-face-end.ensures)) c.face-corners.ensures in
+    let corners : List ℕ = c.list-corners.result.now in
+    let split = faces-split c.args.mesh.now.faces c.loop-face.face c.list-corners.result.now (omega (arith, c.loop-face-test.true, c.len-face-end.ensures)) c.list-corners.ensures in
     let once : repeats [] corners ≡ false = sym c.has_repeat.ensures.result ∙ c.if-has_repeat.false in
     let long : n ≡ length earlier = omega (arith, length-map c.loop-face.book.sides.items side_view) in
     let more : sides_view c.add_face.new.book.sides ≡ earlier ++ face_sides n corners = c.in-Ok.ensures.sides in

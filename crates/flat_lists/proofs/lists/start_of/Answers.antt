@@ -1,7 +1,7 @@
 use Rattle.std.proofs.Common.{◌≡◌, suc, ◌-◌, ap, ◌∙◌, arith}
-use Rattle.off_text.specs.Cutting.{start_from}
-use Rattle.off_text.proofs.CutFaces.{start-behind}
-use Rattle.off_text.proofs.face_list.start_of.Goals as goal
+use Rattle.flat_lists.specs.Cutting.{start_from}
+use Rattle.flat_lists.proofs.CutLists.{start-behind}
+use Rattle.flat_lists.proofs.lists.start_of.Goals as goal
 
 pub returns-else-place-eq0 : goal.returns-else-place-eq0
 returns-else-place-eq0 c =
