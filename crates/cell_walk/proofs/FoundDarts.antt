@@ -40,11 +40,14 @@ pub put-once : (Told New : List ℕ → Type 0) (darts new : List ℕ) (d : ℕ)
 put-once Told New darts new d (Ok done) fresh grown same told lists = listed-more Told New darts new d fresh grown told lists
 put-once Told New darts new d (Err fault) fresh grown same told lists = listed-same Told New darts new same told lists
 
+-- different darts, moved
+pub distinct-moved : (darts moved : List ℕ) → IsPermutation darts moved → IsDistinct nat_eq darts → IsDistinct nat_eq moved
+distinct-moved darts moved is apart = IsDistinct-IsPermutation nat_eq (λ x y. grind (arith, nat_tests)) darts moved is apart
+
 -- different darts, sorted
 pub ascending-distinct : (darts sorted : List ℕ) → IsDistinct nat_eq darts → IsPermutation darts sorted → IsSorted nat_cmp sorted → IsStrictlyIncreasing sorted
 ascending-distinct darts sorted apart moved ordered =
-    IsStrictlyIncreasing-from_distinct sorted (IsNonDecreasingBy-from_sort (λ x. x) sorted ordered)
-    (IsDistinct-IsPermutation nat_eq (λ x y. grind (arith, nat_tests)) darts sorted moved apart)
+    IsStrictlyIncreasing-from_distinct sorted (IsNonDecreasingBy-from_sort (λ x. x) sorted ordered) (distinct-moved darts sorted moved apart)
 
 -- the list, sorted
 pub listed-ascending : (Told : List ℕ → Type 0) (darts sorted : List ℕ) → ListsOnce Told darts → IsPermutation darts sorted → IsSorted nat_cmp sorted → IsStrictlyIncreasing sorted

@@ -1,11 +1,14 @@
 -- Lists of the darts of orbits, one after another.
-use Rattle.std.proofs.Common.{◌≡◌, ℕ, ◌+◌, ◌≤◌, ◌<◌, ◌↔◌, ◌⊎◌, List, [], ◌∷◌, ◌++◌, length, take, get_or, Contains, Vec, Global, refl, sym, ap, subst, ◌∙◌, inl, inr, arith}
+use Rattle.std.proofs.Common.{◌≡◌, ℕ, ◌+◌, ◌≤◌, ◌<◌, ◌↔◌, ◌⊎◌, List, [], ◌∷◌, ◌++◌, length, take, drop, get_or, Contains, refl, sym, ap, subst, ◌∙◌, inl, inr, arith}
 use Rattle.std.specs.List.Sorted.{IsStrictlyIncreasing}
 use Rattle.std.proofs.lemmas.Bool.{cases_lt}
-use Rattle.std.proofs.lemmas.List.{length_push, length-take, map_push, get_or_append_left, get_or_push, take_more, take_all}
+use Rattle.std.proofs.lemmas.List.{length_push, length-append, get_or_append_left, get_or_push, take_more, take_all, take-append-drop}
+use Rattle.std.proofs.lemmas.List.Elements.{Contains-append_cases, Contains-append_left, Contains-append_right}
 use Rattle.map_defs.specs.Cells.{InOrbit}
+use Rattle.flat_lists.specs.Cutting.{cut, AreEnds}
+use Rattle.flat_lists.proofs.CutLists.{cut-push}
 use Rattle.link_laws.proofs.Orbits.{orbit_trans}
-use Rattle.cell_walk.specs.CellLists.{items_of, lists_of, AreListsOf}
+use Rattle.cell_walk.specs.CellLists.{AreListsOf}
 use Rattle.cell_walk.specs.Surveys.{IsSurveyed}
 use Rattle.cell_walk.proofs.Walks.{orbit-alone}
 use Rattle.cell_walk.proofs.SurveyFacts.{IsWalkable, orbit-turns}
@@ -37,47 +40,73 @@ module _ (Belongs : ℕ → ℕ → Type 0) where
       rising n (inl low) within = rw (old n low) (are.ascending n low)
       rising n (inr high) within = rw (last n high within) up
 
-  -- the same, of lists in memory
-  pub lists-push : (darts : List ℕ) (d : ℕ) (lists next : List (Vec ℕ Global)) (list : Vec ℕ Global) → next ≡ lists ++ list ∷ [] → ((y : ℕ) → Contains list.items y ↔ Belongs d y)
-      → IsStrictlyIncreasing list.items → AreListsOf Belongs darts (lists_of lists) → AreListsOf Belongs (darts ++ d ∷ []) (lists_of next)
-  lists-push darts d lists next list is members up are =
-      rw (is, map_push items_of lists list) (lists-more darts d (lists_of lists) list.items members up are)
-
   -- the same, of darts one after another
-  pub lists-on : (darts : List ℕ) (i d : ℕ) (lists next : List (Vec ℕ Global)) (list : Vec ℕ Global) → i < length darts → d ≡ get_or darts i d → next ≡ lists ++ list ∷ []
-      → ((y : ℕ) → Contains list.items y ↔ Belongs d y) → IsStrictlyIncreasing list.items → AreListsOf Belongs (take i darts) (lists_of lists) → AreListsOf Belongs (take (i + 1) darts) (lists_of next)
+  pub lists-on : (darts : List ℕ) (i d : ℕ) (lists next : List (List ℕ)) (list : List ℕ) → i < length darts → d ≡ get_or darts i d → next ≡ lists ++ list ∷ []
+      → ((y : ℕ) → Contains list y ↔ Belongs d y) → IsStrictlyIncreasing list → AreListsOf Belongs (take i darts) lists → AreListsOf Belongs (take (i + 1) darts) next
   lists-on darts i d lists next list low at is members up are =
-      rw (take_more darts i d low) (rw (sym at) (lists-push (take i darts) d lists next list is members up are))
+      rw (take_more darts i d low) (rw (sym at, is) (lists-more (take i darts) d lists list members up are))
+
+  -- the same, of lists that are cut out of the list of all darts
+  pub lists-cut : (darts : List ℕ) (d : ℕ) (found new list ends : List ℕ) (last : ℕ) → new ≡ found ++ list → last ≡ length new → AreEnds 0 ends (length found)
+      → ((y : ℕ) → Contains list y ↔ Belongs d y) → IsStrictlyIncreasing list → AreListsOf Belongs darts (cut 0 found ends)
+      → AreListsOf Belongs (darts ++ d ∷ []) (cut 0 new (ends ++ last ∷ []))
+  lists-cut darts d found new list ends last is long are_ends members up are =
+      rw (is, cut-push 0 found list ends (length found) last (omega arith) (omega (arith, long, ap length is, length-append found list)) are_ends)
+      (lists-more darts d (cut 0 found ends) list members up are)
+
+-- an orbit was found, and stands behind what was found before
+pub record IsOrbitBehind (Step : ℕ → ℕ → Type 0) (d : ℕ) (found new list : List ℕ) : Type 0 where
+  pub behind : new ≡ found ++ list
+  pub orbit : (y : ℕ) → Contains list y ↔ InOrbit Step d y
+
+pub orbit-grown : (Step : ℕ → ℕ → Type 0) (d : ℕ) (found new list : List ℕ) → IsOrbitBehind Step d found new list → (y : ℕ) → Contains new y ↔ (Contains found y ⊎ InOrbit Step d y)
+orbit-grown Step d found new list is y = (to, from)
+  where
+    to : Contains new y → Contains found y ⊎ InOrbit Step d y
+    to has = elim (Contains-append_cases found list y (subst (λ (xs : List ℕ). Contains xs y) is.behind has)) [
+      | inl old ↦ inl old
+      | inr more ↦ inr ((is.orbit y).0 more)
+    ]
+
+    from : Contains found y ⊎ InOrbit Step d y → Contains new y
+    from (inl old) = subst (λ (xs : List ℕ). Contains xs y) (sym is.behind) (Contains-append_left found list y old)
+    from (inr more) = subst (λ (xs : List ℕ). Contains xs y) (sym is.behind) (Contains-append_right found list y ((is.orbit y).1 more))
+
+-- what was found before stands before the rest
+pub found-before : (place : ℕ) (found walked new : List ℕ) → place ≡ length found → take (length found) walked ≡ found → take place new ≡ take place walked → new ≡ found ++ drop place new
+found-before place found walked new known before kept =
+    sym (take-append-drop place new) ∙ ap (λ (xs : List ℕ). xs ++ drop place new) (kept ∙ (ap (λ (n : ℕ). take n walked) known ∙ before))
 
 module _ (Step : ℕ → ℕ → Type 0) (Live : ℕ → Type 0) (walkable : IsWalkable Step Live) where
-  -- what a walk from a new dart finds is its orbit
-  pub found-since : (d place : ℕ) (found new list least : List ℕ) → Live d → (Contains found d → ⊥) → IsSurveyed Step Live d found least → place ≡ length found → take (length found) new ≡ found
-      → ((y : ℕ) → Contains new y ↔ (Contains found y ⊎ InOrbit Step d y)) → ((y : ℕ) → Contains list y ↔ (Contains new y × (Contains (take place new) y → ⊥)))
-      → (y : ℕ) → Contains list y ↔ InOrbit Step d y
-  found-since d place found new list least live unknown survey known before grown members y = (to, from)
+  -- what a walk from a new dart finds, sorted, is its orbit
+  pub found-since : (d place : ℕ) (found walked new least : List ℕ) → Live d → (Contains found d → ⊥) → IsSurveyed Step Live d found least → place ≡ length found → take (length found) walked ≡ found
+      → ((y : ℕ) → Contains walked y ↔ (Contains found y ⊎ InOrbit Step d y)) → take place new ≡ take place walked
+      → ((y : ℕ) → Contains (drop place new) y ↔ (Contains walked y × (Contains (take place walked) y → ⊥))) → IsOrbitBehind Step d found new (drop place new)
+  found-since d place found walked new least live unknown survey known before grown kept members =
+      record { behind = found-before place found walked new known before kept; orbit = λ y. (to y, from y) }
     where
-      same : take place new ≡ found
-      same = ap (λ (n : ℕ). take n new) known ∙ before
+      same : take place walked ≡ found
+      same = ap (λ (n : ℕ). take n walked) known ∙ before
 
-      to : Contains list y → InOrbit Step d y
-      to has = elim ((grown y).0 ((members y).0 has).0) [
+      to : (y : ℕ) → Contains (drop place new) y → InOrbit Step d y
+      to y has = elim ((grown y).0 ((members y).0 has).0) [
         | inl old ↦ absurd (((members y).0 has).1 (subst (λ (xs : List ℕ). Contains xs y) (sym same) old))
         | inr orbit ↦ orbit
       ]
 
-      from : InOrbit Step d y → Contains list y
-      from orbit = (members y).1 (
+      from : (y : ℕ) → InOrbit Step d y → Contains (drop place new) y
+      from y orbit = (members y).1 (
         (grown y).1 (inr orbit),
         λ old. (let e = survey.met y (subst (λ (xs : List ℕ). Contains xs y) same old) in
             unknown (survey.all e.0 d e.1 e.2 (orbit_trans Step e.0 y d e.3 (orbit-turns Step Live walkable d y live orbit)))),
       )
 
 -- what a walk from nothing finds is the orbit
-pub orbit-since : (Step : ℕ → ℕ → Type 0) (d : ℕ) (found new list : List ℕ) → found ≡ [] → ((y : ℕ) → Contains new y ↔ (Contains found y ⊎ InOrbit Step d y))
-    → ((y : ℕ) → Contains list y ↔ (Contains new y × (Contains (take 0 new) y → ⊥))) → (y : ℕ) → Contains list y ↔ InOrbit Step d y
-orbit-since Step d found new list empty grown members y = (
-  λ has. orbit-alone Step d y (subst (λ (xs : List ℕ). Contains xs y ⊎ InOrbit Step d y) empty ((grown y).0 ((members y).0 has).0)),
-  λ orbit. (members y).1 ((grown y).1 (inr orbit), λ none. absurd (omega (arith, none.1, length-take 0 new))),
+pub orbit-found : (Step : ℕ → ℕ → Type 0) (d : ℕ) (found new list : List ℕ) → found ≡ [] → ((y : ℕ) → Contains new y ↔ (Contains found y ⊎ InOrbit Step d y))
+    → ((y : ℕ) → Contains list y ↔ Contains new y) → (y : ℕ) → Contains list y ↔ InOrbit Step d y
+orbit-found Step d found new list empty grown members y = (
+  λ has. orbit-alone Step d y (subst (λ (xs : List ℕ). Contains xs y ⊎ InOrbit Step d y) empty ((grown y).0 ((members y).0 has))),
+  λ orbit. (members y).1 ((grown y).1 (inr orbit)),
 )
 
 -- the lists of all darts

@@ -1,12 +1,13 @@
 -- The darts of a walk that were found since some moment.
-use Rattle.std.proofs.Common.{◌≡◌, ℕ, ◌+◌, ◌-◌, ◌<◌, ◌↔◌, List, length, take, drop, get_or, nat_eq, Contains, refl, sym, ◌∙◌, inl, inr, arith, IsPermutation, nat_cmp}
+use Rattle.std.proofs.Common.{◌≡◌, ℕ, ◌+◌, ◌-◌, ◌<◌, ◌↔◌, List, ◌++◌, length, take, drop, get_or, nat_eq, Contains, refl, sym, ap, subst, ◌∙◌, inl, inr, arith, IsPermutation, nat_cmp}
 use Rattle.std.proofs.lemmas.Bool.{cases_lt, false≢true, eq-eqb}
-use Rattle.std.proofs.lemmas.List.{get_or-drop, get_or-take, length-take, length-drop}
+use Rattle.std.proofs.lemmas.List.{get_or-drop, get_or-take, length-take, length-drop, take-append-drop}
+use Rattle.std.proofs.lemmas.List.Sorted.{IsPermutation-append_right}
 use Rattle.std.proofs.lemmas.Map.Keys.{apart_from_distinct, IsDistinct-from_apart}
 use Rattle.std.specs.List.{IsDistinct}
 use Rattle.std.specs.List.Sorted.{IsSorted, IsStrictlyIncreasing}
 use Rattle.cell_walk.specs.Visits.{ListsOnce}
-use Rattle.cell_walk.proofs.FoundDarts.{ascending-distinct, sorted-same}
+use Rattle.cell_walk.proofs.FoundDarts.{ascending-distinct, distinct-moved, sorted-same}
 
 -- a dart stands at one place
 one-place : (darts : List ℕ) (d i j : ℕ) → IsDistinct nat_eq darts → i < j → j < length darts → get_or darts i d ≡ d → get_or darts j d ≡ d → ⊥
@@ -46,3 +47,18 @@ since-ascending Told darts sorted place lists moved ordered =
     rw (get_or-drop place darts i d, get_or-drop place darts j d)
     (apart_from_distinct nat_eq darts (place + i) (place + j) d lists.apart (omega arith) (omega (arith, low, length-drop place darts)))))
     moved ordered
+
+-- the list has the same darts when those since some moment are moved
+pub since-once : (Marked : ℕ → Type 0) (old new : List ℕ) (place : ℕ) → take place new ≡ take place old → IsPermutation (drop place old) (drop place new)
+    → ListsOnce (λ found. (d : ℕ) → Marked d ↔ Contains found d) old → ListsOnce (λ found. (d : ℕ) → Marked d ↔ Contains found d) new
+since-once Marked old new place before moved lists =
+    record {
+      apart = distinct-moved old new all lists.apart;
+      told = λ d. (λ marked. (sorted-same old new all d).1 ((lists.told d).0 marked), λ has. (lists.told d).1 ((sorted-same old new all d).0 has));
+    }
+  where
+    all : IsPermutation old new
+    all =
+        subst (λ (xs : List ℕ). IsPermutation xs new) (take-append-drop place old)
+        (subst (IsPermutation (take place old ++ drop place old)) (ap (λ (xs : List ℕ). xs ++ drop place new) (sym before) ∙ take-append-drop place new)
+        (IsPermutation-append_right (take place old) (drop place old) (drop place new) moved))

@@ -1,17 +1,9 @@
 -- Lists of the darts of cells.
-use Rattle.std.specs.Prelude.{ℕ, ◌≡◌, ◌<◌, ◌↔◌, List, [], length, map, Vec, slice_index, slice_index_or, Contains}
-use Rattle.std.specs.declared.alloc.Global.{Global}
+use Rattle.std.specs.Prelude.{ℕ, ◌≡◌, ◌<◌, ◌↔◌, List, [], length, slice_index, slice_index_or, Contains}
 use Rattle.std.specs.List.Sorted.{IsStrictlyIncreasing}
 use Rattle.map_defs.specs.Kind.{Kind}
 use Rattle.map_defs.specs.Links.{Links}
 use Rattle.map_defs.specs.Cells.{InOrbit, InCell}
-
--- lists of lists, without where they lie in memory
-abbrev pub items_of : Vec ℕ Global → List ℕ
-items_of v = v.items
-
-abbrev pub lists_of : List (Vec ℕ Global) → List (List ℕ)
-lists_of lists = map items_of lists
 
 -- For each of these darts, in the same order, a list of the darts that belong to it, ascending.
 pub record AreListsOf (Belongs : ℕ → ℕ → Type 0) (darts : List ℕ) (lists : List (List ℕ)) : Type 0 where

@@ -1,7 +1,8 @@
-ghost use Rattle.std.specs.Prelude.{◌≡◌, ◌≢◌, ℕ, ◌≤◌, ◌<◌, ◌^◌, ◌↔◌, [], ◌∷◌, ◌++◌, length, take, slice_index, Contains, IsTrue, IfOk, IfSome, IfNone, OnOk};
-ghost use Rattle.std.specs.List.Sorted.{IsStrictlyIncreasing};
+ghost use Rattle.std.specs.Prelude.{◌≡◌, ◌≢◌, ℕ, ◌≤◌, ◌<◌, ◌^◌, ◌↔◌, [], ◌∷◌, ◌++◌, length, take, drop, slice_index, Contains, IsTrue, IfOk, IfSome, IfNone, OnOk};
+ghost use Rattle.std.specs.Ordering.{nat_cmp};
+ghost use Rattle.std.specs.List.Sorted.{IsPermutation, IsSorted, IsStrictlyIncreasing};
 
-use crate::seen::Seen;
+use crate::seen::{Marks, Seen};
 use map_kind::Dart;
 use std::alloc::{AllocError, Global};
 use std::marker::Model;
@@ -90,20 +91,14 @@ impl<S: Seen> Found<S> {
         self.seen.put(&mut self.darts, dart)
     }
 
-    /// The darts that were found since so many others were, ascending.
-    pub(crate) fn ascending_since(
-        &self,
-        alloc: Global,
-        place: usize,
-    ) -> Result<Vec<Dart>, AllocError>
-        requires { place ≤ length self.now }
-        ensures members { IfOk result (λ darts. (d : ℕ)
-            → Contains darts.items d ↔ (Contains self.now d × (Contains (take place self.now) d → ⊥))) }
+    /// The darts that were found, ascending, in memory of their own.
+    pub(crate) fn ascending(&self, alloc: Global) -> Result<Vec<Dart>, AllocError>
+        ensures members { IfOk result (λ darts. (d : ℕ) → Contains darts.items d ↔ Contains self.now d) }
         ensures ascending { IfOk result (λ darts. IsStrictlyIncreasing darts.items) }
     {
-        let mut since = Vec::from_slice(alloc, &self.darts[place..])?;
-        since.sort_unstable();
-        Ok(since)
+        let mut sorted = Vec::from_slice(alloc, &self.darts)?;
+        sorted.sort_unstable();
+        Ok(sorted)
     }
 
     /// The darts that were found, ascending.
@@ -116,4 +111,36 @@ impl<S: Seen> Found<S> {
         darts.sort_unstable();
         darts
     }
+}
+
+impl Found<Marks> {
+    /// Brings the darts that were found since so many others were into ascending order.
+    pub(crate) fn sort_since(&mut self, place: usize)
+        requires { place ≤ length self.old }
+        ensures before { take place self.new ≡ take place self.old }
+        ensures members { (d : ℕ)
+            → Contains (drop place self.new) d ↔ (Contains self.old d × (Contains (take place self.old) d → ⊥)) }
+        ensures ascending { IsStrictlyIncreasing (drop place self.new) }
+    {
+        sort_behind(&mut self.darts, place);
+    }
+
+    /// The darts that were found, in their order.
+    pub(crate) fn into_darts(self) -> Vec<Dart>
+        ensures { result.items ≡ self }
+    {
+        let Found { darts, seen } = self;
+        drop(seen);
+        darts
+    }
+}
+
+/// Sorts the darts from a place on.
+fn sort_behind(darts: &mut Vec<Dart>, place: usize)
+    requires { place ≤ length darts.old.items }
+    ensures before { take place darts.new.items ≡ take place darts.old.items }
+    ensures same { IsPermutation (drop place darts.old.items) (drop place darts.new.items) }
+    ensures sorted { IsSorted nat_cmp (drop place darts.new.items) }
+{
+    darts[place..].sort_unstable();
 }

@@ -2,10 +2,11 @@ ghost use Rattle.std.specs.Prelude.{◌≡◌, ℕ, ◌≤◌, ◌↔◌, Contai
 ghost use Rattle.std.specs.List.Sorted.{IsStrictlyIncreasing};
 ghost use Rattle.map_defs.specs.Rows.{links_of};
 ghost use Rattle.map_defs.specs.Cells.{InCell, NamesCell};
-ghost use Rattle.cell_walk.specs.CellLists.{AreCellsOf, lists_of};
+ghost use Rattle.cell_walk.specs.CellLists.{AreCellsOf};
 
 use crate::around::CellWalk;
 use crate::orbits::each_orbit;
+use flat_lists::Lists;
 use link_rows::Links;
 use map_kind::{Dart, Kind};
 use std::alloc::{AllocError, Global};
@@ -31,9 +32,9 @@ pub fn cells_of<K: Kind, const DIM: usize>(
     links: &Links<K, DIM>,
     dim: usize,
     darts: &[Dart],
-) -> Result<Vec<Vec<Dart>>, AllocError>
+) -> Result<Lists<Dart>, AllocError>
     requires { dim ≤ DIM }
-    ensures { IfOk result (λ cells. AreCellsOf K.kind (links_of links.now.rows) dim darts.now (lists_of cells.items)) }
+    ensures { IfOk result (λ cells. AreCellsOf K.kind (links_of links.now.rows) dim darts.now cells) }
 {
     let cell_words = K::words(alloc, links.dimension(), dim)?;
     each_orbit(alloc, links, &cell_words, darts)

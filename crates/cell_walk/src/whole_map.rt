@@ -1,4 +1,5 @@
 ghost use Rattle.std.specs.Prelude.{◌≡◌, ℕ, ◌+◌, ◌<◌, ◌≤◌, ◌↔◌, length, All, Contains, IfOk, OnOk, map};
+ghost use Rattle.flat_lists.specs.Cutting.{cut, AreEnds};
 ghost use Rattle.std.specs.List.{range_with_len};
 ghost use Rattle.std.specs.List.Sorted.{IsStrictlyIncreasing};
 ghost use Rattle.map_defs.specs.Rows.{IsLive, IsSound, links_of};
@@ -8,7 +9,7 @@ ghost use Rattle.map_defs.specs.Counts.{AreCounts};
 ghost use Rattle.cell_walk.specs.Surveys.{TurnsBack, IsLeast, IsSurveyed, AreSurveyed};
 ghost use Rattle.cell_walk.specs.Marks.{IsMarked, IsMarkedMore, IsOrbitFound};
 ghost use Rattle.cell_walk.specs.Sweeps.{IsSweep};
-ghost use Rattle.cell_walk.specs.CellLists.{AreCellsOf, AreOrbitsOf, lists_of};
+ghost use Rattle.cell_walk.specs.CellLists.{AreCellsOf, AreOrbitsOf};
 ghost use Rattle.cell_walk.specs.Ways.{IsCourse};
 
 use crate::found::Found;
@@ -19,6 +20,7 @@ use crate::seen::Marks;
 use crate::spread::mark_spread;
 use crate::sweep::{Sweep, sweep_along};
 use crate::ways::{Course, course_along};
+use flat_lists::Lists;
 use link_rows::Links;
 use map_kind::{Dart, Kind, LinkWord};
 use std::alloc::{AllocError, Global};
@@ -49,7 +51,7 @@ pub struct CellLists {
     /// The least dart of each cell.
     pub least: Vec<Dart>,
     /// The darts of each cell, ascending, in the order of the cells.
-    pub darts: Vec<Vec<Dart>>,
+    pub darts: Lists<Dart>,
 }
 
 /// All cells of dimension `dim`, each with its darts. It is linear in the darts that were made, and sorts the darts of each
@@ -63,7 +65,7 @@ pub fn cell_lists<K: Kind, const DIM: usize>(
     ensures members { IfOk result (λ cells. (d : ℕ)
         → Contains cells.least.items d ↔ (IsLive links.now.rows d × NamesCell K.kind (links_of links.now.rows) dim d)) }
     ensures ascending { IfOk result (λ cells. IsStrictlyIncreasing cells.least.items) }
-    ensures darts { IfOk result (λ cells. AreCellsOf K.kind (links_of links.now.rows) dim cells.least.items (lists_of cells.darts.items)) }
+    ensures darts { IfOk result (λ cells. AreCellsOf K.kind (links_of links.now.rows) dim cells.least.items cells.darts) }
 {
     let words = K::words(alloc, links.dimension(), dim)?;
     orbit_lists(alloc, links, &words)
@@ -252,50 +254,54 @@ fn orbit_lists<K: Kind, const DIM: usize>(
     ensures members { IfOk result (λ orbits. (d : ℕ)
         → Contains orbits.least.items d ↔ (IsLive links.now.rows d × IsLeast (Leads (links_of links.now.rows) (Contains words.now)) d)) }
     ensures ascending { IfOk result (λ orbits. IsStrictlyIncreasing orbits.least.items) }
-    ensures darts { IfOk result (λ orbits. AreOrbitsOf (Leads (links_of links.now.rows) (Contains words.now)) orbits.least.items (lists_of orbits.darts.items)) }
+    ensures darts { IfOk result (λ orbits. AreOrbitsOf (Leads (links_of links.now.rows) (Contains words.now)) orbits.least.items orbits.darts) }
 {
     let mut found = Found::<Marks>::new(alloc);
     let made = links.made();
     found.restart(made)?;
     let course = course_along::<K>(words);
-    let mut orbits = CellLists {
-        least: Vec::new(alloc),
-        darts: Vec::new(alloc),
-    };
+    let mut least = Vec::new(alloc);
+    let mut ends = Vec::new(alloc);
     for number in 1..made + 1 {
         take_orbit(
-            alloc,
             links,
             words,
             &course,
             Dart::new(number).unwrap(),
             &mut found,
-            &mut orbits,
+            &mut least,
+            &mut ends,
         )?;
     }
-    Ok(orbits)
+    Ok(CellLists {
+        least,
+        darts: Lists::from_parts(found.into_darts(), ends),
+    })
 }
 
-/// Lists a live dart as the least of its orbit, and its orbit, unless the orbit of a lesser dart has it.
+/// Lists a live dart as the least of its orbit, finds its orbit, ascending, and lists where that ends among all that was
+/// found, unless the orbit of a lesser dart has the dart.
 fn take_orbit<K: Kind, const DIM: usize>(
-    alloc: Global,
     links: &Links<K, DIM>,
     words: &[LinkWord],
     course: &Course,
     dart: Dart,
     found: &mut Found<Marks>,
-    orbits: &mut CellLists,
+    least: &mut Vec<Dart>,
+    ends: &mut Vec<usize>,
 ) -> Result<(), AllocError>
     requires sound { IsSound K.kind DIM links.now.rows }
     requires within { All (IsWithin DIM) words.now }
     requires course { IsCourse K.kind words.now course.now }
     requires turns { TurnsBack (Leads (links_of links.now.rows) (Contains words.now)) }
     requires before { IsSurveyed (Leads (links_of links.now.rows) (Contains words.now)) (IsLive links.now.rows)
-        dart found.old orbits.old.least.items }
-    requires lists { AreOrbitsOf (Leads (links_of links.now.rows) (Contains words.now)) orbits.old.least.items (lists_of orbits.old.darts.items) }
+        dart found.old least.old.items }
+    requires ends { AreEnds 0 ends.old.items (length found.old) }
+    requires lists { AreOrbitsOf (Leads (links_of links.now.rows) (Contains words.now)) least.old.items (cut 0 found.old ends.old.items) }
     ensures surveyed { OnOk result (IsSurveyed (Leads (links_of links.now.rows) (Contains words.now)) (IsLive links.now.rows)
-        (dart + 1) found.new orbits.new.least.items) }
-    ensures lists { OnOk result (AreOrbitsOf (Leads (links_of links.now.rows) (Contains words.now)) orbits.new.least.items (lists_of orbits.new.darts.items)) }
+        (dart + 1) found.new least.new.items) }
+    ensures ends { OnOk result (AreEnds 0 ends.new.items (length found.new)) }
+    ensures lists { OnOk result (AreOrbitsOf (Leads (links_of links.now.rows) (Contains words.now)) least.new.items (cut 0 found.new ends.new.items)) }
 {
     if found.contains(dart) {
         return Ok(());
@@ -305,7 +311,8 @@ fn take_orbit<K: Kind, const DIM: usize>(
     }
     let known = found.len();
     walk(links, words, course, dart, found)?;
-    orbits.least.push(dart)?;
-    orbits.darts.push(found.ascending_since(alloc, known)?)?;
+    found.sort_since(known);
+    least.push(dart)?;
+    ends.push(found.len())?;
     Ok(())
 }

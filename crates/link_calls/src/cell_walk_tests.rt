@@ -5,6 +5,7 @@ use cell_walk::{
     CellWalk, cell, cell_lists, cells, cells_of, components, counts, least, orbit, orbits_of,
     reaches, same,
 };
+use flat_lists::Lists;
 use link_rows::{Change, Edit, Links, polygon_edit};
 use map_kind::{Alpha, Beta, Dart, Kind, LinkWord};
 use std::alloc::{AllocError, Global};
@@ -45,10 +46,10 @@ fn check(rt: &impl Abort, darts: &[Dart], wanted: &[u32]) {
 }
 
 /// Compares the numbers of the darts of lists.
-fn check_all(rt: &impl Abort, lists: &[Vec<Dart>], wanted: &[&[u32]]) {
+fn check_all(rt: &impl Abort, lists: &Lists<Dart>, wanted: &[&[u32]]) {
     assert_eq!(rt; lists.len(), wanted.len());
-    for (list, numbers) in lists.iter().zip(wanted) {
-        check(rt, list, numbers);
+    for (place, numbers) in wanted.iter().enumerate() {
+        check(rt, lists.list(place), numbers);
     }
 }
 

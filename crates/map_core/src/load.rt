@@ -7,12 +7,13 @@ ghost use Rattle.map_defs.specs.Edits.{Fits, after_edit};
 ghost use Rattle.map_defs.specs.Laws.{Laws};
 ghost use Rattle.machine_defs.specs.State.{Content, empty_state};
 ghost use Rattle.machine_defs.specs.Loading.{first_state};
-ghost use Rattle.cell_walk.specs.CellLists.{AreCellsOf, lists_of};
+ghost use Rattle.cell_walk.specs.CellLists.{AreCellsOf};
 ghost use Rattle.valued_map.specs.Made.{IsMadeOf};
 
 use crate::map::Map;
 use attr_rules::Hook;
 use cell_walk::cells_of;
+use flat_lists::Lists;
 use link_rows::{Edit, Links, MADE_MAX};
 use map_kind::{Dart, Done, Kind, Place};
 use std::alloc::{AllocError, Global};
@@ -51,14 +52,14 @@ impl<'h, K: Kind, H: Hook, const DIM: usize> Map<'h, K, H, DIM> {
         alloc: Global,
         links: Links<K, DIM>,
         places: &[Place],
-        cells: &[Vec<Dart>],
+        cells: &Lists<Dart>,
     ) -> Result<Done, AllocError>
         requires new { self.old.state ≡ empty_state K.kind DIM }
         requires laws { Laws K.kind (links_of links.rows) }
         requires members { (d : ℕ) → Contains (map (λ place. place.dart) places.now) d
             ↔ (IsLive links.rows d × NamesCell K.kind (links_of links.rows) 0 d) }
         requires ascending { IsStrictlyIncreasing (map (λ place. place.dart) places.now) }
-        requires cells { AreCellsOf K.kind (links_of links.rows) 0 (map (λ place. place.dart) places.now) (lists_of cells.now) }
+        requires cells { AreCellsOf K.kind (links_of links.rows) 0 (map (λ place. place.dart) places.now) cells.now }
         ensures hook { self.new.hook ≡ self.old.hook }
         ensures first { IfOk result (λ done. done.first ≡ min (made links.rows) 1) }
         ensures count { IfOk result (λ done. done.count ≡ made links.rows) }

@@ -9,7 +9,7 @@ ghost use Rattle.map_defs.specs.Off.{Mesh as ReadMesh};
 ghost use Rattle.machine_defs.specs.Outside.{Rose};
 ghost use Rattle.map_defs.specs.MeshMap.{MakesMesh};
 ghost use Rattle.machine_defs.specs.Loading.{IsLoaded, text_fault_line};
-ghost use Rattle.cell_walk.specs.CellLists.{AreCellsOf, lists_of};
+ghost use Rattle.cell_walk.specs.CellLists.{AreCellsOf};
 ghost use Rattle.off_text.specs.Meanings.{meaning};
 ghost use Rattle.map_run.specs.Loads.{Refuses, IsRead, WritesFault, text_line, map_line, fault_line};
 
@@ -70,7 +70,7 @@ fn build_mesh<K: Kind, const DIM: usize>(
     ensures built { IfOk result (λ built. (mesh : ReadMesh) × IsRead K.kind bytes.now mesh
         × (edit : edits.Edit) × MakesMesh K.kind DIM mesh edit built.places.items
         × (built.links.rows ≡ after_edit DIM edit (None ∷ []))) }
-    ensures cells { IfOk result (λ built. AreCellsOf K.kind (links_of built.links.rows) 0 (map (λ place. place.dart) built.places.items) (lists_of built.cells.items)) }
+    ensures cells { IfOk result (λ built. AreCellsOf K.kind (links_of built.links.rows) 0 (map (λ place. place.dart) built.places.items) built.cells) }
     ensures refused { IfErr result (λ fault. Refuses K.kind bytes.now fault) }
 {
     let mesh = match read_off(alloc, bytes) {

@@ -6,7 +6,7 @@ ghost use Rattle.map_defs.specs.Off.{HasFaces};
 ghost use Rattle.map_defs.specs.MeshMap.{sides_of, mesh_fault, MakesMesh};
 ghost use Rattle.map_defs.specs.Polygon.{per_side};
 ghost use Rattle.off_text.specs.Meanings.{mesh_view};
-ghost use Rattle.cell_walk.specs.CellLists.{AreCellsOf, lists_of};
+ghost use Rattle.cell_walk.specs.CellLists.{AreCellsOf};
 ghost use Rattle.mesh_build.specs.Sides.{sides_view, Fails};
 ghost use Rattle.mesh_laws.specs.Sides.{kind_of, IsSewn};
 ghost use Rattle.mesh_laws.specs.SideLinks.{mesh_edit};
@@ -60,7 +60,7 @@ pub fn mesh_rows<K: Kind, const DIM: usize>(alloc: Global, mesh: &Mesh) -> Resul
 pub struct MeshMap<K: Kind, const DIM: usize> {
     pub links: Links<K, DIM>,
     pub places: Vec<Place>,
-    pub cells: Vec<Vec<Dart>>,
+    pub cells: Lists<Dart>,
 }
 
 /// The links of the map of a mesh, as an edit of `mesh_rows` would make them from nothing, or why it has none; `NoMemory`
@@ -77,7 +77,7 @@ pub fn mesh_map<K: Kind, const DIM: usize>(
     // What is made is the map of the mesh.
     ensures made { IfOk result (λ built. (edit : edits.Edit) × MakesMesh K.kind DIM (mesh_view mesh.now) edit built.places.items
         × (built.links.rows ≡ after_edit DIM edit (None ∷ []))) }
-    ensures cells { IfOk result (λ built. AreCellsOf K.kind (links_of built.links.rows) 0 (map (λ place. place.dart) built.places.items) (lists_of built.cells.items)) }
+    ensures cells { IfOk result (λ built. AreCellsOf K.kind (links_of built.links.rows) 0 (map (λ place. place.dart) built.places.items) built.cells) }
 {
     let oriented = is_oriented::<K>();
     let sewn = sew_few(alloc, oriented, mesh)?;
@@ -102,7 +102,7 @@ fn sewn_map<K: Kind, const DIM: usize>(
         ≡ after_edit DIM (mesh_edit (kind_of oriented) (sides_view sewn.now.sides) sewn.now.partners.items) (None ∷ [])) }
     ensures makes { IfOk result (λ built. MakesMesh K.kind DIM (mesh_view mesh.now)
         (mesh_edit (kind_of oriented) (sides_view sewn.now.sides) sewn.now.partners.items) built.places.items) }
-    ensures cells { IfOk result (λ built. AreCellsOf K.kind (links_of built.links.rows) 0 (map (λ place. place.dart) built.places.items) (lists_of built.cells.items)) }
+    ensures cells { IfOk result (λ built. AreCellsOf K.kind (links_of built.links.rows) 0 (map (λ place. place.dart) built.places.items) built.cells) }
     ensures err { IfErr result (λ fault. fault ≡ MeshFault.NoMemory) }
 {
     let links = links_of::<K, DIM>(alloc, oriented, sewn)?;

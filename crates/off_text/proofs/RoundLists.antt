@@ -5,8 +5,7 @@ use Rattle.std.specs.List.{AllZip}
 use Rattle.std.proofs.lemmas.List.{map-append, take_more, get_or-map, length-map}
 use Rattle.std.proofs.lemmas.List.Elements.{All-cons, All-nil}
 use Rattle.std.proofs.lemmas.Slice.Zip.{all_zipped_more}
-use Rattle.cell_walk.specs.CellLists.{items_of, lists_of}
-use Rattle.off_text.specs.Meanings.{faces_view}
+use Rattle.off_text.specs.Meanings.{lists_of, items_of}
 
 -- what is so of each vector is so of each list
 pub all-lists : (P : List ℕ → Type 0) (vectors : List (Vec ℕ Global)) → All (λ vector. P vector.items) vectors → All P (lists_of vectors)
@@ -32,13 +31,13 @@ zip-more R xs i x old new v low at grown zip own =
     (all_zipped_more R (take i xs) (lists_of old) x v.items zip own))
 
 -- the list at a place
-pub list-at : (vectors : List (Vec ℕ Global)) (i : ℕ) (v : Vec ℕ Global) (d : List ℕ) → i < length vectors → v ≡ get_or vectors i v → get_or (lists_of vectors) i d ≡ v.items
+list-at : (vectors : List (Vec ℕ Global)) (i : ℕ) (v : Vec ℕ Global) (d : List ℕ) → i < length vectors → v ≡ get_or vectors i v → get_or (lists_of vectors) i d ≡ v.items
 list-at vectors i v d low at = get_or-map items_of vectors i v d low ∙ ap items_of (sym at)
 
 -- one more face, for one more list
 pub faces-more : (f : List ℕ → List ℕ) (rounds : List (Vec ℕ Global)) (i : ℕ) (round : Vec ℕ Global) (old new : List (Vec ℕ Global)) (face : Vec ℕ Global) → i < length rounds → round ≡ get_or rounds i round
-    → new ≡ old ++ face ∷ [] → face.items ≡ f round.items → faces_view old ≡ map f (take i (lists_of rounds)) → faces_view new ≡ map f (take (i + 1) (lists_of rounds))
+    → new ≡ old ++ face ∷ [] → face.items ≡ f round.items → lists_of old ≡ map f (take i (lists_of rounds)) → lists_of new ≡ map f (take (i + 1) (lists_of rounds))
 faces-more f rounds i round old new face low at grown is before =
     let front : take (i + 1) (lists_of rounds) ≡ take i (lists_of rounds) ++ round.items ∷ [] =
     take_more (lists_of rounds) i round.items (omega (arith, length-map rounds items_of)) ∙ ap (λ l. take i (lists_of rounds) ++ l ∷ []) (list-at rounds i round round.items low at) in
-    ap faces_view grown ∙ map-append items_of old (face ∷ []) ∙ ap₂ (◌++◌) before (ap (λ l. l ∷ []) is) ∙ sym (ap (map f) front ∙ map-append f (take i (lists_of rounds)) (round.items ∷ []))
+    ap lists_of grown ∙ map-append items_of old (face ∷ []) ∙ ap₂ (◌++◌) before (ap (λ l. l ∷ []) is) ∙ sym (ap (map f) front ∙ map-append f (take i (lists_of rounds)) (round.items ∷ []))

@@ -6,7 +6,7 @@ use Rattle.map_defs.specs.OffOfMap as maps
 use Rattle.map_kind.specs.declared.refusal.Refused.{Refused}
 use Rattle.map_kind.specs.declared.refusal.Refused.TheVariants.{Line, NoMemory}
 use Rattle.map_kind.specs.Refusals.{meaning}
-use Rattle.off_text.specs.Meanings.{faces_view}
+use Rattle.off_text.specs.Meanings.{lists_of}
 use Rattle.off_text.specs.declared.of_map.OffRows.{OffRows}
 
 -- the point at a dart, if one of these places is there
@@ -16,7 +16,7 @@ placed (place ∷ places) d = if place.dart == d then Some place.value else plac
 
 -- rows without where they lie in memory
 abbrev pub off_view : OffRows → maps.OffRows
-off_view off = record { points = off.points.items; faces = faces_view off.faces.items; edges = off.edges }
+off_view off = record { points = off.points.items; faces = lists_of off.faces.items; edges = off.edges }
 
 -- what is known of a refusal; want of memory is free
 abbrev pub IfLine : Refused → (Refusal → Type 0) → Type 0

@@ -22,8 +22,9 @@ meaning told.NotText = off.NotText
 abbrev pub items_of : Vec ℕ Global → List ℕ
 items_of v = v.items
 
-abbrev pub faces_view : List (Vec ℕ Global) → List (List ℕ)
-faces_view faces = map items_of faces
+-- lists of lists, without where they lie in memory
+abbrev pub lists_of : List (Vec ℕ Global) → List (List ℕ)
+lists_of lists = map items_of lists
 
 -- a mesh without where it lies in memory
 abbrev pub mesh_view : Mesh → off.Mesh

@@ -1,9 +1,9 @@
 //! Faces, by the places of 0-cells.
 ghost use Rattle.std.specs.Prelude.{ℕ, ◌≡◌, ◌+◌, ◌^◌, ◌<◌, ◌≤◌, ◌⊎◌, [], All, Contains, length, map, slice_index, slice_index_or, IfOk};
-ghost use Rattle.cell_walk.specs.CellLists.{lists_of};
-ghost use Rattle.off_text.specs.Meanings.{faces_view};
+ghost use Rattle.off_text.specs.Meanings.{lists_of};
 ghost use Rattle.off_text.specs.MapViews.{IsPlaced};
 
+use flat_lists::Lists;
 use map_kind::Dart;
 use std::alloc::{AllocError, Global};
 
@@ -11,16 +11,16 @@ use std::alloc::{AllocError, Global};
 pub(crate) fn place_cells(
     alloc: Global,
     made: u32,
-    cells: &[Vec<Dart>],
+    cells: &Lists<Dart>,
 ) -> Result<Vec<u32>, AllocError>
     requires few { length cells.now < 2 ^ 32 }
-    requires made { All (λ cell. All (λ d. d ≤ made) cell) (lists_of cells.now) }
+    requires made { All (λ cell. All (λ d. d ≤ made) cell) cells.now }
     ensures long { IfOk result (λ places. length places.items ≡ made + 1) }
-    ensures placed { IfOk result (λ places. (x p : ℕ) → IsPlaced (lists_of cells.now) x p → IsPlaced (lists_of cells.now) x (slice_index places.items x)) }
+    ensures placed { IfOk result (λ places. (x p : ℕ) → IsPlaced cells.now x p → IsPlaced cells.now x (slice_index places.items x)) }
 {
     let mut places = vec![in alloc; 0; made as usize + 1]?;
-    for (place, cell) in cells.iter().enumerate() {
-        put_place(&mut places, cell, place as u32);
+    for place in 0..cells.len() {
+        put_place(&mut places, cells.list(place), place as u32);
     }
     Ok(places)
 }
@@ -44,7 +44,7 @@ pub(crate) fn faces_of(
     places: &[u32],
 ) -> Result<Vec<Vec<u32>>, AllocError>
     requires { All (λ round. All (λ d. d < length places.now) round) (lists_of rounds.now) }
-    ensures { IfOk result (λ faces. faces_view faces.items ≡ map (map (slice_index places.now)) (lists_of rounds.now)) }
+    ensures { IfOk result (λ faces. lists_of faces.items ≡ map (map (slice_index places.now)) (lists_of rounds.now)) }
 {
     let mut faces = Vec::with_capacity(alloc, rounds.len())?;
     for round in rounds {

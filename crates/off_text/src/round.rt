@@ -4,7 +4,7 @@ ghost use Rattle.std.specs.List.{AllZip};
 ghost use Rattle.map_defs.specs.Rows.{links_of};
 ghost use Rattle.map_defs.specs.Refusal as machine;
 ghost use Rattle.map_defs.specs.OffOfMap.{ListsCells, IsRound, IsOpen, HasOpenFace, next_round, round_word};
-ghost use Rattle.cell_walk.specs.CellLists.{lists_of};
+ghost use Rattle.off_text.specs.Meanings.{lists_of};
 ghost use Rattle.off_text.specs.MapViews.{IfLine};
 
 use cell_walk::{cells, follow};

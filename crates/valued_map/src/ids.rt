@@ -5,10 +5,10 @@ ghost use Rattle.store_defs.specs.Groups.{group_at};
 ghost use Rattle.label_laws.specs.Stored.{stored_value};
 ghost use Rattle.label_laws.specs.Changing.{AreTaken, AreGiven, AreRelabelled, IsGroupedBelow, IsGroupGiven, AreGroupsGiven};
 ghost use Rattle.label_laws.specs.Touching.{CanLabel};
-ghost use Rattle.cell_walk.specs.CellLists.{lists_of};
 ghost use Rattle.valued_map.specs.Placed.{placed_group, placed_groups};
 
 use attr_pool::{Labels, Pool};
+use flat_lists::Lists;
 use map_kind::{Dart, Place, Value};
 use transport::Group;
 
@@ -58,15 +58,15 @@ pub(crate) fn give_cells<const DIM: usize>(
     labels: &mut Labels<DIM>,
     pool: &mut Pool,
     places: &[Place],
-    cells: &[Vec<Dart>],
+    cells: &Lists<Dart>,
 )
     requires long { length cells.now ≡ length places.now }
-    requires groups { (n : ℕ) → n < length places.now → CanLabel DIM labels.old (placed_group places.now (lists_of cells.now) n) }
+    requires groups { (n : ℕ) → n < length places.now → CanLabel DIM labels.old (placed_group places.now cells.now n) }
     requires room { length places.now ≤ pool.old.spare }
-    ensures { AreGroupsGiven (placed_groups places.now (lists_of cells.now)) (length places.now) labels.old labels.new pool.old pool.new }
+    ensures { AreGroupsGiven (placed_groups places.now cells.now) (length places.now) labels.old labels.new pool.old pool.new }
 {
     for (index, place) in places.iter().enumerate() {
-        give_id(labels, pool, 0, &cells[index], place.value);
+        give_id(labels, pool, 0, cells.list(index), place.value);
     }
 }
 

@@ -5,7 +5,7 @@ ghost use Rattle.map_defs.specs.Rows.{IsLive, links_of};
 ghost use Rattle.map_defs.specs.Cells.{NamesCell};
 ghost use Rattle.map_defs.specs.Laws.{Laws};
 ghost use Rattle.machine_defs.specs.State.{empty_content};
-ghost use Rattle.cell_walk.specs.CellLists.{AreCellsOf, lists_of};
+ghost use Rattle.cell_walk.specs.CellLists.{AreCellsOf};
 ghost use Rattle.store_defs.specs.Labelings.{HasPlaces, KeepsIds};
 ghost use Rattle.valued_map.specs.Made.{IsMadeOf};
 
@@ -15,6 +15,7 @@ use crate::map::ValuedMap;
 use crate::rules::{make_places, put_rule};
 use attr_pool::{Labels, Pool};
 use attr_rules::{Merge, Split, TableRule};
+use flat_lists::Lists;
 use link_rows::Links;
 use map_kind::{Dart, Kind, Place};
 use std::alloc::{AllocError, Global};
@@ -29,14 +30,14 @@ impl<K: Kind, const DIM: usize> ValuedMap<K, DIM> {
         alloc: Global,
         links: Links<K, DIM>,
         places: &[Place],
-        cells: &[Vec<Dart>],
+        cells: &Lists<Dart>,
     ) -> Result<(), AllocError>
         requires new { self.old.content ≡ empty_content K.kind DIM }
         requires laws { Laws K.kind (links_of links.rows) }
         requires members { (d : ℕ) → Contains (map (λ place. place.dart) places.now) d
             ↔ (IsLive links.rows d × NamesCell K.kind (links_of links.rows) 0 d) }
         requires ascending { IsStrictlyIncreasing (map (λ place. place.dart) places.now) }
-        requires cells { AreCellsOf K.kind (links_of links.rows) 0 (map (λ place. place.dart) places.now) (lists_of cells.now) }
+        requires cells { AreCellsOf K.kind (links_of links.rows) 0 (map (λ place. place.dart) places.now) cells.now }
         ensures loaded { OnOk result (IsMadeOf K.kind DIM links.rows places.now self.new.content) }
         ensures err { OnErr result (self.new.content ≡ self.old.content) }
         ensures places { OnErr result (self.new.places ≡ self.old.places) }

@@ -2,7 +2,6 @@ use Rattle.std.proofs.Common.{Contains, lit<}
 use Rattle.std.proofs.lemmas.Result.{IfOk-weaker}
 use Rattle.map_defs.specs.Rows.{links_of}
 use Rattle.map_defs.specs.Cells.{InCell, InOrbit, Leads}
-use Rattle.cell_walk.specs.CellLists.{lists_of}
 use Rattle.cell_walk.proofs.CellDarts.{AreWordsOf, words-within, words-cell}
 use Rattle.cell_walk.proofs.ListedCells.{lists-same}
 use Rattle.cell_walk.proofs.one_cell.cells_of.Goals as goal
@@ -17,5 +16,5 @@ returns g c =
     let are : AreWordsOf g.K.Kind.kind g.row.DIM c.args.dim c.deref.result.now = record { are = rw (c.deref.ensures.value, ← c.dimension.ensures.dimension) c.in_ok-cell_words.ensures } in
     IfOk-weaker c.each_orbit.result _ _
     (λ orbits lists. lists-same (InOrbit (Leads (links_of c.args.links.now.rows) (Contains c.deref.result.now))) (InCell g.K.Kind.kind (links_of c.args.links.now.rows) c.args.dim)
-    c.args.darts.now (lists_of orbits.items) (words-cell g.K.Kind.kind g.row.DIM c.args.dim c.args.links.now.rows c.deref.result.now c.dimension.ensures.sound are) lists)
+    c.args.darts.now orbits (words-cell g.K.Kind.kind g.row.DIM c.args.dim c.args.links.now.rows c.deref.result.now c.dimension.ensures.sound are) lists)
     c.each_orbit.ensures

@@ -9,7 +9,7 @@ load_links-requires g c =
     let m = c.in-Ok.ensures.built.3 in
     let rows = c.in-Ok.ensures.built.4 in
     let cells = rw rows at c.in-Ok.ensures.cells in
-    rw (c.deref-2.ensures.value, c.deref.ensures.value, rows) (lit< tt, (lit< tt, (c.requires.new, (m.laws, (m.located.members, (m.located.ascending, cells))))))
+    rw (c.deref.ensures.value, rows) (lit< tt, (lit< tt, (c.requires.new, (m.laws, (m.located.members, (m.located.ascending, cells))))))
 
 pub returns-in-Ok-load_links-clause-loaded : goal.returns-in-Ok-load_links-clause-loaded
 returns-in-Ok-load_links-clause-loaded g c =

@@ -1,7 +1,6 @@
 use Rattle.std.specs.Prelude.{◌≡◌, map, take, slice_index}
-use Rattle.cell_walk.specs.CellLists.{lists_of}
-use Rattle.off_text.specs.Meanings.{faces_view}
+use Rattle.off_text.specs.Meanings.{lists_of}
 use Rattle.off_text.proofs.faces.faces_of.Given as goal
 
 abbrev pub invariant-loop-round : goal.invariant-loop-round
-invariant-loop-round l = faces_view l.faces.items ≡ map (map (slice_index l.places)) (take l.round-index (lists_of l.rounds))
+invariant-loop-round l = lists_of l.faces.items ≡ map (map (slice_index l.places)) (take l.round-index (lists_of l.rounds))

@@ -1,13 +1,11 @@
 use Rattle.std.proofs.Common.{◌≡◌, ◌≤◌, ◌<◌, inl, inr, ℕ, List, length, map, slice_index, Some, None, All, Contains, Vec, sym, ap, ap₂, ◌∙◌, subst, arith}
 use Rattle.std.specs.List.{AllZip}
 use Rattle.std.specs.declared.alloc.Global.{Global}
-use Rattle.std.proofs.lemmas.List.{length-map}
-use Rattle.map_defs.specs.Rows.{made}
 use Rattle.map_defs.specs.Refusal as machine
 use Rattle.map_defs.specs.OffOfMap.{ListsCells, LacksOffText}
 use Rattle.map_kind.specs.Refusals.{meaning}
-use Rattle.cell_walk.specs.CellLists.{items_of, lists_of}
-use Rattle.off_text.specs.MapViews.{placed, off_view, IsPlaced}
+use Rattle.off_text.specs.Meanings.{lists_of}
+use Rattle.off_text.specs.MapViews.{placed, off_view}
 use Rattle.off_text.proofs.Refusing.{refused-line, refused-again}
 use Rattle.off_text.proofs.OffFacts.{cells-few, rounds-made, lists-made, off-rows, none-open, none-thin, some-thin, none-lacks}
 use Rattle.off_text.proofs.of_map.off_of.Goals as goal
@@ -46,22 +44,20 @@ pub place_cells-requires-clause-few : goal.place_cells-requires-clause-few
 place_cells-requires-clause-few g c =
     let named : ListsCells g.K.Kind.kind c.args.links.now.rows 0 c.in_ok-vertices.vertices.least.items = record { members = c.in_ok-vertices.ensures.members; ascending = c.in_ok-vertices.ensures.ascending } in
     let few = cells-few g.K.Kind.kind g.row.DIM c.args.links.now.rows c.see_sound.ensures.sound 0 c.in_ok-vertices.vertices.least.items named in
-    let same : length c.deref-3.result.now ≡ length c.in_ok-vertices.vertices.darts.items = ap length c.deref-3.ensures.value in
-    omega (arith, few, same, length-map c.in_ok-vertices.vertices.darts.items items_of, c.in_ok-vertices.ensures.darts.long)
+    omega (arith, few, c.in_ok-vertices.ensures.darts.long)
 
 pub place_cells-requires-clause-made : goal.place_cells-requires-clause-made
 place_cells-requires-clause-made g c =
     let named : ListsCells g.K.Kind.kind c.args.links.now.rows 0 c.in_ok-vertices.vertices.least.items = record { members = c.in_ok-vertices.ensures.members; ascending = c.in_ok-vertices.ensures.ascending } in
-    subst (λ m. All (All (λ d. d ≤ m)) (lists_of c.deref-3.result.now)) (sym c.made.ensures.made)
-    (subst (λ (lists : List (Vec ℕ Global)). All (All (λ d. d ≤ made c.args.links.now.rows)) (lists_of lists)) (sym c.deref-3.ensures.value)
-    (lists-made g.K.Kind.kind g.row.DIM c.args.links.now.rows c.see_sound.ensures.sound 0 c.in_ok-vertices.vertices.least.items (lists_of c.in_ok-vertices.vertices.darts.items) named c.in_ok-vertices.ensures.darts))
+    subst (λ m. All (All (λ d. d ≤ m)) c.in_ok-vertices.vertices.darts) (sym c.made.ensures.made)
+    (lists-made g.K.Kind.kind g.row.DIM c.args.links.now.rows c.see_sound.ensures.sound 0 c.in_ok-vertices.vertices.least.items c.in_ok-vertices.vertices.darts named c.in_ok-vertices.ensures.darts)
 
 pub faces_of-requires : goal.faces_of-requires
 faces_of-requires g c =
     let r = c.in_ok-rounds.ensures.rounds in
-    let long : length c.deref-5.result.now ≡ length c.in_ok-places_of_darts.places_of_darts.items = ap length c.deref-5.ensures.value in
-    subst (λ (rounds : List (Vec ℕ Global)). All (All (λ d. d < length c.deref-5.result.now)) (lists_of rounds)) (sym c.deref-4.ensures.value)
-    (rounds-made g.K.Kind.kind g.row.DIM c.args.links.now.rows c.see_sound.ensures.sound (length c.deref-5.result.now) r.0 (lists_of c.in_ok-rounds.rounds.items)
+    let long : length c.deref-4.result.now ≡ length c.in_ok-places_of_darts.places_of_darts.items = ap length c.deref-4.ensures.value in
+    subst (λ (rounds : List (Vec ℕ Global)). All (All (λ d. d < length c.deref-4.result.now)) (lists_of rounds)) (sym c.deref-3.ensures.value)
+    (rounds-made g.K.Kind.kind g.row.DIM c.args.links.now.rows c.see_sound.ensures.sound (length c.deref-4.result.now) r.0 (lists_of c.in_ok-rounds.rounds.items)
     (omega (arith, long, c.in_ok-places_of_darts.ensures.long, c.made.ensures.made)) r.1 r.2)
 
 pub returns-clause-rows : goal.returns-clause-rows
@@ -71,12 +67,12 @@ returns-clause-rows g c =
     let edged : ListsCells g.K.Kind.kind c.args.links.now.rows 1 c.in_ok-cells.field-0.items = record { members = c.in_ok-cells.ensures.members; ascending = c.in_ok-cells.ensures.ascending } in
     off-rows g.K.Kind.kind g.row.DIM c.args.links.now.rows c.see_sound.ensures.sound (placed c.args.places.now)
     (off_view (record { points = c.in_ok-points.points; faces = c.in_ok-faces_of.field-0; edges = c.len.result }))
-    c.in_ok-vertices.vertices.least.items r.0 c.in_ok-cells.field-0.items (lists_of c.in_ok-rounds.rounds.items) (lists_of c.in_ok-vertices.vertices.darts.items) c.in_ok-places_of_darts.places_of_darts.items
+    c.in_ok-vertices.vertices.least.items r.0 c.in_ok-cells.field-0.items (lists_of c.in_ok-rounds.rounds.items) c.in_ok-vertices.vertices.darts c.in_ok-places_of_darts.places_of_darts.items
     named c.in_ok-vertices.ensures.darts
-    (subst (λ (lists : List (Vec ℕ Global)). (x p : ℕ) → IsPlaced (lists_of lists) x p → IsPlaced (lists_of lists) x (slice_index c.in_ok-places_of_darts.places_of_darts.items x)) c.deref-3.ensures.value c.in_ok-places_of_darts.ensures.placed)
+    c.in_ok-places_of_darts.ensures.placed
     (subst (λ vertices. AllZip (λ d point. placed c.args.places.now d ≡ Some point) vertices c.in_ok-points.points.items) c.deref.ensures.value c.in_ok-points.ensures.points)
     r.1 r.2
-    (c.in_ok-faces_of.ensures ∙ ap₂ (λ (places : List ℕ) (rounds : List (Vec ℕ Global)). map (map (slice_index places)) (lists_of rounds)) c.deref-5.ensures.value c.deref-4.ensures.value)
+    (c.in_ok-faces_of.ensures ∙ ap₂ (λ (places : List ℕ) (rounds : List (Vec ℕ Global)). map (map (slice_index places)) (lists_of rounds)) c.deref-4.ensures.value c.deref-3.ensures.value)
     edged (omega (arith, c.len.ensures, c.in_ok-cells.field-0.ok.0))
 
 pub returns-clause-answered : goal.returns-clause-answered

@@ -5,7 +5,7 @@ use Rattle.std.specs.List.{AllZip}
 use Rattle.map_defs.specs.Rows.{links_of}
 use Rattle.map_defs.specs.Refusal as machine
 use Rattle.map_defs.specs.OffOfMap.{ListsCells, IsRound, IsOpen, HasOpenFace}
-use Rattle.cell_walk.specs.CellLists.{lists_of}
+use Rattle.off_text.specs.Meanings.{lists_of}
 use Rattle.off_text.proofs.Refusing.{refused-again}
 use Rattle.off_text.proofs.RoundLists.{zip-more}
 use Rattle.off_text.proofs.round.rounds_of.Goals as goal

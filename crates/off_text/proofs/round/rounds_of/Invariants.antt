@@ -2,7 +2,7 @@ use Rattle.std.specs.Prelude.{take}
 use Rattle.std.specs.List.{AllZip}
 use Rattle.map_defs.specs.Rows.{links_of}
 use Rattle.map_defs.specs.OffOfMap.{IsRound}
-use Rattle.cell_walk.specs.CellLists.{lists_of}
+use Rattle.off_text.specs.Meanings.{lists_of}
 use Rattle.off_text.proofs.round.rounds_of.Given as goal
 
 abbrev pub invariant-loop-first : goal.invariant-loop-first

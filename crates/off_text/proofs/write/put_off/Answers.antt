@@ -10,14 +10,14 @@ use Rattle.machine_defs.specs.TextLines.{ended}
 use Rattle.machine_defs.specs.OffText.{off_counts_text, off_point_text, off_face_text, off_text}
 use Rattle.text_lines.specs.Writing.{WritesText}
 use Rattle.text_lines.proofs.LineTexts.{YieldsList-seen, concat-append, concat-map}
-use Rattle.off_text.specs.Meanings.{items_of, faces_view}
+use Rattle.off_text.specs.Meanings.{items_of, lists_of}
 use Rattle.off_text.specs.OffLines.{line_text}
 use Rattle.off_text.proofs.write.put_off.Goals as goal
 
 face_text : Vec ℕ Global → List ℕ
 face_text face = off_face_text face.items
 
-faces-joined : (faces : List (Vec ℕ Global)) → concat (map face_text faces) ≡ flat_map off_face_text (faces_view faces)
+faces-joined : (faces : List (Vec ℕ Global)) → concat (map face_text faces) ≡ flat_map off_face_text (lists_of faces)
 unfolding face_text
 faces-joined [] = refl
 faces-joined (face ∷ faces) = ap (λ (t : List ℕ). off_face_text face.items ++ t) (faces-joined faces)
@@ -25,7 +25,7 @@ faces-joined (face ∷ faces) = ap (λ (t : List ℕ). off_face_text face.items 
 -- the text, from its lines
 joined : (points : List Value) (faces : List (Vec ℕ Global)) (edges : ℕ)
     → concat ((((ended (codes "OFF") ∷ []) ++ off_counts_text (length points) (length faces) edges ∷ []) ++ map off_point_text points) ++ map face_text faces)
-    ≡ off_text (record { points = points; faces = faces_view faces; edges = edges })
+    ≡ off_text (record { points = points; faces = lists_of faces; edges = edges })
 joined points faces edges =
     let first : List (List ℕ) = ended (codes "OFF") ∷ [] in
     let counts : List (List ℕ) = off_counts_text (length points) (length faces) edges ∷ [] in

@@ -1,8 +1,7 @@
 use Rattle.std.proofs.Common.{◌≤◌, ◌+◌}
 use Rattle.label_laws.specs.Changing.{AreGroupsGiven}
-use Rattle.cell_walk.specs.CellLists.{lists_of}
 use Rattle.valued_map.specs.Placed.{placed_groups}
 use Rattle.valued_map.proofs.ids.give_cells.Given as goal
 
 abbrev pub invariant-loop-index : goal.invariant-loop-index
-invariant-loop-index g l = AreGroupsGiven (placed_groups l.places (lists_of l.cells)) l.index l.fn.labels l.labels l.fn.pool l.pool × (l.fn.pool.spare ≤ l.pool.spare + l.index)
+invariant-loop-index g l = AreGroupsGiven (placed_groups l.places l.cells) l.index l.fn.labels l.labels l.fn.pool l.pool × (l.fn.pool.spare ≤ l.pool.spare + l.index)

@@ -3,7 +3,7 @@ use Rattle.std.proofs.lemmas.Result.{IfOk-weaker}
 use Rattle.map_defs.specs.Rows.{Rows, links_of, made}
 use Rattle.map_defs.specs.Edits.{Edit}
 use Rattle.map_defs.specs.Values.{Place}
-use Rattle.cell_walk.specs.CellLists.{AreCellsOf, lists_of}
+use Rattle.cell_walk.specs.CellLists.{AreCellsOf}
 use Rattle.edit_laws.proofs.EditSound.{length-after}
 use Rattle.map_core.proofs.map.Map.load.Goals as goal
 
@@ -13,10 +13,10 @@ links_after-requires g c = (lit< tt, (c.see_dimension.ensures.low, (c.see_dimens
 pub load_links-requires : goal.load_links-requires
 load_links-requires g c =
     let k = g.K.Kind.kind in
-    let lists : List (List ℕ) = lists_of c.in_ok-cells.cells.items in
+    let lists : List (List ℕ) = c.in_ok-cells.cells in
     let its = subst (λ (ds : List ℕ). AreCellsOf k (links_of c.in_ok-links.links.rows) 0 ds lists) (c.deref.ensures.value ∙ c.in_ok-darts.ensures) c.in_ok-cells.ensures in
     let cells = subst (λ (rows : Rows). AreCellsOf k (links_of rows) 0 (map (λ (place : Place). place.dart) c.args.places.now) lists) c.in_ok-links.ensures its in
-    rw (c.deref-2.ensures.value, c.in_ok-links.ensures) (lit< tt, (lit< tt, (c.requires.new, (c.requires.laws, (c.requires.members, (c.requires.ascending, cells))))))
+    rw c.in_ok-links.ensures (lit< tt, (lit< tt, (c.requires.new, (c.requires.laws, (c.requires.members, (c.requires.ascending, cells))))))
 
 pub returns-clause-first : goal.returns-clause-first
 returns-clause-first g c =

@@ -1,10 +1,8 @@
 use Rattle.std.proofs.Common.{◌≡◌, ℕ, ◌≤◌, List, slice_set, Option, Some, sym, subst, ap, ◌∙◌, lit<, arith}
-use Rattle.std.proofs.lemmas.List.{length-map}
 use Rattle.std.proofs.lemmas.Result.{err_from_is_err_and}
 use Rattle.map_defs.specs.Rows.{Rows, made as made_of}
 use Rattle.map_defs.specs.Values.{Rule}
 use Rattle.machine_defs.specs.Loading.{first_copy}
-use Rattle.cell_walk.specs.CellLists.{items_of, lists_of}
 use Rattle.label_laws.specs.Contents.{content_of}
 use Rattle.label_laws.specs.Maps.{IsStoredMap}
 use Rattle.label_laws.proofs.Same.{content-alike}
@@ -44,11 +42,11 @@ give_cells-requires g c =
     let long : made_of new ≤ c.prepare.new.labels.made = omega (arith, c.in_ok-prepare.ensures.long, made.made) in (
       lit< tt,
       (
-        sym (length-map c.args.cells.now items_of) ∙ load-long k n rows c.self.inside.labels c.self.inside.pool c.self.inside.rules c.self.invariant empty new made.begun made.sound c.requires.laws
-            c.prepare.new.labels c.prepare.new.pool c.prepare.ensures.ids long c.in_ok-prepare.ensures.places c.args.places.now c.requires.members c.requires.ascending (lists_of c.args.cells.now) c.requires.cells,
+        load-long k n rows c.self.inside.labels c.self.inside.pool c.self.inside.rules c.self.invariant empty new made.begun made.sound c.requires.laws
+            c.prepare.new.labels c.prepare.new.pool c.prepare.ensures.ids long c.in_ok-prepare.ensures.places c.args.places.now c.requires.members c.requires.ascending c.args.cells.now c.requires.cells,
         (
           load-labelled k n rows c.self.inside.labels c.self.inside.pool c.self.inside.rules c.self.invariant empty new made.begun made.sound c.requires.laws
-              c.prepare.new.labels c.prepare.new.pool c.prepare.ensures.ids long c.in_ok-prepare.ensures.places c.args.places.now c.requires.members c.requires.ascending (lists_of c.args.cells.now) c.requires.cells,
+              c.prepare.new.labels c.prepare.new.pool c.prepare.ensures.ids long c.in_ok-prepare.ensures.places c.args.places.now c.requires.members c.requires.ascending c.args.cells.now c.requires.cells,
           c.in_ok-prepare.ensures.values,
         ),
       ),
@@ -66,7 +64,7 @@ invariant_of-self-2 g c =
     let ruled : c.put_rule.new.rules ≡ slice_set (made_rules n c.self.inside.rules) 0 (Some first_copy) =
     c.put_rule.ensures ∙ ap (λ (rs : List (Option Rule)). slice_set rs 0 (Some first_copy)) c.in_ok-prepare.ensures.rules in
     rw ruled (load-stored k n rows c.self.inside.labels c.self.inside.pool c.self.inside.rules c.self.invariant empty new made.begun made.sound c.requires.laws
-    c.prepare.new.labels c.prepare.new.pool c.prepare.ensures.ids long c.in_ok-prepare.ensures.places c.args.places.now c.requires.members c.requires.ascending (lists_of c.args.cells.now) c.requires.cells
+    c.prepare.new.labels c.prepare.new.pool c.prepare.ensures.ids long c.in_ok-prepare.ensures.places c.args.places.now c.requires.members c.requires.ascending c.args.cells.now c.requires.cells
     c.give_cells.new.labels c.give_cells.new.pool c.give_cells.ensures)
 
 pub returns-clause-loaded : goal.returns-clause-loaded
@@ -81,5 +79,5 @@ returns-clause-loaded g c =
     let ruled : c.put_rule.new.rules ≡ slice_set (made_rules n c.self.inside.rules) 0 (Some first_copy) =
     c.put_rule.ensures ∙ ap (λ (rs : List (Option Rule)). slice_set rs 0 (Some first_copy)) c.in_ok-prepare.ensures.rules in
     rw ruled (load-made k n rows c.self.inside.labels c.self.inside.pool c.self.inside.rules c.self.invariant empty new made.begun made.sound c.requires.laws
-    c.prepare.new.labels c.prepare.new.pool c.prepare.ensures.ids long c.in_ok-prepare.ensures.places c.args.places.now c.requires.members c.requires.ascending (lists_of c.args.cells.now) c.requires.cells
+    c.prepare.new.labels c.prepare.new.pool c.prepare.ensures.ids long c.in_ok-prepare.ensures.places c.args.places.now c.requires.members c.requires.ascending c.args.cells.now c.requires.cells
     c.give_cells.new.labels c.give_cells.new.pool c.give_cells.ensures)
