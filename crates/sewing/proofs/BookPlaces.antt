@@ -1,5 +1,5 @@
 -- The triples of a book: looked through, told by a map beyond the first few, sorted by dart and link.
-use Rattle.std.proofs.Common.{◌≡◌, ℕ, zero, suc, ◌+◌, ◌<◌, ◌≤◌, ◌↔◌, ◌⊎◌, List, [], ◌∷◌, ◌++◌, min, length, take, drop, get_or, position, Bool, true, false, cond, Option, Some, None, Contains, refl, sym, ap, ◌∙◌, subst, inl, inr, arith, nat_cmp, nat_eq, nat_lt}
+use Rattle.std.proofs.Common.{◌≡◌, ◌≢◌, ℕ, zero, suc, ◌+◌, ◌<◌, ◌≤◌, ◌↔◌, ◌⊎◌, List, [], ◌∷◌, ◌++◌, min, length, take, drop, get_or, position, Bool, true, false, cond, Option, Some, None, Contains, refl, sym, ap, ◌∙◌, subst, inl, inr, arith, nat_cmp, nat_eq, nat_lt}
 use Rattle.std.proofs.lemmas.Bool.{cases_eq, cases_lt, false≢true, lt-ltb}
 use Rattle.std.proofs.lemmas.Cmp.{nat_cmp_total, then_total, on_total, ranked}
 use Rattle.std.proofs.lemmas.List.{get_or_default, get_or-take, length-take, take-append-drop, drop-append-le, drop_all}
@@ -16,8 +16,9 @@ use Rattle.std.specs.Ordering.{is_lt, ordering_then, ordering_reverse, MatchOrde
 use Rattle.std.specs.declared.cmp.Ordering.{Ordering}
 use Rattle.std.specs.declared.cmp.Ordering.TheVariants.{Less, Equal, Greater}
 use Rattle.std.specs.BTreeMap.{BTreeMap, is_at, get, Updates}
+use Rattle.map_defs.specs.Kind.{Kind, inverse}
 use Rattle.sewing.specs.Triples.{Triple, Lists, ComesBefore, IsAscending}
-use Rattle.sewing.specs.PairSteps.{TellsTriples, IsKept, is_of}
+use Rattle.sewing.specs.PairSteps.{TellsTriples, IsKept, AreApart, is_of, turn}
 
 -- by the dart, then by the link
 abbrev pub by_place : ℕ × ℕ → ℕ × ℕ → Ordering
@@ -60,6 +61,41 @@ same_place-flips p q = go (same_place p q) (same_place q p) refl refl
     go true false is at = sym (turned p q is) ∙ at
     go false true is at = sym is ∙ turned q p at
 
+-- where no two triples are of one dart and link, a dart has one partner at most at a link
+pub one-where-apart : (triples : List Triple) → AreApart triples → (x y z t : ℕ) → Lists triples x y t → Lists triples x z t → y ≡ z
+one-where-apart triples apart x y z t p q =
+    let d : Triple = record { x = x; y = y; t = t } in
+    let e : Triple = record { x = x; y = z; t = t } in
+    let at_i : get_or triples p.0 d ≡ d = p.2 in
+    let at_j : get_or triples q.0 d ≡ e = get_or_default triples q.0 d e q.1 ∙ q.2 in
+    let ex : (get_or triples p.0 d).x ≡ (get_or triples q.0 d).x = ap (λ (r : Triple). r.x) at_i ∙ sym (ap (λ (r : Triple). r.x) at_j) in
+    let et : (get_or triples p.0 d).t ≡ (get_or triples q.0 d).t = ap (λ (r : Triple). r.t) at_i ∙ sym (ap (λ (r : Triple). r.t) at_j) in
+    elim (cases_eq p.0 q.0) [
+      | inl same ↦ ap (λ (r : Triple). r.y) (sym at_i ∙ ap (λ (k : ℕ). get_or triples k d) same ∙ at_j)
+      | inr other ↦ elim (cases_lt p.0 q.0) [
+        | inl lt ↦ absurd (apart p.0 q.0 d lt q.1 ex et)
+        | inr ge ↦ absurd (apart q.0 p.0 d (omega arith) p.1 (sym ex) (sym et))
+      ]
+    ]
+
+-- a triple of a dart without a partner at the link comes behind
+pub apart-push : (triples : List Triple) (p : Triple) → ((y : ℕ) → Lists triples p.x y p.t → ⊥) → AreApart triples → AreApart (triples ++ p ∷ [])
+apart-push triples p fresh apart = all_pairs_push (λ (q r : Triple). q.x ≡ r.x → q.t ≡ r.t → ⊥) triples p apart other
+  where
+    other : (k : ℕ) (d : Triple) → k < length triples → (get_or triples k d).x ≡ p.x → (get_or triples k d).t ≡ p.t → ⊥
+    other k d within ex et =
+        let q : Triple = get_or triples k d in
+        let here : Contains triples q = (k, within, get_or_default triples k q d within) in
+        fresh q.y (subst (λ (a : ℕ). Lists triples a q.y p.t) ex (subst (λ (b : ℕ). Lists triples q.x q.y b) et here))
+
+-- a triple and the triple turned round, unless they are one
+pub apart-two : (k : Kind) (p : Triple) → (inverse k p.t ≡ p.t → p.x ≢ p.y) → AreApart (p ∷ turn k p ∷ [])
+apart-two k p moves = apart-push (p ∷ []) (turn k p) fresh (apart-push [] p (λ y has. omega (arith, has.1)) (λ i j d lt within. absurd (omega (arith, within))))
+  where
+    fresh : (y : ℕ) → Lists (p ∷ []) p.y y (inverse k p.t) → ⊥
+    fresh y (zero, low, is) = moves (sym (ap (λ (q : Triple). q.t) is)) (ap (λ (q : Triple). q.x) is)
+    fresh y (suc n, low, is) = omega (arith, low)
+
 module _ (triples : List Triple) (apart : IsDistinct (λ p q. is_of p.x p.t q) triples) where
   pub clash : (i j : ℕ) (d : Triple) → i < j → j < length triples → (get_or triples i d).x ≡ (get_or triples j d).x → (get_or triples i d).t ≡ (get_or triples j d).t → ⊥
   clash i j d lt within ex et =
@@ -67,20 +103,7 @@ module _ (triples : List Triple) (apart : IsDistinct (λ p q. is_of p.x p.t q) t
 
   -- at a link a dart has one partner at most
   pub one-partner : (x y z t : ℕ) → Lists triples x y t → Lists triples x z t → y ≡ z
-  one-partner x y z t p q =
-      let d : Triple = record { x = x; y = y; t = t } in
-      let e : Triple = record { x = x; y = z; t = t } in
-      let at_i : get_or triples p.0 d ≡ d = p.2 in
-      let at_j : get_or triples q.0 d ≡ e = get_or_default triples q.0 d e q.1 ∙ q.2 in
-      let ex : (get_or triples p.0 d).x ≡ (get_or triples q.0 d).x = ap (λ (r : Triple). r.x) at_i ∙ sym (ap (λ (r : Triple). r.x) at_j) in
-      let et : (get_or triples p.0 d).t ≡ (get_or triples q.0 d).t = ap (λ (r : Triple). r.t) at_i ∙ sym (ap (λ (r : Triple). r.t) at_j) in
-      elim (cases_eq p.0 q.0) [
-        | inl same ↦ ap (λ (r : Triple). r.y) (sym at_i ∙ ap (λ (k : ℕ). get_or triples k d) same ∙ at_j)
-        | inr other ↦ elim (cases_lt p.0 q.0) [
-          | inl lt ↦ absurd (clash p.0 q.0 d lt q.1 ex et)
-          | inr ge ↦ absurd (clash q.0 p.0 d (omega arith) p.1 (sym ex) (sym et))
-        ]
-      ]
+  one-partner = one-where-apart triples clash
 
 -- ---- the first place where a test passes
 passed-cons : {X : Type 0} (p : X → Bool) (x : X) (xs : List X) (r : Bool) → p x ≡ r → ((k : ℕ) (d : X) → k < length xs → p (get_or xs k d) ≡ true → position_or_len p xs < length xs)

@@ -7,3 +7,4 @@ pub mod PlanLaws
 mod BookPlaces
 mod Exits
 mod TestMaps
+mod WaysBack

@@ -61,7 +61,7 @@ module _ (k : Kind) where
       (suc (suc later.0), omega (arith, later.1), later.2)
 
   -- each triple of the list stands there turned round
-  twofold-turned : (triples : List Triple) → IsTwofold k triples → (p : Triple) → Contains triples p → Contains triples (turn k p)
+  pub twofold-turned : (triples : List Triple) → IsTwofold k triples → (p : Triple) → Contains triples p → Contains triples (turn k p)
   twofold-turned triples twofold p has = turned-at triples twofold p has.0 has.1 has.2
 
   moves-at : (triples : List Triple) → IsTwofold k triples → (p : Triple) (n : ℕ) → n < length triples → get_or triples n p ≡ p → inverse k p.t ≡ p.t → p.x ≢ p.y
@@ -72,7 +72,7 @@ module _ (k : Kind) where
   moves-at triples (both {triples = rest} q other more) p (suc (suc n)) low is = moves-at rest more p n (omega (arith, low)) is
 
   -- no triple of the list joins a dart to itself by a link that is its own inverse
-  twofold-moves : (triples : List Triple) → IsTwofold k triples → (p : Triple) → Contains triples p → inverse k p.t ≡ p.t → p.x ≢ p.y
+  pub twofold-moves : (triples : List Triple) → IsTwofold k triples → (p : Triple) → Contains triples p → inverse k p.t ≡ p.t → p.x ≢ p.y
   twofold-moves triples twofold p has = moves-at triples twofold p has.0 has.1 has.2
 
 -- a number of two after two

@@ -1,2 +1,3 @@
 pub mod Triples
 pub mod PairSteps
+pub mod PairLists

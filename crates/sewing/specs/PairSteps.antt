@@ -67,6 +67,10 @@ pub record FailsListed (k : Kind) (seeds : List Triple) : Type 0 where
   pub listed : Contains seeds one
   pub fails : FailsToPair k found one.x one.y one.t
 
+-- The links J are one link at most, which is its own inverse.
+abbrev pub LeadsBack : Kind → (ℕ → Type 0) → Type 0
+LeadsBack k J = (i j : ℕ) → J i → J j → (i ≡ j) × (inverse k j ≡ j)
+
 -- link i is link j
 abbrev pub IsLink : ℕ → ℕ → Type 0
 IsLink j i = i ≡ j

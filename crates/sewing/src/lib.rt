@@ -3,7 +3,9 @@
 #![tactic(auto)]
 
 mod book;
+mod near;
 mod pairing;
+mod pairs;
 mod plans;
 mod triple;
 

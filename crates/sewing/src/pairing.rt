@@ -1,12 +1,15 @@
-ghost use Rattle.std.specs.Prelude.{◌≡◌, ◌≢◌, ℕ, ◌+◌, ◌≤◌, ◌<◌, ◌↔◌, All, Contains, IfOk, OnOk, IsErrOf};
+ghost use Rattle.std.specs.Prelude.{◌≡◌, ◌≢◌, ℕ, ◌+◌, ◌≤◌, ◌<◌, ◌↔◌, [], ◌∷◌, All, Contains, IsTrue, IfOk, OnOk, IsErrOf};
 ghost use Rattle.map_defs.specs.Kind.{inverse};
-ghost use Rattle.map_defs.specs.Rows.{links_of};
+ghost use Rattle.map_defs.specs.Rows.{links_of, IsSound};
 ghost use Rattle.map_defs.specs.Pairs.{InPairs, IsGood};
 ghost use Rattle.sewing.specs.Triples.{Lists, IsAscending};
-ghost use Rattle.sewing.specs.PairSteps.{IsTwofold, IsLink, IsNewLink, OrInverse, IsListed, FailsListed, IsStepped, IsPairable};
+ghost use Rattle.sewing.specs.PairLists.{triples_of};
+ghost use Rattle.sewing.specs.PairSteps.{AreApart, LeadsBack, IsTwofold, IsLink, IsNewLink, OrInverse, IsListed, FailsListed, IsStepped, IsPairable};
 ghost use Rattle.sewing.specs.declared.pairing.PairFault.TheVariants.{NoMemory};
 
 use crate::book::Book;
+use crate::near::near_pairs;
+use crate::pairs::Pairs;
 use crate::triple::Triple;
 use link_rows::Links;
 use map_kind::Kind;
@@ -64,6 +67,42 @@ pub fn pair<K: Kind, const DIM: usize>(
         (InPairs K.kind (links_of links.now.rows) (Contains set.now) (Lists seeds.now)) → ⊥ }
 {
     Ok(paired(alloc, links, seeds, set)?.into_ascending())
+}
+
+/// The pairs that grow from one seed along a set of links, in no order. `Unpaired` comes exactly where they cannot be joined,
+/// memory aside. Along one link that is its own inverse they take no memory.
+pub(crate) fn grown<K: Kind, const DIM: usize>(
+    alloc: Global,
+    links: &Links<K, DIM>,
+    seed: Triple,
+    set: &[usize],
+) -> Result<Pairs, PairFault>
+    requires set { All (λ j. j ≤ DIM) set.now }
+    requires sound { IsSound K.kind DIM links.now.rows }
+    ensures members { IfOk result (λ pairs. (x y t : ℕ) → Lists (triples_of pairs) x y t
+        ↔ InPairs K.kind (links_of links.now.rows) (Contains set.now) (Lists (seed ∷ [])) x y t) }
+    ensures apart { IfOk result (λ pairs. AreApart (triples_of pairs)) }
+    ensures good { OnOk result (IsGood K.kind (links_of links.now.rows) (Contains set.now)
+        (InPairs K.kind (links_of links.now.rows) (Contains set.now) (Lists (seed ∷ [])))) }
+    ensures unpaired { IsErrOf result PairFault.Unpaired → IsGood K.kind (links_of links.now.rows) (Contains set.now)
+        (InPairs K.kind (links_of links.now.rows) (Contains set.now) (Lists (seed ∷ []))) → ⊥ }
+{
+    if leads_back::<K>(set) {
+        return near_pairs(links, seed, set);
+    }
+    let book = paired(alloc, links, &[seed], set)?;
+    Ok(Pairs::Many(book.into_triples()))
+}
+
+/// Whether there is one link at most in a set, which is its own inverse.
+fn leads_back<K: Kind>(set: &[usize]) -> bool
+    ensures { IsTrue result → LeadsBack K.kind (Contains set.now) }
+{
+    match set {
+        [] => true,
+        [link] => K::inverse(*link) == *link,
+        _ => false,
+    }
 }
 
 /// A book of the pairs that grow from some seeds along a set of links. `Unpaired` comes exactly where they cannot be joined,

@@ -6,9 +6,11 @@ ghost use Rattle.map_defs.specs.Edits.{Fits, after_edit};
 ghost use Rattle.map_defs.specs.Pairs.{IsGood};
 ghost use Rattle.map_defs.specs.Sewing.{SewnPairs, IsSewable, IsSewn, IsUnsewn};
 ghost use Rattle.sewing.specs.Triples.{Lists};
+ghost use Rattle.sewing.specs.PairLists.{triples_of};
 ghost use Rattle.sewing.specs.PairSteps.{AreApart};
 
-use crate::pairing::{PairFault, paired};
+use crate::pairing::{PairFault, grown};
+use crate::pairs::Pairs;
 use crate::triple::Triple;
 use link_rows::{Change, Edit, Links};
 use map_kind::{Dart, Kind, Refusal, Refused};
@@ -59,7 +61,7 @@ pub fn sew_plan<K: Kind, const DIM: usize>(
         Ok(pairs) => Ok(Edit {
             births: 0,
             deaths: Vec::new(alloc),
-            changes: joining(alloc, &pairs)?,
+            changes: joining(alloc, pairs.triples())?,
         }),
         Err(PairFault::Unpaired) => Err(Refused::Line(Refusal::Unsewable)),
         Err(PairFault::NoMemory) => Err(Refused::NoMemory),
@@ -98,7 +100,7 @@ pub fn unsew_plan<K: Kind, const DIM: usize>(
             Ok(pairs) => Ok(Edit {
                 births: 0,
                 deaths: Vec::new(alloc),
-                changes: parting(alloc, &pairs)?,
+                changes: parting(alloc, pairs.triples())?,
             }),
             // Darts that are joined are paired.
             Err(PairFault::Unpaired) => unreachable!(),
@@ -153,10 +155,10 @@ fn sewn_pairs<K: Kind, const DIM: usize>(
     link: usize,
     one: Dart,
     other: Dart,
-) -> Result<Vec<Triple>, PairFault>
-    ensures members { IfOk result (λ pairs. (x y t : ℕ) → Lists pairs.items x y t
+) -> Result<Pairs, PairFault>
+    ensures members { IfOk result (λ pairs. (x y t : ℕ) → Lists (triples_of pairs) x y t
         ↔ SewnPairs K.kind (links_of links.now.rows) link one other x y t) }
-    ensures apart { IfOk result (λ pairs. AreApart pairs.items) }
+    ensures apart { IfOk result (λ pairs. AreApart (triples_of pairs)) }
     ensures good { OnOk result (IsGood K.kind (links_of links.now.rows) (IsDistant K.kind link)
         (SewnPairs K.kind (links_of links.now.rows) link one other)) }
     ensures unpaired { IsErrOf result PairFault.Unpaired → IsGood K.kind (links_of links.now.rows) (IsDistant K.kind link)
@@ -170,7 +172,7 @@ fn sewn_pairs<K: Kind, const DIM: usize>(
         y: other,
         t: link,
     };
-    Ok(paired(alloc, links, &[seed], &distant[..count])?.into_triples())
+    grown(alloc, links, seed, &distant[..count])
 }
 
 /// The links from 0 to `dim` that are distant from a link: the first of the list, and how many they are.

@@ -3,6 +3,7 @@ use Rattle.std.proofs.lemmas.Bool.{false≢true}
 use Rattle.map_defs.specs.Rows.{links_of}
 use Rattle.sewing.specs.Triples.{Triple}
 use Rattle.sewing.proofs.PartedPairs.{parted-good}
+use Rattle.sewing.specs.PairLists.{triples_of}
 use Rattle.sewing.proofs.PlanChanges.{changes}
 use Rattle.sewing.proofs.PlanLaws.{plan-unsewn, plan-unsewn-laws, plan-unsewn-fits}
 use Rattle.sewing.proofs.plans.unsew_plan.Goals as goal
@@ -15,8 +16,8 @@ unreachable-requires g c =
 
 pub returns-in_ok-parting-in-Ok-clause-fits : goal.returns-in_ok-parting-in-Ok-clause-fits
 returns-in_ok-parting-in-Ok-clause-fits g c =
-    let pairs : List Triple = c.in-Ok.pairs.items in
-    let list : c.in_ok-parting-in-Ok.field-0.items ≡ changes (λ p. p.y) (λ p. 0) pairs = rw c.deref.ensures.value at c.in_ok-parting-in-Ok.ensures in
+    let pairs : List Triple = triples_of c.in-Ok.pairs in
+    let list : c.in_ok-parting-in-Ok.field-0.items ≡ changes (λ p. p.y) (λ p. 0) pairs = rw c.triples.ensures at c.in_ok-parting-in-Ok.ensures in
     let linked : links_of c.args.links.now.rows c.args.link c.args.dart ≢ 0 = λ e. false≢true (sym (c.in-Some.ensures.free.1 e)) in
     rw (c.new.ensures.items, list)
     (plan-unsewn-fits g.K.Kind.kind g.row.DIM c.args.links.now.rows c.link.ensures.sound c.link.ensures.low c.requires.laws c.args.link c.requires.link c.args.dart linked
@@ -24,8 +25,8 @@ returns-in_ok-parting-in-Ok-clause-fits g c =
 
 pub returns-in_ok-parting-in-Ok-clause-unsewn : goal.returns-in_ok-parting-in-Ok-clause-unsewn
 returns-in_ok-parting-in-Ok-clause-unsewn g c =
-    let pairs : List Triple = c.in-Ok.pairs.items in
-    let list : c.in_ok-parting-in-Ok.field-0.items ≡ changes (λ p. p.y) (λ p. 0) pairs = rw c.deref.ensures.value at c.in_ok-parting-in-Ok.ensures in
+    let pairs : List Triple = triples_of c.in-Ok.pairs in
+    let list : c.in_ok-parting-in-Ok.field-0.items ≡ changes (λ p. p.y) (λ p. 0) pairs = rw c.triples.ensures at c.in_ok-parting-in-Ok.ensures in
     let linked : links_of c.args.links.now.rows c.args.link c.args.dart ≢ 0 = λ e. false≢true (sym (c.in-Some.ensures.free.1 e)) in
     rw (c.new.ensures.items, list)
     (plan-unsewn g.K.Kind.kind g.row.DIM c.args.links.now.rows c.link.ensures.sound c.link.ensures.low c.requires.laws c.args.link c.requires.link c.args.dart linked
@@ -33,8 +34,8 @@ returns-in_ok-parting-in-Ok-clause-unsewn g c =
 
 pub returns-in_ok-parting-in-Ok-clause-laws : goal.returns-in_ok-parting-in-Ok-clause-laws
 returns-in_ok-parting-in-Ok-clause-laws g c =
-    let pairs : List Triple = c.in-Ok.pairs.items in
-    let list : c.in_ok-parting-in-Ok.field-0.items ≡ changes (λ p. p.y) (λ p. 0) pairs = rw c.deref.ensures.value at c.in_ok-parting-in-Ok.ensures in
+    let pairs : List Triple = triples_of c.in-Ok.pairs in
+    let list : c.in_ok-parting-in-Ok.field-0.items ≡ changes (λ p. p.y) (λ p. 0) pairs = rw c.triples.ensures at c.in_ok-parting-in-Ok.ensures in
     let linked : links_of c.args.links.now.rows c.args.link c.args.dart ≢ 0 = λ e. false≢true (sym (c.in-Some.ensures.free.1 e)) in
     rw (c.new.ensures.items, list)
     (plan-unsewn-laws g.K.Kind.kind g.row.DIM c.args.links.now.rows c.link.ensures.sound c.link.ensures.low c.requires.laws c.args.link c.requires.link c.args.dart linked
