@@ -1,5 +1,5 @@
 -- What a change of one cell's value or of one dimension's rule makes of a map with values, and the step that is told.
-use Rattle.std.proofs.Common.{◌≡◌, ◌≢◌, ℕ, ◌≤◌, ◌↔◌, Bool, IsTrue, List, [], length, slice_set, Option, Some, None, refl, sym, ap, ◌∙◌, subst, inl, inr, arith, Contains}
+use Rattle.std.proofs.Common.{◌≡◌, ◌≢◌, ℕ, ◌≤◌, ◌↔◌, Bool, false, IsTrue, List, [], length, slice_set, Option, Some, None, refl, sym, ap, ◌∙◌, subst, inl, inr, arith, Contains}
 use Rattle.std.proofs.lemmas.Bool.{cases_eq}
 use Rattle.std.proofs.lemmas.List.{get_or-set_same, get_or-set_other}
 use Rattle.map_defs.specs.Kind.{Kind}
@@ -58,6 +58,10 @@ module _ (a b : Content) (kept : IsLawfulContent a) (kept' : IsLawfulContent b) 
     kept = kept';
     told = told-finished asked a b empty_edit values [] draft begun value-differs;
   }
+
+-- the same where it is not told
+pub value-untold : (a b : Content) → IsLawfulContent a → IsLawfulContent b → (i d : ℕ) (value : Option Value) → IsValued a i d value b → IsStep false a b None
+value-untold a b kept kept' i d value valued = record { follows = rows-stay a b kept kept' valued.kind valued.dim valued.rows; kept = kept'; told = tt }
 
 -- a dimension that gets a rule
 module _ (k : Kind) (n : ℕ) (rows : Rows) (l m : Labeling) (p : Store) (rules : List (Option Rule)) (s : IsStoredMap k n rows l p rules)

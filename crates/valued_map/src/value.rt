@@ -2,6 +2,7 @@
 ghost use Rattle.std.specs.Prelude.{◌≡◌, ◌+◌, ◌-◌, ◌≤◌, Some, None, IsSome, IfOk, OnOk, OnErr};
 ghost use Rattle.map_defs.specs.Rows.{IsLive, made, live_count};
 ghost use Rattle.machine_defs.specs.State.{rule_at};
+ghost use Rattle.machine_defs.specs.Kept.{IsLawfulContent};
 ghost use Rattle.machine_defs.specs.Valuing.{IsValued};
 ghost use Rattle.valued_map.specs.Told.{IsStep};
 
@@ -35,7 +36,13 @@ impl<K: Kind, const DIM: usize> ValuedMap<K, DIM> {
         ensures places_stay { self.old.places ≤ self.new.places }
         ensures room { OnOk result (live_count self.old.content.rows + (made self.new.content.rows - made self.old.content.rows) ≤ self.new.places) }
     {
-        let draft = begin_step(alloc, self.links.made(), &no_edit(alloc), asked)?;
+        let made = self.links.made();
+        if !asked {
+            self.put_value(alloc, dim, dart, value)?;
+            self.see_lawful();
+            return Ok(None);
+        }
+        let draft = begin_step(alloc, made, &no_edit(alloc), asked)?;
         let olds = cell_values(
             alloc,
             &self.links,
@@ -48,6 +55,13 @@ impl<K: Kind, const DIM: usize> ValuedMap<K, DIM> {
         self.put_value(alloc, dim, dart, value)?;
         let values = new_values(&self.labels, &self.pool, olds);
         Ok(finish_step(draft, values, Vec::new(alloc)))
+    }
+
+    /// The content is lawful: so it is in every map.
+    fn see_lawful(&self)
+        ensures { IsLawfulContent self.now.content }
+    {
+        let _ = self.links();
     }
 
     /// Lets the darts of the cell of a live dart have an id for this value, or none. All memory is taken before anything
