@@ -1,8 +1,9 @@
 //! How an edit of the links is made, and the values with it.
-ghost use Rattle.std.specs.Prelude.{◌≡◌, ℕ, ◌+◌, ◌-◌, ◌≤◌, ◌++◌, ◌<◌, List, Some, IsSome, map, length, OnOk, OnErr, IfOk, IsTrue};
+ghost use Rattle.std.specs.Prelude.{◌≡◌, ℕ, ◌+◌, ◌-◌, ◌≤◌, ◌++◌, ◌<◌, List, Some, IsSome, map, length, OnOk, OnErr, IfOk, IsTrue, [], Bool, Option};
 ghost use Rattle.map_defs.specs.Rows.{Rows, IsLive, links_of, made, live_count};
 ghost use Rattle.map_defs.specs.Laws.{Laws};
 ghost use Rattle.map_defs.specs.Edits.{Fits, after_edit, IsLed};
+ghost use Rattle.machine_defs.specs.Difference.{Difference};
 ghost use Rattle.machine_defs.specs.State.{with_born, without_dart};
 ghost use Rattle.store_defs.specs.Labelings.{id_of, KeepsIds, KeepsPlaces};
 ghost use Rattle.store_defs.specs.Groups.{group_at, rule_at, HasCarriedValue};
@@ -10,7 +11,7 @@ ghost use Rattle.label_laws.specs.Maps.{IsStoredMap};
 ghost use Rattle.label_laws.specs.Contents.{IsCarriedOn};
 ghost use Rattle.label_laws.specs.Stored.{AreSmall};
 ghost use Rattle.label_laws.specs.Touching.{AreGrafted, AreAllTouched};
-ghost use Rattle.valued_map.specs.Told.{AreOldValues, IsRevaluedPlace, IsStep};
+ghost use Rattle.valued_map.specs.Told.{AreOldValues, IsBegun, IsRevaluedPlace, IsStep, finished};
 
 use crate::carrying::carried;
 use crate::ids::{end_ids, relabel};
@@ -47,14 +48,36 @@ impl<K: Kind, const DIM: usize> ValuedMap<K, DIM> {
         ensures places_stay { self.old.places ≤ self.new.places }
         ensures room { OnOk result (live_count self.old.content.rows + (made self.new.content.rows - made self.old.content.rows) ≤ self.new.places) }
     {
+        if !asked {
+            self.put_born(edit)?;
+            return Ok(None);
+        }
+        let draft = begin_step(alloc, self.links.made(), edit, asked)?;
+        self.put_born(edit)?;
+        Ok(finish_step(draft, Vec::new(alloc), Vec::new(alloc)))
+    }
+
+    /// Makes an edit that only adds darts, linked among each other alone. All memory is taken before anything changes.
+    fn put_born(&mut self, edit: &Edit) -> Result<(), AllocError>
+        requires fits { Fits K.kind DIM self.old.content.rows edit.now }
+        requires laws { Laws K.kind (links_of (after_edit DIM edit.now self.old.content.rows)) }
+        requires few { made self.old.content.rows + edit.now.births ≤ MADE_MAX }
+        requires born { (born : List (List ℕ)) × (after_edit DIM edit.now self.old.content.rows ≡ self.old.content.rows ++ map Some born) }
+        ensures made { (born : List (List ℕ)) → after_edit DIM edit.now self.old.content.rows ≡ self.old.content.rows ++ map Some born
+            → OnOk result (self.new.content ≡ with_born self.old.content born) }
+        ensures told { OnOk result ((asked : Bool) (draft : Option Difference) → IsBegun asked (made self.old.content.rows) edit.now draft
+            → IsStep asked self.old.content self.new.content (finished draft [] [])) }
+        ensures err { OnErr result (self.new.content ≡ self.old.content) }
+        ensures places_stay { self.old.places ≤ self.new.places }
+        ensures room { OnOk result (live_count self.old.content.rows + (made self.new.content.rows - made self.old.content.rows) ≤ self.new.places) }
+    {
         let made = self.links.made();
-        let draft = begin_step(alloc, made, edit, asked)?;
         if self.links.reserve(edit.births).is_err() {
             return Err(AllocError);
         }
         make_places(&mut self.labels, made, edit.births)?;
         self.links.apply(edit);
-        Ok(finish_step(draft, Vec::new(alloc), Vec::new(alloc)))
+        Ok(())
     }
 
     /// Makes an edit and carries the values to the new cells. The step is answered where it is asked for. Where memory is
@@ -76,8 +99,36 @@ impl<K: Kind, const DIM: usize> ValuedMap<K, DIM> {
         ensures places_stay { self.old.places ≤ self.new.places }
         ensures room { OnOk result (live_count self.old.content.rows + (made self.new.content.rows - made self.old.content.rows) ≤ self.new.places) }
     {
+        if !asked {
+            self.put_links(alloc, hook, edit, asked)?;
+            return Ok(None);
+        }
+        let draft = begin_step(alloc, self.links.made(), edit, asked)?;
+        let values = self.put_links(alloc, hook, edit, asked)?;
+        Ok(finish_step(draft, values, Vec::new(alloc)))
+    }
+
+    /// Makes an edit and carries the values to the new cells. It answers the values that are others then, where they are asked
+    /// for. Where memory is wanting, the edit is taken back.
+    fn put_links<H: Hook>(
+        &mut self,
+        alloc: Global,
+        hook: &H,
+        edit: &Edit,
+        asked: bool,
+    ) -> Result<Vec<ValueChange>, AllocError>
+        requires ready { H.ready hook.now }
+        requires fits { Fits K.kind DIM self.old.content.rows edit.now }
+        requires laws { Laws K.kind (links_of (after_edit DIM edit.now self.old.content.rows)) }
+        requires few { made self.old.content.rows + edit.now.births ≤ MADE_MAX }
+        ensures carried { OnOk result (IsCarriedOn (H.hook hook.now) self.old.content (after_edit DIM edit.now self.old.content.rows) self.new.content) }
+        ensures told { IfOk result (λ values. (draft : Option Difference) → IsBegun asked (made self.old.content.rows) edit.now draft
+            → IsStep asked self.old.content self.new.content (finished draft values.items [])) }
+        ensures err { OnErr result (self.new.content ≡ self.old.content) }
+        ensures places_stay { self.old.places ≤ self.new.places }
+        ensures room { OnOk result (live_count self.old.content.rows + (made self.new.content.rows - made self.old.content.rows) ≤ self.new.places) }
+    {
         let made = self.links.made();
-        let draft = begin_step(alloc, made, edit, asked)?;
         if self.links.reserve(edit.births).is_err() {
             return Err(AllocError);
         }
@@ -95,11 +146,9 @@ impl<K: Kind, const DIM: usize> ValuedMap<K, DIM> {
         ) {
             Ok((groups, olds)) => {
                 relabel(&mut self.labels, &mut self.pool, &edit.deaths, &groups);
-                let values = new_values(&self.labels, &self.pool, olds);
-                Ok(finish_step(draft, values, Vec::new(alloc)))
+                Ok(new_values(&self.labels, &self.pool, olds))
             }
             Err(error) => {
-                drop(draft);
                 self.links.reverse(edit);
                 self.labels.cut(made);
                 Err(error)
