@@ -188,12 +188,15 @@ fn add_at_second<K: Kind, const DIM: usize>(
     let Some(dart) = links.link(change.dart, K::inverse(word.first)) else {
         return Ok(());
     };
-    if dart.number() > older || led_elsewhere(links, edit, dart, word.first, change.dart) {
+    if dart.number() > older {
         return Ok(());
     }
     if may_settle(labels, edit, dim, touched, change, dart)
         && is_settled(links, labels, dim, words, dart, change.new, change.old)
     {
+        return Ok(());
+    }
+    if led_elsewhere(links, edit, dart, word.first, change.dart) {
         return Ok(());
     }
     touched.push(dart)?;

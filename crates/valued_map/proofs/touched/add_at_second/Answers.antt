@@ -11,7 +11,6 @@ use Rattle.valued_map.specs.Changing.{IsThenUnsettled}
 use Rattle.valued_map.proofs.Adding.{added-none}
 use Rattle.valued_map.proofs.Rerouting.{comes-from, came-before}
 use Rattle.valued_map.proofs.Settling.{settled-then}
-use Rattle.valued_map.proofs.touched.add_at_second.Goals.{then-number-older-via-then-number-older, then-number-older-via-else-number-older+then-led_elsewhere}
 use Rattle.valued_map.proofs.touched.add_at_second.Goals as goal
 
 pub link-requires : goal.link-requires
@@ -27,14 +26,23 @@ led_elsewhere-requires g c =
 
 pub returns-then-number-older : goal.returns-then-number-older
 returns-then-number-older g c =
+    let rows : Rows = c.args.links.now.rows in
     added-none rows (IsThenUnsettled g.K.Kind.kind g.row.DIM c.args.edit.now rows c.args.dim c.args.labels.now c.args.word c.args.change) c.args.touched.now.items
-    (λ x (old, led, (second, at, was, stood, stands, off)) _. elim c.then-number-older.branch [
-      | then-number-older-via-then-number-older w ↦
-          came-before g.K.Kind.kind g.row.DIM c.args.edit.now old rows led c.requires.sound c.args.change.dart c.args.word.first c.requires.live x at was c.args.older c.requires.older
-          (subst (λ (m : ℕ). c.args.older < m) (c.number.ensures.same ∙ same x at) w.if-number-older.true)
-      | then-number-older-via-else-number-older+then-led_elsewhere w ↦
-          w.led_elsewhere.ensures old led w.if-led_elsewhere.true (ap (λ (j : ℕ). links_of old j c.in-Some.dart) first-is ∙ ap (links_of old c.args.word.first) (same x at) ∙ was ∙ sym dart-is)
-    ])
+    (λ x (old, led, (second, at, was, stood, stands, off)) _.
+    came-before g.K.Kind.kind g.row.DIM c.args.edit.now old rows led c.requires.sound c.args.change.dart c.args.word.first c.requires.live x at was c.args.older c.requires.older
+    (subst (λ (m : ℕ). c.args.older < m) (c.number.ensures.same ∙ same x at) c.if-number-older.true))
+  where
+    same : (x : ℕ) → links_of c.args.links.now.rows c.args.word.first x ≡ c.args.change.dart → c.in-Some.dart ≡ x
+    same x at =
+        c.in-Some.ensures.linked ∙ ap (λ (j : ℕ). links_of c.args.links.now.rows j c.change.inside.dart) (c.inverse.ensures ∙ ap (inverse g.K.Kind.kind) (ap (λ (w : LinkWord). w.first) c.word.view_is))
+        ∙ ap (links_of c.args.links.now.rows (inverse g.K.Kind.kind c.args.word.first)) (ap (λ (b : Change). b.dart) c.change.view_is)
+        ∙ comes-from g.K.Kind.kind g.row.DIM c.args.links.now.rows c.requires.sound c.args.change.dart c.args.word.first c.requires.live x at
+
+pub returns-then-led_elsewhere : goal.returns-then-led_elsewhere
+returns-then-led_elsewhere g c =
+    added-none rows (IsThenUnsettled g.K.Kind.kind g.row.DIM c.args.edit.now rows c.args.dim c.args.labels.now c.args.word c.args.change) c.args.touched.now.items
+    (λ x (old, led, (second, at, was, stood, stands, off)) _.
+    c.led_elsewhere.ensures old led c.if-led_elsewhere.true (ap (λ (j : ℕ). links_of old j c.in-Some.dart) (ap (λ (w : LinkWord). w.first) c.word.view_is) ∙ ap (links_of old c.args.word.first) (same x at) ∙ was ∙ sym (ap (λ (b : Change). b.dart) c.change-2.view_is)))
   where
     rows : Rows
     rows = c.args.links.now.rows
