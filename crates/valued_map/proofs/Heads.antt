@@ -1,7 +1,7 @@
 -- Elements that a walk has come to.
-use Rattle.std.proofs.Common.{ℕ, ◌≡◌, ◌⊎◌, ◌+◌, ◌<◌, sym, ap, subst, ◌∙◌, List, [], ◌∷◌, ◌++◌, length, get_or, take, drop, Contains, arith}
-use Rattle.std.proofs.lemmas.List.{take_more, drop_more}
-use Rattle.std.proofs.lemmas.List.Elements.{Contains-append_left, Contains-push, Contains-push_cases}
+use Rattle.std.proofs.Common.{ℕ, ◌≡◌, ◌⊎◌, ◌+◌, ◌<◌, inl, inr, sym, ap, subst, ◌∙◌, List, [], ◌∷◌, ◌++◌, length, get_or, take, drop, Contains, arith}
+use Rattle.std.proofs.lemmas.List.{take_more, drop_more, take-append-drop}
+use Rattle.std.proofs.lemmas.List.Elements.{Contains-append_left, Contains-append_right, Contains-append_cases, Contains-push, Contains-push_cases}
 
 module _ {X : Type 0} where
   -- one element more
@@ -23,3 +23,13 @@ module _ {X : Type 0} where
   -- the element and those behind it
   pub rest-is : (xs : List X) (k : ℕ) (x : X) → k < length xs → x ≡ get_or xs k x → drop k xs ≡ x ∷ drop (k + 1) xs
   rest-is xs k x h is = drop_more xs k x h ∙ ap (λ (z : X). z ∷ drop (k + 1) xs) (sym is)
+
+  -- an element stands before a place, at it, or behind it
+  pub among-parts : (xs : List X) (k : ℕ) (x y : X) → k < length xs → x ≡ get_or xs k x → Contains xs y → Contains (take k xs) y ⊎ ((x ≡ y) ⊎ Contains (drop (k + 1) xs) y)
+  among-parts xs k x y h is c = elim (Contains-append_cases (take (k + 1) xs) (drop (k + 1) xs) y (subst (λ (ys : List X). Contains ys y) (sym (take-append-drop (k + 1) xs)) c)) [
+    | inl first ↦ elim (among-more xs k x y h is first) [ inl before ↦ inl before | inr same ↦ inr (inl same) ]
+    | inr behind ↦ inr (inr behind)
+  ]
+
+  pub among-behind : (xs : List X) (k : ℕ) (y : X) → Contains (drop k xs) y → Contains xs y
+  among-behind xs k y c = subst (λ (ys : List X). Contains ys y) (take-append-drop k xs) (Contains-append_right (take k xs) (drop k xs) y c)

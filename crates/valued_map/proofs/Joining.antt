@@ -3,10 +3,10 @@ use Rattle.std.proofs.Common.{ℕ, ◌≡◌, ◌≢◌, ◌⊎◌, ◌+◌, ◌
 use Rattle.std.specs.Prelude.{IfSome}
 use Rattle.std.proofs.lemmas.Bool.{cases_eq, cases_lt}
 use Rattle.map_defs.specs.Kind.{Kind}
-use Rattle.map_defs.specs.LinkWords.{LinkWord, through, through_second, IsCellWord, IsWithin}
+use Rattle.map_defs.specs.LinkWords.{LinkWord, through, through_second, IsWithin}
 use Rattle.map_defs.specs.Links.{Links}
 use Rattle.map_defs.specs.Rows.{Rows, IsLive, IsSound, links_of, made, entry_of}
-use Rattle.map_defs.specs.Cells.{here, onward, InCell}
+use Rattle.map_defs.specs.Cells.{InCell}
 use Rattle.map_defs.specs.Edits.{Edit, IsLed}
 use Rattle.map_defs.specs.Laws.{Laws}
 use Rattle.map_defs.specs.Values.{Rule}
@@ -99,27 +99,25 @@ module _ (k : Kind) (rows : Rows) (older : ℕ) where
         ]
       ]
 
-  -- one dart is given the id of a dart to which a word leads it
-  pub grafts-one : (dim dart id : ℕ) (l m : Labeling) → older < dart → IsRelabelled l m dim dart (Some id) → m.made ≡ l.made → KeepsPlaces l m
-      → ((w : LinkWord) × IsCellWord k dim w × (through (links_of rows) w dart ≢ 0) × (id_of l dim (through (links_of rows) w dart) ≡ Some id))
-      → AreGrafted k rows older (λ i. i ≡ dim) l m
-  grafts-one dim dart id l m high given made-is places (w, word, there, is) = record { each = each; made = made-is; places = places }
+  -- one dart is given the id of a dart of its cell
+  pub grafts-one : (dim dart other id : ℕ) (l m : Labeling) → older < dart → IsRelabelled l m dim dart (Some id) → m.made ≡ l.made → KeepsPlaces l m
+      → InCell k (links_of rows) dim dart other → id_of l dim other ≡ Some id → AreGrafted k rows older (λ i. i ≡ dim) l m
+  grafts-one dim dart other id l m high given made-is places cell is = record { each = each; made = made-is; places = places }
     where
       each : (i d : ℕ) → (id_of m i d ≡ id_of l i d)
           ⊎ ((i ≡ dim) × (older < d) × (c : ℕ) × (e : ℕ) × (id_of m i d ≡ Some c) × InCell k (links_of rows) i d e × (id_of l i e ≡ Some c))
       each i d = elim (cases_eq i dim) [
-        | inr other ↦ inl (given.others i d (inl other))
+        | inr far ↦ inl (given.others i d (inl far))
         | inl dims ↦ elim (cases_eq d dart) [
-          | inr other ↦ inl (given.others i d (inr other))
+          | inr far ↦ inl (given.others i d (inr far))
           | inl darts ↦ inr (
             dims,
             subst (λ (x : ℕ). older < x) (sym darts) high,
             id,
-            through (links_of rows) w dart,
+            other,
             ap (λ (j : ℕ). id_of m j d) dims ∙ ap (id_of m dim) darts ∙ given.here,
-            subst (λ (j : ℕ). InCell k (links_of rows) j d (through (links_of rows) w dart)) (sym dims)
-                (subst (λ (x : ℕ). InCell k (links_of rows) dim x (through (links_of rows) w dart)) (sym darts) (onward here (w, word, refl, there))),
-            ap (λ (j : ℕ). id_of l j (through (links_of rows) w dart)) dims ∙ is,
+            subst (λ (j : ℕ). InCell k (links_of rows) j d other) (sym dims) (subst (λ (x : ℕ). InCell k (links_of rows) dim x other) (sym darts) cell),
+            ap (λ (j : ℕ). id_of l j other) dims ∙ is,
           )
         ]
       ]

@@ -46,9 +46,17 @@ IsFollowed k i link = (w : LinkWord) × IsCellWord k i w × ((w.first ≡ link) 
 abbrev pub IsUnsettledFrom : Kind → ℕ → Edit → Rows → ℕ → Labeling → ℕ → Type 0
 IsUnsettledFrom k n e rows i labels x = (old : Rows) × IsLed k n e old rows × Laws k (links_of old) × Laws k (links_of rows) × IsUnsettled k i old rows labels x
 
--- the word leads x to a lesser dart with another id
+-- the word leads x to a lesser dart
+abbrev pub IsLowerAlong : Rows → LinkWord → ℕ → Type 0
+IsLowerAlong rows w x = (through (links_of rows) w x ≢ 0) × (through (links_of rows) w x < x)
+
+-- it leads x to a lesser dart with another id
 abbrev pub IsApartAlong : Rows → Labeling → ℕ → LinkWord → ℕ → Type 0
 IsApartAlong rows labels i w x = (through (links_of rows) w x ≢ 0) × (through (links_of rows) w x < x) × (id_of labels i (through (links_of rows) w x) ≢ id_of labels i x)
+
+-- a dart that is lesser than x, or one to which some word leads x and that is lesser, has another id
+abbrev pub IsApartFrom : Rows → Labeling → ℕ → (LinkWord → Type 0) → ℕ → ℕ → Type 0
+IsApartFrom rows labels i Words lesser x = (id_of labels i lesser ≢ id_of labels i x) ⊎ ((w : LinkWord) × Words w × IsApartAlong rows labels i w x)
 
 -- a word along which i-cells run does
 abbrev pub LeadsApart : Kind → ℕ → Rows → Labeling → ℕ → Type 0

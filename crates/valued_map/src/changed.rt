@@ -3,10 +3,11 @@
 ghost use Rattle.std.specs.Prelude.{◌≡◌, ◌≢◌, ◌↔◌, ℕ, ◌+◌, ◌-◌, ◌≤◌, ◌<◌, length, map, Contains, IsTrue, IsNone, IsSome, IfOk, IfSome, Some, None, OnOk, slice_index};
 ghost use Rattle.map_defs.specs.LinkWords.{LinkWord as MapWord, through, IsCellWord, IsWithin};
 ghost use Rattle.map_defs.specs.Rows.{IsLive, IsSound, links_of, made};
+ghost use Rattle.map_defs.specs.Cells.{InCell};
 ghost use Rattle.store_defs.specs.Labelings.{id_of, HasPlaces};
 ghost use Rattle.store_defs.specs.Groups.{darts_in, rule_at};
 ghost use Rattle.label_laws.specs.Touching.{AreGrafted, IsBornApart};
-ghost use Rattle.valued_map.specs.Changing.{AreAdded, IsListPut, IsApartAlong, LeadsApart, IsUnsettledFrom, IsChangedIn};
+ghost use Rattle.valued_map.specs.Changing.{AreAdded, IsListPut, IsLowerAlong, IsApartAlong, IsApartFrom, LeadsApart, IsUnsettledFrom, IsChangedIn};
 
 use crate::passing::may_touch;
 use crate::rules::has_rule;
@@ -147,8 +148,8 @@ fn graft_born<K: Kind, const DIM: usize>(
     Ok(())
 }
 
-/// Gives the dart of a number an id of a dart to which some word leads it, if there is one, and adds it where some word leads
-/// it to a lesser dart with another id.
+/// Gives the dart of a number an id of a lesser dart to which some word leads it, if there is one, and adds it where some word
+/// leads it to a lesser dart with another id. The darts from it on have no ids yet.
 fn graft<K: Kind, const DIM: usize>(
     links: &Links<K, DIM>,
     labels: &mut Labels<DIM>,
@@ -161,7 +162,7 @@ fn graft<K: Kind, const DIM: usize>(
     requires dim { dim ≤ DIM }
     requires number { number ≤ labels.old.made }
     requires placed { HasPlaces labels.old dim }
-    requires bare { id_of labels.old dim number ≡ None }
+    requires bare { (d : ℕ) → number ≤ d → id_of labels.old dim d ≡ None }
     requires words { (w : MapWord) → Contains words.now w ↔ (IsCellWord K.kind dim w × IsWithin DIM w) }
     ensures grafted { (older : ℕ) → older < number → AreGrafted K.kind links.now.rows older (λ i. i ≡ dim) labels.old labels.new }
     ensures others { (j d : ℕ) → d ≢ number → id_of labels.new j d ≡ id_of labels.old j d }
@@ -175,14 +176,102 @@ fn graft<K: Kind, const DIM: usize>(
     let Some(row) = links.row(dart) else {
         return Ok(());
     };
+    for (index, word) in words.iter().enumerate() {
+        if let Some(lesser) = lesser_along(links, *word, row, dart) {
+            let behind = &words[index + 1..];
+            return join(links, labels, dim, behind, row, dart, lesser, touched);
+        }
+    }
+    Ok(())
+}
+
+/// The lesser dart to which a word leads a dart with this row, if it leads to one.
+fn lesser_along<K: Kind, const DIM: usize>(
+    links: &Links<K, DIM>,
+    word: LinkWord,
+    row: &Row<DIM>,
+    dart: Dart,
+) -> Option<Dart>
+    requires row { (t : ℕ) → slice_index row.now t ≡ links_of links.now.rows t dart }
+    requires word { IsWithin DIM word }
+    ensures none { IsNone result → IsLowerAlong links.now.rows word dart → ⊥ }
+    ensures some { IfSome result (λ lesser. (lesser ≡ through (links_of links.now.rows) word dart) × IsLowerAlong links.now.rows word dart) }
+{
+    let number = number_along(links, word, row, dart);
+    if number >= dart.number() {
+        return None;
+    }
+    Dart::new(number)
+}
+
+/// Gives a dart with this row the id of a lesser dart of its cell, or else one of a dart to which some words lead it, and adds
+/// it where that lesser dart, or one to which a word leads, has another id.
+fn join<K: Kind, const DIM: usize>(
+    links: &Links<K, DIM>,
+    labels: &mut Labels<DIM>,
+    dim: usize,
+    words: &[LinkWord],
+    row: &Row<DIM>,
+    dart: Dart,
+    lesser: Dart,
+    touched: &mut Vec<Dart>,
+) -> Result<(), AllocError>
+    requires sound { IsSound K.kind DIM links.now.rows }
+    requires dim { dim ≤ DIM }
+    requires dart { dart ≤ labels.old.made }
+    requires placed { HasPlaces labels.old dim }
+    requires bare { id_of labels.old dim dart ≡ None }
+    requires row { (t : ℕ) → slice_index row.now t ≡ links_of links.now.rows t dart }
+    requires words { (w : MapWord) → Contains words.now w → IsCellWord K.kind dim w × IsWithin DIM w }
+    requires lesser { lesser < dart }
+    requires cell { InCell K.kind (links_of links.now.rows) dim dart lesser }
+    ensures grafted { (older : ℕ) → older < dart → AreGrafted K.kind links.now.rows older (λ i. i ≡ dim) labels.old labels.new }
+    ensures others { (j d : ℕ) → d ≢ dart → id_of labels.new j d ≡ id_of labels.old j d }
+    ensures added { OnOk result (AreAdded links.now.rows (λ x. (x ≡ dart)
+        × IsApartFrom links.now.rows labels.new dim (Contains words.now) lesser dart) touched.old.items touched.new.items) }
+{
+    let Some(id) = labels.id(dim, lesser) else {
+        return join_apart(links, labels, dim, words, row, dart, touched);
+    };
+    labels.put(dim, dart, Some(id));
+    // A map has links 0 to 8 at most.
+    links.see_sound();
+    if !leads_apart(links, labels, dim, words, row, dart, id) {
+        return Ok(());
+    }
+    add_live(links, dart.number(), touched)
+}
+
+/// Gives a dart with this row the id of a dart to which some words lead it, if one of these has an id, and adds it then.
+fn join_apart<K: Kind, const DIM: usize>(
+    links: &Links<K, DIM>,
+    labels: &mut Labels<DIM>,
+    dim: usize,
+    words: &[LinkWord],
+    row: &Row<DIM>,
+    dart: Dart,
+    touched: &mut Vec<Dart>,
+) -> Result<(), AllocError>
+    requires sound { IsSound K.kind DIM links.now.rows }
+    requires dim { dim ≤ DIM }
+    requires dart { dart ≤ labels.old.made }
+    requires placed { HasPlaces labels.old dim }
+    requires bare { id_of labels.old dim dart ≡ None }
+    requires row { (t : ℕ) → slice_index row.now t ≡ links_of links.now.rows t dart }
+    requires words { (w : MapWord) → Contains words.now w → IsCellWord K.kind dim w × IsWithin DIM w }
+    ensures grafted { (older : ℕ) → older < dart → AreGrafted K.kind links.now.rows older (λ i. i ≡ dim) labels.old labels.new }
+    ensures others { (j d : ℕ) → d ≢ dart → id_of labels.new j d ≡ id_of labels.old j d }
+    ensures bare { id_of labels.new dim dart ≡ None → (w : MapWord) → Contains words.now w → through (links_of links.now.rows) w dart ≢ 0
+        → id_of labels.new dim (through (links_of links.now.rows) w dart) ≡ None }
+    ensures added { OnOk result (AreAdded links.now.rows (λ x. (x ≡ dart) × (id_of labels.new dim dart ≢ None)) touched.old.items touched.new.items) }
+{
+    // A map has links 0 to 8 at most.
+    links.see_sound();
     let Some(id) = id_beside(links, labels, dim, words, row, dart) else {
         return Ok(());
     };
     labels.put(dim, dart, Some(id));
-    if !leads_apart(links, labels, dim, words, row, dart, id) {
-        return Ok(());
-    }
-    add_live(links, number, touched)
+    add_live(links, dart.number(), touched)
 }
 
 /// The id of a dart to which one of some words leads a dart, if one of these has an id. The dart has this row.

@@ -18,7 +18,7 @@ graft-requires g c =
             c.requires.dim,
             (
               omega (arith, c.loop-number-test.true, c.made-number-end.ensures.made, c.requires.long, grafted.made),
-              ((grafted.places c.args.dim).1 c.requires.placed, (c.loop-number.invariant.3 c.loop-number.number (omega arith), c.requires.words)),
+              ((grafted.places c.args.dim).1 c.requires.placed, (c.loop-number.invariant.3, c.requires.words)),
             ),
           ),
         ),
