@@ -17,6 +17,7 @@ const TURNS: usize = 2;
 
 /// Whether a dart needs no look along a word that leads it to the dart of one number, and led it before to that of another, 0
 /// for none. A no says nothing.
+#[inline(always)]
 pub(crate) fn is_settled<K: Kind, const DIM: usize>(
     links: &Links<K, DIM>,
     labels: &Labels<DIM>,
@@ -61,6 +62,7 @@ fn is_kept<K: Kind, const DIM: usize>(
 
 /// Whether few steps along words of a dimension's cells lead from one dart to another, without the dart `start`. A no says
 /// nothing. It takes no memory, and costs so few steps however large the cell.
+#[inline(never)]
 fn is_near<K: Kind, const DIM: usize>(
     links: &Links<K, DIM>,
     dim: usize,
