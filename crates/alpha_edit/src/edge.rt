@@ -7,7 +7,9 @@ ghost use Rattle.map_defs.specs.Insertion.{AreOnOneSide, AlphaEdgeDarts, AlphaEd
 ghost use Rattle.sewing.specs.Triples.{Lists, IsAscending};
 ghost use Rattle.cell_edit.specs.Planning.{PlansEdge};
 
-use cell_edit::{are_in_one_alpha_corner, corners, insertion_edit, insertion_pairs, is_near, leads};
+use cell_edit::{
+    are_in_one_alpha_corner, corners, insertion_edit, insertion_pairs, is_near, leads,
+};
 use link_rows::{Edit, Links};
 use map_kind::{Alpha, Dart, Refusal, Refused};
 use sewing::{PairFault, Triple};
