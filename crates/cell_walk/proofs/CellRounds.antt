@@ -1,5 +1,5 @@
 -- Walks around the cells of a dimension, by ways or along words.
-use Rattle.std.proofs.Common.{◌≢◌, ℕ, ◌↔◌, List, refl, sym, ◌∙◌}
+use Rattle.std.proofs.Common.{◌≡◌, ◌≢◌, ℕ, zero, suc, ◌<◌, ◌↔◌, List, [], ◌∷◌, Contains, slice_index_or, refl, sym, ◌∙◌, inl, inr, arith}
 use Rattle.map_defs.specs.Kind.{Kind}
 use Rattle.map_defs.specs.LinkWords.{LinkWord, IsCellWord, IsWithin}
 use Rattle.map_defs.specs.Cells.{InOrbit, Leads, InCell}
@@ -42,3 +42,16 @@ pub course-words : (k : Kind) (n i : ℕ) (words : List LinkWord) (course : Cour
 course-words k n i words (Round ways) other along = absurd (other ways refl)
 course-words k n i words Links other along = along
 course-words k n i words Words other along = (along, tt)
+
+-- a list of two words has one or the other
+pub two-either : (v w u : LinkWord) → Contains (v ∷ w ∷ []) u ↔ IsEither v w u
+two-either v w u = (λ has. to has.0 has.1 has.2, from)
+  where
+    to : (at : ℕ) → at < 2 → slice_index_or (v ∷ w ∷ []) at u ≡ u → IsEither v w u
+    to zero low is = inl (sym is)
+    to (suc zero) low is = inr (sym is)
+    to (suc (suc at)) low is = absurd (omega (arith, low))
+
+    from : IsEither v w u → Contains (v ∷ w ∷ []) u
+    from (inl is) = (0, omega arith, sym is)
+    from (inr is) = (1, omega arith, sym is)

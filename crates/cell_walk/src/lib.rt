@@ -20,4 +20,5 @@ pub use around::CellWalk;
 pub use one_cell::{cell, cells_of, least, same};
 pub use orbits::{follow, orbit, orbits_of};
 pub use search::reaches;
+pub use surface::surface_words;
 pub use whole_map::{CellLists, cell_lists, cells, components, counts};

@@ -74,13 +74,18 @@ fn go_on_links<K: Kind, const DIM: usize>(
     requires end { Contains darts.old.items end }
     ensures { OnOk result (IsFollowed K.kind (links_of links.now.rows) (one_link next) (one_link after) dart darts.old.items darts.new.items) }
 {
+    // Links name live darts.
     links.see_sound();
-    let mut turn = (next, after);
+    let mut number = links.number_at(dart, next);
     let mut at = dart;
-    while let Some(next) = onward(links.number_at(at, turn.0), at, end) {
-        darts.push(next)?;
-        at = next;
-        turn = (turn.1, turn.0);
+    while let Some(middle) = onward(number, at, end) {
+        darts.push(middle)?;
+        let Some(reached) = onward(links.live_row(middle).entry(after), middle, end) else {
+            return Ok(());
+        };
+        darts.push(reached)?;
+        number = links.live_row(reached).entry(next);
+        at = reached;
     }
     Ok(())
 }

@@ -1,11 +1,21 @@
-//! The ways of the cells of surfaces, whose orbits are all paths and rings.
-ghost use Rattle.std.specs.Prelude.{◌≡◌, ◌≤◌};
+//! The words and the ways of the cells of surfaces, whose orbits are all paths and rings.
+ghost use Rattle.std.specs.Prelude.{◌≡◌, ◌≤◌, ◌↔◌, Contains};
 ghost use Rattle.map_defs.specs.Kind.{alpha, beta};
-ghost use Rattle.map_defs.specs.LinkWords.{one_link};
+ghost use Rattle.map_defs.specs.LinkWords.{LinkWord as MapWord, one_link, IsCellWord, IsWithin};
 ghost use Rattle.cell_walk.specs.CellCourses.{AreCellWays};
 
 use crate::ways::{Way, Ways};
 use map_kind::{Kind, LinkWord, is_generalized};
+
+/// The words of the cells of dimension `dim`, from 0 to 2, of a map of dimension 2: the words that `Kind::words` lists, but without
+/// memory. An edge of a combinatorial map has one word, which stands twice.
+pub fn surface_words<K: Kind>(dim: usize) -> [LinkWord; 2]
+    requires { dim ≤ 2 }
+    ensures { (w : MapWord) → Contains result w ↔ (IsCellWord K.kind dim w × IsWithin 2 w) }
+{
+    let ways = surface_ways::<K>(dim);
+    [ways.forth.next, ways.back.next]
+}
 
 /// The ways along the words of the cells of dimension `dim` of a surface.
 pub(crate) fn surface_ways<K: Kind>(dim: usize) -> Ways

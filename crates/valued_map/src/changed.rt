@@ -13,6 +13,7 @@ use crate::passing::may_touch;
 use crate::rules::has_rule;
 use crate::touched::{add_live, add_touched, number_along};
 use attr_pool::{AttrId, Labels};
+use cell_walk::surface_words;
 use link_rows::{Edit, Links, Row};
 use map_kind::{Dart, Kind, LinkWord};
 use std::alloc::{AllocError, Global};
@@ -115,10 +116,43 @@ fn changed_in<K: Kind, const DIM: usize>(
     if !may_touch(links, &edit.changes, older, dim) {
         return Ok(Vec::new(alloc));
     }
+    if links.dimension() == 2 {
+        let words = surface_words::<K>(dim);
+        return changed_along(alloc, links, labels, edit, older, dim, &words);
+    }
     let words = K::words(alloc, links.dimension(), dim)?;
+    changed_along(alloc, links, labels, edit, older, dim, &words)
+}
+
+/// The darts whose cells an edit may have changed in a dimension, the words of whose cells these are. The darts up to the number
+/// `older` were made before the edit.
+fn changed_along<K: Kind, const DIM: usize>(
+    alloc: Global,
+    links: &Links<K, DIM>,
+    labels: &mut Labels<DIM>,
+    edit: &Edit,
+    older: u32,
+    dim: usize,
+    words: &[LinkWord],
+) -> Result<Vec<Dart>, AllocError>
+    requires older { older + edit.now.births ≡ made links.now.rows }
+    requires sound { IsSound K.kind DIM links.now.rows }
+    requires low { 2 ≤ DIM }
+    requires dim { dim ≤ DIM }
+    requires long { made links.now.rows ≤ labels.old.made }
+    requires placed { HasPlaces labels.old dim }
+    requires bare { (d : ℕ) → older < d → id_of labels.old dim d ≡ None }
+    requires words { (w : MapWord) → Contains words.now w ↔ (IsCellWord K.kind dim w × IsWithin DIM w) }
+    ensures grafted { AreGrafted K.kind links.now.rows older (λ i. i ≡ dim) labels.old labels.new }
+    ensures live { IfOk result (λ changed. (x : ℕ) → Contains changed.items x → IsLive links.now.rows x) }
+    ensures unsettled { IfOk result (λ changed. (x : ℕ)
+        → IsUnsettledFrom K.kind DIM edit.now links.now.rows dim labels.new x → Contains changed.items x) }
+    ensures apart { IfOk result (λ changed. (x : ℕ)
+        → IsBornApart K.kind dim links.now.rows older labels.new x → Contains changed.items x) }
+{
     let mut touched = Vec::new(alloc);
-    graft_born(links, labels, older, dim, &words, &mut touched)?;
-    add_touched(links, labels, edit, older, dim, &words, &mut touched)?;
+    graft_born(links, labels, older, dim, words, &mut touched)?;
+    add_touched(links, labels, edit, older, dim, words, &mut touched)?;
     Ok(touched)
 }
 
