@@ -1,5 +1,5 @@
-//! The program `cellmap`: it obeys a script over a map, or audits, halves or doubles the map of a listing, and writes what answers
-//! that to standard output.
+//! The program `cellmap`: it obeys a script over a map, audits, halves or doubles the map of a listing, or obeys the lines of a soak,
+//! and writes what answers that to standard output.
 //!
 //! All that it does is the call of `map_run::run`, over the files of the system and the standard output, with the rules that
 //! it hands in: `host` is two closures, and `xor` and `span` are boxed. The exit status is the one that this call answers.
@@ -18,7 +18,7 @@ use std::rt::Env;
 /// The status where there is no memory for the words themselves, or for the rules.
 const NO_MEMORY: u8 = 7;
 
-/// The program's words, its own name left out. Words that are no text are none, and so no command.
+/// The program's words, its own name left out; none where one of them is not UTF-8, which is no command.
 fn words(rt: &(impl Env + AllocGlobal)) -> Result<Vec<String>, AllocError> {
     let mut words = Vec::new(rt.alloc());
     match env::args(rt) {
@@ -33,7 +33,7 @@ fn words(rt: &(impl Env + AllocGlobal)) -> Result<Vec<String>, AllocError> {
     }
 }
 
-/// Answers the words with the rules that this program hands in.
+/// Answers the words with the rules that this program hands in. Were a book of them refused, `host` alone would be handed in.
 fn status(rt: HostRuntime, words: &[String]) -> Result<u8, AllocError> {
     let alloc = rt.alloc();
     let mut shelf = FileShelf::new(&rt);

@@ -30,7 +30,7 @@ pub trait Plans<L: LinkStore>: Kind {
         requires laws { Laws Self.kind (links_of (L.rows links.now)) }
         ensures { PlansEdge Self.kind L.dim (L.rows links.now) one other result };
 
-    /// The edit that inserts a face into a volume along a closed path, which is given by one dart at the begin of each of its
+    /// The edit that inserts a face into a volume along a closed path, which is given by one dart at the start of each of its
     /// sides.
     ///
     /// `OtherCell` comes exactly where the darts do not lie on one side of one volume; then `NotClosed` exactly where some

@@ -57,7 +57,7 @@ impl<'h, K: Edits<DIM>, H: Hook, const DIM: usize> Map<'h, K, H, DIM> {
         self.insert(alloc, &edit)
     }
 
-    /// Puts a face into a volume along a closed path of 1 to `PATH_MAX` darts, one at the begin of each of its sides. Each dart of
+    /// Puts a face into a volume along a closed path of 1 to `PATH_MAX` darts, one at the start of each of its sides. Each dart of
     /// these sides, with their copies on the other volumes, gets a new dart, numbered on from those that were made in the
     /// order of the sides' darts; the answer tells them. The values of the cells are carried to the new cells. It costs
     /// the darts of the path's vertices and sides, and the cells of the sides' darts where a dimension has a rule, times a

@@ -2,8 +2,8 @@
 //!
 //! Each call does what the plain map machine does for its line: it gives the same answer, it is refused exactly where
 //! the machine refuses the line and with the same refusal, and it leaves the same state. Only want of memory is the
-//! call's own, and it leaves the state as it was. The numbers that calls take are those of a script: any u64, where 0
-//! and whatever names no live dart is refused.
+//! call's own, and it leaves the state as it was. The numbers that calls take are those of a script: any u64; as a dart, 0
+//! and whatever else names no live dart is refused.
 #![tactic(auto)]
 
 mod change;

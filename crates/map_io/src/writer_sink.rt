@@ -16,9 +16,9 @@ const CAPACITY: usize = 65536;
 /// A sink over a writer.
 ///
 /// It gathers short pieces, and hands them on where there are many or where it is flushed. A writer that fails, or that
-/// takes nothing of some bytes, is a fault, and nothing else is. The faults are counted until the count stands at the
-/// last number of 64 bits. After its first fault a sink hands nothing on and fails at each call, so the writer has a
-/// front of the text.
+/// takes nothing of some bytes, is a fault, and so is each call after the first fault; nothing else is. The faults are counted
+/// until the count stands at the last number of 64 bits. After its first fault a sink hands nothing on, so the writer has a front
+/// of the text.
 ///
 /// It tells the text that it took if the writer tells what it holds. What was not flushed is lost where a sink is
 /// dropped.

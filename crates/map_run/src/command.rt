@@ -45,11 +45,11 @@ pub struct RunScript<'a> {
     pub script: &'a str,
 }
 
-/// The command `soak KIND SEED COUNT`: obey the lines for so many squares that are drawn from a number, and write a summary.
+/// The command `soak KIND SEED COUNT`: obey the lines for so many squares, drawn from a number, and write a summary.
 #[derive(Clone, Copy, Debug, PartialEq, Eq)]
 pub struct SoakSquares {
     pub kind: MapKind,
-    /// The number that the first one is made from.
+    /// The number from which the draws begin.
     pub seed: u32,
     /// How many squares are made.
     pub count: u32,

@@ -78,7 +78,7 @@ fn answer<F: Shelf, S: Sink, H: Hook>(
     }
 }
 
-/// What `run` does, with all that is said of it but that nothing else is free.
+/// What `run` does, with all clauses of it but `complete`.
 fn serve<F: Shelf, S: Sink, H: Hook>(
     alloc: Global,
     words: &[String],

@@ -29,8 +29,8 @@ pub struct Summary {
     pub counts: Vec<u64>,
 }
 
-/// Has the empty map of dimension 2 obey the rule `sum share` for faces and then the lines for so many squares, which numbers
-/// choose that are drawn from `seed`.
+/// Has the empty map of dimension 2 obey the rule `sum share` for faces and then the lines for so many squares, as numbers choose
+/// them that are drawn from `seed`.
 pub fn soak<K: Edits<2>, H: Hook>(
     alloc: Global,
     hook: &H,

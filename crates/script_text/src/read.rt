@@ -169,7 +169,7 @@ fn read_numbers_line(first: &[u8], text: &[u8]) -> Option<Line>
     }
 }
 
-/// Whether a word is this one. Byte by byte, since a name is known where this is called, and has few.
+/// Whether a word is this name. They are compared byte by byte: a name is short, and known where this is called.
 fn is(word: &[u8], name: &[u8]) -> bool
     ensures { result ≡ bytes_eq word.now name.now }
 {

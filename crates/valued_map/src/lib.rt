@@ -1,7 +1,7 @@
 //! The links of a map with the values of its cells and the rules by which these are carried, and all that changes them
 //! together.
 //!
-//! Nothing is known here of the lines of a script, nor of marks. A change answers what it changed where it is asked for, as
+//! Nothing is known here of the lines of a script, nor of where marks stand: a listing is handed their names. A change answers what it changed where it is asked for, as
 //! the step that a log shows, and steps can be taken back and put forward.
 #![tactic(auto)]
 
