@@ -1,9 +1,7 @@
 use Rattle.std.proofs.Common.{ℕ, ◌≡◌, ◌-◌, ◌↔◌, List, Contains, lit<, sym, ap, subst, ◌∙◌, arith}
 use Rattle.std.proofs.lemmas.Bool.{false≢true}
 use Rattle.map_defs.specs.LinkWords.{LinkWord, IsCellWord, IsWithin}
-use Rattle.map_defs.specs.Rows.{made}
 use Rattle.map_defs.specs.Edits.{Change, Edit}
-use Rattle.label_laws.specs.Touching.{AreGrafted}
 use Rattle.valued_map.proofs.Rerouting.{none-unsettled}
 use Rattle.valued_map.proofs.changed.changed_in.Goals as goal
 
@@ -16,26 +14,29 @@ returns-then-not-may_touch-clause-unsettled g c = λ x from.
     (λ b here old live followed. false≢true (sym c.if-not-may_touch.true ∙ c.may_touch.ensures b (subst (λ (bs : List Change). Contains bs b) (sym same) here) old live followed))
     x from)
 
-pub graft_born-requires : goal.graft_born-requires
-graft_born-requires g c =
-    let births-is : c.edit.inside.births ≡ c.args.edit.now.births = ap (λ (e : Edit). e.births) c.edit.view_is in (
+pub changed_along-requires : goal.changed_along-requires
+changed_along-requires g c =
+    let births-is : c.edit.inside.births ≡ c.args.edit.now.births = ap (λ (e : Edit). e.births) c.edit.view_is in
+    let two : 2 ≡ g.row.DIM = omega (arith, c.dimension.ensures.dimension, c.if-dimension-eq2.true) in (
       lit< tt,
       (
         lit< tt,
         (
-          c.made.ensures.sound,
+          omega (arith, c.requires.births, c.made.ensures.made, births-is),
           (
-            omega (arith, c.made.ensures.made),
+            c.made.ensures.sound,
             (
-              c.requires.dim,
+              c.made.ensures.low,
               (
-                c.requires.long,
+                c.requires.dim,
                 (
-                  c.requires.placed,
+                  c.requires.long,
                   (
-                    λ d high. c.requires.bare d (omega (arith, c.made.ensures.made, births-is)),
-                    λ w. subst (λ (ws : List LinkWord). Contains ws w ↔ (IsCellWord g.K.Kind.kind c.args.dim w × IsWithin g.row.DIM w)) (sym c.deref-2.ensures.value)
-                        (subst (λ (d : ℕ). Contains c.in_ok-words.words.items w ↔ (IsCellWord g.K.Kind.kind c.args.dim w × IsWithin d w)) c.dimension.ensures.dimension (c.in_ok-words.ensures w)),
+                    c.requires.placed,
+                    (
+                      λ d high. c.requires.bare d (omega (arith, c.made.ensures.made, births-is)),
+                      λ w. subst (λ (d : ℕ). Contains c.surface_words-words.result w ↔ (IsCellWord g.K.Kind.kind c.args.dim w × IsWithin d w)) two (c.surface_words-words.ensures w),
+                    ),
                   ),
                 ),
               ),
@@ -45,37 +46,34 @@ graft_born-requires g c =
       ),
     )
 
-pub add_touched-requires : goal.add_touched-requires
-add_touched-requires g c =
+pub changed_along-requires-2 : goal.changed_along-requires-2
+changed_along-requires-2 g c =
     let births-is : c.edit.inside.births ≡ c.args.edit.now.births = ap (λ (e : Edit). e.births) c.edit.view_is in (
       lit< tt,
       (
         lit< tt,
         (
-          c.made.ensures.low,
+          omega (arith, c.requires.births, c.made.ensures.made, births-is),
           (
             c.made.ensures.sound,
             (
-              omega (arith, c.requires.births, c.made.ensures.made, births-is),
-              λ w. subst (λ (ws : List LinkWord). Contains ws w ↔ (IsCellWord g.K.Kind.kind c.args.dim w × IsWithin g.row.DIM w)) (sym c.deref-3.ensures.value)
-                  (subst (λ (d : ℕ). Contains c.in_ok-words.words.items w ↔ (IsCellWord g.K.Kind.kind c.args.dim w × IsWithin d w)) c.dimension.ensures.dimension (c.in_ok-words.ensures w)),
+              c.made.ensures.low,
+              (
+                c.requires.dim,
+                (
+                  c.requires.long,
+                  (
+                    c.requires.placed,
+                    (
+                      λ d high. c.requires.bare d (omega (arith, c.made.ensures.made, births-is)),
+                      λ w. subst (λ (ws : List LinkWord). Contains ws w ↔ (IsCellWord g.K.Kind.kind c.args.dim w × IsWithin g.row.DIM w)) (sym c.deref-2.ensures.value)
+                          (subst (λ (d : ℕ). Contains c.in_ok-words.words.items w ↔ (IsCellWord g.K.Kind.kind c.args.dim w × IsWithin d w)) c.dimension-2.ensures.dimension (c.in_ok-words.ensures w)),
+                    ),
+                  ),
+                ),
+              ),
             ),
           ),
         ),
       ),
     )
-
-pub returns-in_err-add_touched-clause-grafted : goal.returns-in_err-add_touched-clause-grafted
-returns-in_err-add_touched-clause-grafted g c =
-    let births-is : c.edit.inside.births ≡ c.args.edit.now.births = ap (λ (e : Edit). e.births) c.edit.view_is in
-    let older-is : c.made.result - c.edit.inside.births ≡ made c.args.links.now.rows - c.args.edit.now.births = omega (arith, c.made.ensures.made, births-is) in
-    subst (λ (o : ℕ). AreGrafted g.K.Kind.kind c.args.links.now.rows o (λ i. i ≡ c.args.dim) c.args.labels.now c.graft_born.new.labels) older-is c.graft_born.ensures.grafted
-
-pub returns-clause-grafted : goal.returns-clause-grafted
-returns-clause-grafted g c =
-    let births-is : c.edit.inside.births ≡ c.args.edit.now.births = ap (λ (e : Edit). e.births) c.edit.view_is in
-    let older-is : c.made.result - c.edit.inside.births ≡ made c.args.links.now.rows - c.args.edit.now.births = omega (arith, c.made.ensures.made, births-is) in
-    subst (λ (o : ℕ). AreGrafted g.K.Kind.kind c.args.links.now.rows o (λ i. i ≡ c.args.dim) c.args.labels.now c.graft_born.new.labels) older-is c.graft_born.ensures.grafted
-
-pub returns-clause-unsettled : goal.returns-clause-unsettled
-returns-clause-unsettled g c = λ x from. c.in_ok-add_touched.ensures.all x from from.4.1
