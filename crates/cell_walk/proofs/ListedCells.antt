@@ -10,7 +10,6 @@ use Rattle.flat_lists.proofs.CutLists.{cut-push}
 use Rattle.link_laws.proofs.Orbits.{orbit_trans}
 use Rattle.cell_walk.specs.CellLists.{AreListsOf}
 use Rattle.cell_walk.specs.Surveys.{IsSurveyed}
-use Rattle.cell_walk.proofs.Walks.{orbit-alone}
 use Rattle.cell_walk.proofs.SurveyFacts.{IsWalkable, orbit-turns}
 
 module _ (Belongs : ℕ → ℕ → Type 0) where
@@ -100,14 +99,6 @@ module _ (Step : ℕ → ℕ → Type 0) (Live : ℕ → Type 0) (walkable : IsW
         λ old. (let e = survey.met y (subst (λ (xs : List ℕ). Contains xs y) same old) in
             unknown (survey.all e.0 d e.1 e.2 (orbit_trans Step e.0 y d e.3 (orbit-turns Step Live walkable d y live orbit)))),
       )
-
--- what a walk from nothing finds is the orbit
-pub orbit-found : (Step : ℕ → ℕ → Type 0) (d : ℕ) (found new list : List ℕ) → found ≡ [] → ((y : ℕ) → Contains new y ↔ (Contains found y ⊎ InOrbit Step d y))
-    → ((y : ℕ) → Contains list y ↔ Contains new y) → (y : ℕ) → Contains list y ↔ InOrbit Step d y
-orbit-found Step d found new list empty grown members y = (
-  λ has. orbit-alone Step d y (subst (λ (xs : List ℕ). Contains xs y ⊎ InOrbit Step d y) empty ((grown y).0 ((members y).0 has))),
-  λ orbit. (members y).1 ((grown y).1 (inr orbit)),
-)
 
 -- the lists of all darts
 pub lists-all : (Belongs : ℕ → ℕ → Type 0) (darts : List ℕ) (i : ℕ) (lists : List (List ℕ)) → length darts ≤ i → AreListsOf Belongs (take i darts) lists → AreListsOf Belongs darts lists

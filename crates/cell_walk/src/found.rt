@@ -91,16 +91,6 @@ impl<S: Seen> Found<S> {
         self.seen.put(&mut self.darts, dart)
     }
 
-    /// The darts that were found, ascending, in memory of their own.
-    pub(crate) fn ascending(&self, alloc: Global) -> Result<Vec<Dart>, AllocError>
-        ensures members { IfOk result (λ darts. (d : ℕ) → Contains darts.items d ↔ Contains self.now d) }
-        ensures ascending { IfOk result (λ darts. IsStrictlyIncreasing darts.items) }
-    {
-        let mut sorted = Vec::from_slice(alloc, &self.darts)?;
-        sorted.sort_unstable();
-        Ok(sorted)
-    }
-
     /// The darts that were found, ascending.
     pub(crate) fn into_ascending(self) -> Vec<Dart>
         ensures members { (d : ℕ) → Contains result.items d ↔ Contains self d }

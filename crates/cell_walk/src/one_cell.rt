@@ -5,7 +5,6 @@ ghost use Rattle.map_defs.specs.Cells.{InCell, NamesCell};
 ghost use Rattle.cell_walk.specs.CellLists.{AreCellsOf};
 
 use crate::around::CellWalk;
-use crate::orbits::each_orbit;
 use flat_lists::Lists;
 use link_rows::Links;
 use map_kind::{Dart, Kind};
@@ -26,7 +25,7 @@ pub fn cell<K: Kind, const DIM: usize>(
 }
 
 /// The cells of dimension `dim` of these darts, in the same order: the darts of each, ascending. It costs the sizes of the
-/// cells times a logarithm, and less than so many calls of `cell`.
+/// cells times a logarithm. How walks go around such cells is found out once.
 pub fn cells_of<K: Kind, const DIM: usize>(
     alloc: Global,
     links: &Links<K, DIM>,
@@ -36,8 +35,12 @@ pub fn cells_of<K: Kind, const DIM: usize>(
     requires { dim ≤ DIM }
     ensures { IfOk result (λ cells. AreCellsOf K.kind (links_of links.now.rows) dim darts.now cells) }
 {
-    let cell_words = K::words(alloc, links.dimension(), dim)?;
-    each_orbit(alloc, links, &cell_words, darts)
+    let walk = CellWalk::new(alloc, links, dim)?;
+    let mut cells = Lists::new(alloc);
+    for dart in darts {
+        cells.push(&walk.cell(alloc, links, *dart)?)?;
+    }
+    Ok(cells)
 }
 
 /// Whether two darts lie in the same cell of dimension `dim`. It costs the size of the first dart's cell times a

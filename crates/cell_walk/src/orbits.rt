@@ -5,13 +5,11 @@ ghost use Rattle.map_defs.specs.LinkWords.{LinkWord as MapWord, through, IsWithi
 ghost use Rattle.map_defs.specs.Cells.{InOrbit, Leads};
 ghost use Rattle.cell_walk.specs.Visits.{IsDartAdded, IsVisited, IsClosed};
 ghost use Rattle.cell_walk.specs.Ways.{IsLink, IsCourse};
-ghost use Rattle.cell_walk.specs.CellLists.{AreOrbitsOf};
 
 use crate::found::Found;
 use crate::rounds::round;
 use crate::seen::{Few, Seen};
 use crate::ways::{Course, course_along, go_round};
-use flat_lists::Lists;
 use link_rows::{Links, Row};
 use map_kind::{Dart, Kind, LinkWord};
 use std::alloc::{AllocError, Global};
@@ -77,27 +75,6 @@ pub fn orbits_of<K: Kind, const DIM: usize>(
         walk_unless(links, words, &course, *dart, &mut found)?;
     }
     Ok(found.into_ascending())
-}
-
-/// The orbits of these darts under some words, in the same order. One walk uses the memory of the one before.
-pub(crate) fn each_orbit<K: Kind, const DIM: usize>(
-    alloc: Global,
-    links: &Links<K, DIM>,
-    words: &[LinkWord],
-    darts: &[Dart],
-) -> Result<Lists<Dart>, AllocError>
-    requires { All (IsWithin DIM) words.now }
-    ensures { IfOk result (λ orbits. AreOrbitsOf (Leads (links_of links.now.rows) (Contains words.now)) darts.now orbits) }
-{
-    let course = course_along::<K>(words);
-    let mut found = Found::<Few>::new(alloc);
-    let mut orbits = Lists::new(alloc);
-    for first in darts {
-        found.restart(0)?;
-        walk(links, words, &course, *first, &mut found)?;
-        orbits.push(&found.ascending(alloc)?)?;
-    }
-    Ok(orbits)
 }
 
 /// Finds the orbit of a dart, besides what was found before, unless the dart was.

@@ -1,4 +1,4 @@
-use Rattle.std.proofs.Common.{◌≡◌, ◌-◌, ◌≤◌, length}
+use Rattle.std.proofs.Common.{◌≡◌, ◌-◌, length}
 use Rattle.map_defs.specs.Rows.{links_of}
 use Rattle.map_defs.specs.LinkWords.{one_link}
 use Rattle.cell_walk.proofs.OnWays.{IsOnWay}
