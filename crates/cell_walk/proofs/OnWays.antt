@@ -1,5 +1,5 @@
 -- A walk along two words that take turns: what was found on the way, and what is found when both ways have ended.
-use Rattle.std.proofs.Common.{◌≡◌, ◌≢◌, ℕ, zero, suc, ◌+◌, ◌≤◌, ◌<◌, ◌⊎◌, ◌↔◌, List, [], ◌∷◌, ◌++◌, length, take, Contains, All, Option, refl, sym, ap, ◌∙◌, subst, inl, inr, arith}
+use Rattle.std.proofs.Common.{◌≡◌, ◌≢◌, ℕ, ◌≤◌, ◌⊎◌, ◌↔◌, List, [], ◌∷◌, ◌++◌, length, take, Contains, All, Option, refl, sym, ap, ◌∙◌, subst, inl, inr, arith}
 use Rattle.std.proofs.lemmas.List.{take_all, take_at, length-take, length_push, take-take}
 use Rattle.std.proofs.lemmas.List.Elements.{Contains-append_left, Contains-push, Contains-push_cases}
 use Rattle.map_defs.specs.Kind.{Kind, inverse}
@@ -194,48 +194,6 @@ gone-round k L f g b c d old half new ways shut one other y = (found y, all)
     all : Contains old y ⊎ InOrbit Step d y → Contains new y
     all (inl known) = early y (Contains-append_left old (d ∷ []) y known)
     all (inr o) = whole y o
-
--- So many of the ways out of d were followed, after d was put behind some darts.
-pub record AreFollowed (k : Kind) (L : Links) (ways : Ways) (d : ℕ) (old : List ℕ) (followed : ℕ) (found : List ℕ) : Type 0 where
-  pub none : followed ≡ 0 → found ≡ old ++ d ∷ []
-  pub one : followed ≡ 1 → IsFollowed k L ways.forth.next ways.forth.after d (old ++ d ∷ []) found
-  pub both : 2 ≤ followed → (half : List ℕ) × IsFollowed k L ways.forth.next ways.forth.after d (old ++ d ∷ []) half × IsFollowed k L ways.back.next ways.back.after d half found
-
-pub followed-none : (k : Kind) (L : Links) (ways : Ways) (d : ℕ) (old found : List ℕ) → found ≡ old ++ d ∷ [] → AreFollowed k L ways d old 0 found
-followed-none k L ways d old found is = record {
-  none = λ _. is;
-  one = λ same. absurd (omega (arith, same));
-  both = λ low. absurd (omega (arith, low));
-}
-
-pub followed-more : (k : Kind) (L : Links) (ways : Ways) (way : Way) (d : ℕ) (old : List ℕ) (followed : ℕ) (found new : List ℕ) → followed < 2
-    → (followed ≡ 0 → way ≡ ways.forth) → (followed ≢ 0 → way ≡ ways.back) → IsFollowed k L way.next way.after d found new
-    → AreFollowed k L ways d old followed found → AreFollowed k L ways d old (followed + 1) new
-followed-more k L ways way d old followed found new low forth back step before = record {
-  none = λ same. absurd (omega (arith, same));
-  one = λ same.
-      let first : followed ≡ 0 = omega (arith, same) in
-      subst (λ (w : Way). IsFollowed k L w.next w.after d (old ++ d ∷ []) new) (forth first)
-      (subst (λ xs. IsFollowed k L way.next way.after d xs new) (before.none first) step);
-  both = λ past.
-      let last : followed ≡ 1 = omega (arith, past, low) in
-      (found, before.one last, subst (λ (w : Way). IsFollowed k L w.next w.after d found new) (back (λ same. absurd (omega (arith, same, last)))) step);
-}
-
--- d is among the darts that were found
-pub followed-met : (k : Kind) (L : Links) (ways : Ways) (d : ℕ) (old : List ℕ) (followed : ℕ) (found : List ℕ) → followed < 2 → AreFollowed k L ways d old followed found → Contains found d
-followed-met k L ways d old zero found low before = subst (λ xs. Contains xs d) (sym (before.none refl)) (Contains-push old d)
-followed-met k L ways d old (suc n) found low before =
-    Contains-before (old ++ d ∷ []) found (before.one (omega (arith, low))).before d (Contains-push old d)
-
--- the words of a way are among the words of both
-pub way-either : (k : Kind) (ways : Ways) (way : Way) (followed : ℕ) → (followed ≡ 0 → way ≡ ways.forth) → (followed ≢ 0 → way ≡ ways.back)
-    → AreWays k ways.forth.next ways.forth.after ways.back.next ways.back.after
-    → IsEither ways.forth.next ways.back.next way.next × IsEither ways.forth.next ways.back.next way.after
-way-either k ways way zero forth back turns =
-    subst (λ (w : Way). IsEither ways.forth.next ways.back.next w.next × IsEither ways.forth.next ways.back.next w.after) (sym (forth refl)) (inl refl, turns.forth)
-way-either k ways way (suc n) forth back turns =
-    subst (λ (w : Way). IsEither ways.forth.next ways.back.next w.next × IsEither ways.forth.next ways.back.next w.after) (sym (back (λ same. absurd (omega (arith, same))))) (inr refl, turns.back)
 
 -- the orbit of a dart that was found was found before
 pub known-round : (Step : ℕ → ℕ → Type 0) (found : List ℕ) (d : ℕ) → IsClosed Step found → Contains found d → (y : ℕ) → Contains found y ↔ (Contains found y ⊎ InOrbit Step d y)

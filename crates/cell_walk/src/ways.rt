@@ -39,20 +39,6 @@ pub(crate) struct Ways {
     pub(crate) back: Way,
 }
 
-impl Ways {
-    /// The way that is followed after so many others: the way forth, and then the way back.
-    fn after(&self, followed: usize) -> &Way
-        ensures forth { followed ≡ 0 → result.now ≡ self.now.forth }
-        ensures back { followed ≢ 0 → result.now ≡ self.now.back }
-    {
-        if followed == 0 {
-            &self.forth
-        } else {
-            &self.back
-        }
-    }
-}
-
 /// How walks go along some words: told once for many orbits.
 #[derive(Clone, Copy)]
 pub(crate) enum Course {
@@ -201,10 +187,8 @@ fn go_round_words<S: Seen, K: Kind, const DIM: usize>(
     ensures before { OnOk result (take (length found.old) found.new ≡ found.old) }
 {
     found.put(dart)?;
-    for followed in 0..2 {
-        follow_way(links, ways.after(followed), dart, found)?;
-    }
-    Ok(())
+    follow_way(links, &ways.forth, dart, found)?;
+    follow_way(links, &ways.back, dart, found)
 }
 
 /// Follows a way from a dart that was found, until it leads nowhere or to a dart that was found.
