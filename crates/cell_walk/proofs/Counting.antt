@@ -1,5 +1,5 @@
 -- The counts of a map, dimension by dimension.
-use Rattle.std.proofs.Common.{◌≡◌, ℕ, ◌+◌, ◌≤◌, ◌<◌, ◌⊎◌, ◌↔◌, List, [], ◌∷◌, ◌++◌, length, slice_index, Contains, refl, sym, ap, ◌∙◌, subst, inl, inr, arith}
+use Rattle.std.proofs.Common.{◌≡◌, ℕ, ◌+◌, ◌≤◌, ◌<◌, ◌⊎◌, ◌↔◌, List, [], ◌∷◌, ◌++◌, length, slice_index, Contains, sym, ap, ◌∙◌, subst, inl, inr, arith}
 use Rattle.std.proofs.lemmas.Bool.{cases_lt}
 use Rattle.std.proofs.lemmas.List.{get_or_append_left, get_or_at, length_push}
 use Rattle.std.specs.List.Sorted.{IsStrictlyIncreasing}
@@ -16,9 +16,6 @@ pub record IsCounted (k : Kind) (rows : Rows) (next : ℕ) (counts : List ℕ) :
   pub long : length counts ≡ next + 1
   pub darts : slice_index counts 0 ≡ live_count rows
   pub cells : (i : ℕ) → i < next → HasCount (λ d. IsLive rows d × NamesCell k (links_of rows) i d) (slice_index counts (i + 1))
-
-pub counted-none : (k : Kind) (rows : Rows) (count : ℕ) → count ≡ live_count rows → IsCounted k rows 0 (count ∷ [])
-counted-none k rows count is = record { long = refl; darts = is; cells = λ i low. absurd (omega arith) }
 
 pub counted-more : (k : Kind) (rows : Rows) (next count : ℕ) (counts : List ℕ) → HasCount (λ d. IsLive rows d × NamesCell k (links_of rows) next d) count → IsCounted k rows next counts → IsCounted k rows (next + 1) (counts ++ count ∷ [])
 counted-more k rows next count counts has before = record {

@@ -1,5 +1,5 @@
 -- The orbits of some darts, one after another, and a walk that looks for one dart.
-use Rattle.std.proofs.Common.{◌≡◌, ℕ, ◌+◌, ◌<◌, ◌≤◌, ◌⊎◌, ◌↔◌, List, [], ◌∷◌, ◌++◌, length, take, get_or, Contains, sym, ap, ◌∙◌, subst, inl, inr, arith}
+use Rattle.std.proofs.Common.{◌≡◌, ℕ, ◌+◌, ◌<◌, ◌≤◌, ◌⊎◌, ◌↔◌, List, [], ◌∷◌, ◌++◌, length, take, get_or, Contains, sym, ap, ◌∙◌, subst, inl, inr}
 use Rattle.std.proofs.lemmas.List.{take_all, take_more}
 use Rattle.std.proofs.lemmas.List.Elements.{Contains-append_left, Contains-push, Contains-push_cases}
 use Rattle.map_defs.specs.Links.{Links}
@@ -11,12 +11,6 @@ use Rattle.cell_walk.proofs.Walks.{IsWalked, closed-none, walked-all, orbit-alon
 -- the darts found are those of the orbits of these darts
 abbrev pub HoldsOrbits : (ℕ → ℕ → Type 0) → List ℕ → List ℕ → Type 0
 HoldsOrbits Step darts found = (y : ℕ) → Contains found y ↔ ((d : ℕ) × Contains darts d × InOrbit Step d y)
-
-pub orbits-none : (Step : ℕ → ℕ → Type 0) (found : List ℕ) → found ≡ [] → HoldsOrbits Step [] found
-orbits-none Step found none y = (
-  λ has. absurd (omega (arith, (subst (λ xs. Contains xs y) none has).1)),
-  λ from. absurd (omega (arith, from.1.1)),
-)
 
 pub orbits-closed : (Step : ℕ → ℕ → Type 0) (darts found : List ℕ) → HoldsOrbits Step darts found → IsClosed Step found
 orbits-closed Step darts found holds x y has step =

@@ -1,18 +1,12 @@
 -- A walk: the darts found so far, of which the first ones were visited, and what is found in the end.
-use Rattle.std.proofs.Common.{◌≡◌, ◌≢◌, ℕ, zero, suc, ◌+◌, ◌≤◌, ◌<◌, ◌⊎◌, ◌↔◌, List, [], ◌∷◌, ◌++◌, length, take, get_or, Contains, Option, Some, None, refl, sym, ap, ◌∙◌, subst, inl, inr, arith}
+use Rattle.std.proofs.Common.{◌≡◌, ◌≢◌, ℕ, zero, suc, ◌+◌, ◌≤◌, ◌<◌, ◌⊎◌, ◌↔◌, List, [], ◌∷◌, ◌++◌, length, take, get_or, Contains, None, refl, sym, ap, ◌∙◌, subst, inl, inr, arith}
 use Rattle.std.proofs.lemmas.Bool.{cases_lt}
 use Rattle.std.proofs.lemmas.List.{take_all, take_at, length_push, take_more, get_or-take, length-take, take-take, get_or_default}
 use Rattle.std.proofs.lemmas.List.Elements.{Contains-append_left, Contains-push, Contains-push_cases, Contains-get_or}
 use Rattle.map_defs.specs.Links.{Links}
 use Rattle.map_defs.specs.LinkWords.{LinkWord, through, through_second}
 use Rattle.map_defs.specs.Cells.{InOrbit, here, onward, Leads}
-use Rattle.map_defs.specs.Rows.{Rows, row_at, entry_of, links_of}
 use Rattle.cell_walk.specs.Visits.{IsDartAdded, IsVisited, IsClosed}
-
--- no link leads on from 0
-pub through_second-none : (rows : Rows) (second : Option ℕ) → row_at rows 0 ≡ None → through_second (links_of rows) second 0 ≡ 0
-through_second-none rows None h = refl
-through_second-none rows (Some j) h = ap (λ row. entry_of row j) h
 
 -- the darts of old stay where they stood
 pub Contains-before : (old new : List ℕ) → take (length old) new ≡ old → (y : ℕ) → Contains old y → Contains new y
@@ -23,13 +17,6 @@ Contains-before old new before y has =
 -- a word of one link leads where its link does
 one-step : (L : Links) (w : LinkWord) (x : ℕ) → w.second ≡ None → through L w x ≡ L w.first x
 one-step L w x single = ap (λ s. through_second L s (L w.first x)) single
-
-pub visited-none : (L : Links) (x : ℕ) (found : List ℕ) → IsVisited L (Contains []) x found found
-visited-none L x found = record {
-  before = take_all (length found) found (omega arith);
-  only = λ y has. inl has;
-  all = λ y leads. absurd (omega (arith, leads.1.1));
-}
 
 -- one word leads to y, which is added
 pub visited-added : (L : Links) (w : LinkWord) (x y : ℕ) (old new : List ℕ) → through L w x ≡ y → y ≢ 0 → IsDartAdded old new y → IsVisited L (λ v. v ≡ w) x old new
