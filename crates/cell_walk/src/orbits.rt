@@ -236,12 +236,9 @@ fn add<S: Seen>(number: u32, found: &mut Found<S>) -> Result<(), AllocError>
     ensures none { OnOk result (number ≡ 0 → found.new ≡ found.old) }
     ensures dart { OnOk result (number ≢ 0 → IsDartAdded found.old found.new number) }
 {
-    let Some(dart) = Dart::new(number) else {
+    let Some(dart) = found.unmet(number) else {
         return Ok(());
     };
-    if found.contains(dart) {
-        return Ok(());
-    }
     found.put(dart)
 }
 

@@ -1,10 +1,10 @@
 //! The words and the ways of the cells of surfaces, whose orbits are all paths and rings.
-ghost use Rattle.std.specs.Prelude.{◌≡◌, ◌≤◌, ◌↔◌, Contains};
+ghost use Rattle.std.specs.Prelude.{◌≤◌, ◌↔◌, Contains};
 ghost use Rattle.map_defs.specs.Kind.{alpha, beta};
-ghost use Rattle.map_defs.specs.LinkWords.{LinkWord as MapWord, one_link, IsCellWord, IsWithin};
+ghost use Rattle.map_defs.specs.LinkWords.{LinkWord as MapWord, IsCellWord, IsWithin};
 ghost use Rattle.cell_walk.specs.CellCourses.{AreCellWays};
 
-use crate::ways::{Way, Ways};
+use crate::ways::Ways;
 use map_kind::{Kind, LinkWord, is_generalized};
 
 /// The words of the cells of dimension `dim`, from 0 to 2, of a map of dimension 2: the words that `Kind::words` lists, but without
@@ -35,9 +35,9 @@ fn generalized_ways(dim: usize) -> Ways
     ensures { AreCellWays alpha 2 dim result }
 {
     match dim {
-        0 => taking_turns(1, 2),
-        1 => taking_turns(0, 2),
-        _ => taking_turns(0, 1),
+        0 => Ways::taking_turns(LinkWord::one(1), LinkWord::one(2)),
+        1 => Ways::taking_turns(LinkWord::one(0), LinkWord::one(2)),
+        _ => Ways::taking_turns(LinkWord::one(0), LinkWord::one(1)),
     }
 }
 
@@ -48,41 +48,8 @@ fn combinatorial_ways(dim: usize) -> Ways
     ensures { AreCellWays beta 2 dim result }
 {
     match dim {
-        0 => keeping_on(LinkWord::two(2, 1), LinkWord::two(0, 2)),
-        1 => keeping_on(LinkWord::one(2), LinkWord::one(2)),
-        _ => keeping_on(LinkWord::one(1), LinkWord::one(0)),
-    }
-}
-
-/// The ways in which two links take turns.
-fn taking_turns(one: usize, other: usize) -> Ways
-    ensures { result ≡ record { forth = record { next = one_link one; after = one_link other }; back = record { next = one_link other; after = one_link one } } }
-{
-    let (one, other) = (LinkWord::one(one), LinkWord::one(other));
-    Ways {
-        forth: Way {
-            next: one,
-            after: other,
-        },
-        back: Way {
-            next: other,
-            after: one,
-        },
-    }
-}
-
-/// The ways in which a word leads on and another one back, again and again.
-fn keeping_on(forth: LinkWord, back: LinkWord) -> Ways
-    ensures { result ≡ record { forth = record { next = forth; after = forth }; back = record { next = back; after = back } } }
-{
-    Ways {
-        forth: Way {
-            next: forth,
-            after: forth,
-        },
-        back: Way {
-            next: back,
-            after: back,
-        },
+        0 => Ways::keeping_on(LinkWord::two(2, 1), LinkWord::two(0, 2)),
+        1 => Ways::keeping_on(LinkWord::one(2), LinkWord::one(2)),
+        _ => Ways::keeping_on(LinkWord::one(1), LinkWord::one(0)),
     }
 }

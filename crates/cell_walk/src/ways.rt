@@ -39,6 +39,40 @@ pub(crate) struct Ways {
     pub(crate) back: Way,
 }
 
+impl Ways {
+    /// The ways in which two words take turns.
+    pub(crate) fn taking_turns(one: LinkWord, other: LinkWord) -> Self
+        ensures { result ≡ record { forth = record { next = one; after = other }; back = record { next = other; after = one } } }
+    {
+        Ways {
+            forth: Way {
+                next: one,
+                after: other,
+            },
+            back: Way {
+                next: other,
+                after: one,
+            },
+        }
+    }
+
+    /// The ways in which a word leads on and another one back, again and again.
+    pub(crate) fn keeping_on(forth: LinkWord, back: LinkWord) -> Self
+        ensures { result ≡ record { forth = record { next = forth; after = forth }; back = record { next = back; after = back } } }
+    {
+        Ways {
+            forth: Way {
+                next: forth,
+                after: forth,
+            },
+            back: Way {
+                next: back,
+                after: back,
+            },
+        }
+    }
+}
+
 /// How walks go along some words: told once for many orbits.
 #[derive(Clone, Copy)]
 pub(crate) enum Course {
@@ -82,30 +116,12 @@ fn ways_along<K: Kind>(words: &[LinkWord]) -> Option<Ways>
         _ => return None,
     };
     if inverse_word::<K>(one) == other {
-        return Some(Ways {
-            forth: Way {
-                next: one,
-                after: one,
-            },
-            back: Way {
-                next: other,
-                after: other,
-            },
-        });
+        return Some(Ways::keeping_on(one, other));
     }
     if inverse_word::<K>(one) != one || inverse_word::<K>(other) != other {
         return None;
     }
-    Some(Ways {
-        forth: Way {
-            next: one,
-            after: other,
-        },
-        back: Way {
-            next: other,
-            after: one,
-        },
-    })
+    Some(Ways::taking_turns(one, other))
 }
 
 /// The word that leads back along a word.
