@@ -4,13 +4,13 @@
 ghost use Rattle.std.specs.Prelude.{◌≡◌, ◌≢◌, ℕ, ◌≤◌, ◌↔◌, ◌⊎◌, Contains, IfOk, IfSome, IfNone, OnOk};
 ghost use Rattle.std.specs.List.Sorted.{IsStrictlyIncreasing};
 ghost use Rattle.map_defs.specs.Rows.{links_of};
-ghost use Rattle.map_defs.specs.LinkWords.{LinkWord as MapWord, one_link, through, IsWithin};
+ghost use Rattle.map_defs.specs.LinkWords.{LinkWord as MapWord, one_link, IsWithin};
 ghost use Rattle.map_defs.specs.Cells.{InOrbit, Leads};
 ghost use Rattle.cell_walk.specs.Ways.{IsEither, AreWays, IsFollowed};
 
-use crate::ways::{Way, Ways};
+use crate::ways::{Way, Ways, number_along};
 use link_rows::Links;
-use map_kind::{Dart, Kind, LinkWord};
+use map_kind::{Dart, Kind};
 use std::alloc::{AllocError, Global};
 
 /// For so many darts room is made at first.
@@ -113,24 +113,6 @@ fn go_on_words<K: Kind, const DIM: usize>(
         turn = (turn.1, turn.0);
     }
     Ok(())
-}
-
-/// The number of the dart to which a word leads; 0 where a link on its way is free.
-fn number_along<K: Kind, const DIM: usize>(
-    links: &Links<K, DIM>,
-    word: &LinkWord,
-    dart: Dart,
-) -> u32
-    requires { IsWithin DIM word.now }
-    ensures { result ≡ through (links_of links.now.rows) word.now dart }
-{
-    let Some(second) = word.second else {
-        return links.number_at(dart, word.first);
-    };
-    match links.link(dart, word.first) {
-        Some(reached) => links.number_at(reached, second),
-        None => 0,
-    }
 }
 
 /// The dart of a number, unless it is the end, or the dart from which a word led to it.

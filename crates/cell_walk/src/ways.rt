@@ -1,5 +1,5 @@
 //! Orbits that are paths or rings: walks in which two words take turns.
-ghost use Rattle.std.specs.Prelude.{◌≡◌, ◌≢◌, ℕ, ◌≤◌, ◌↔◌, ◌⊎◌, length, take, All, Contains, IsTrue, IfSome, IfNone, OnOk};
+ghost use Rattle.std.specs.Prelude.{◌≡◌, ℕ, ◌≤◌, ◌↔◌, ◌⊎◌, length, take, All, Contains, IsTrue, IfSome, OnOk};
 ghost use Rattle.map_defs.specs.Rows.{links_of};
 ghost use Rattle.map_defs.specs.LinkWords.{LinkWord as MapWord, one_link, two_links, through, inverse_word, IsWithin};
 ghost use Rattle.map_defs.specs.Cells.{InOrbit, Leads};
@@ -7,7 +7,6 @@ ghost use Rattle.cell_walk.specs.Visits.{IsClosed};
 ghost use Rattle.cell_walk.specs.Ways.{IsEither, IsLink, AreWays, IsCourse, IsFollowed};
 
 use crate::found::Found;
-use crate::orbits::follow;
 use crate::seen::Seen;
 use link_rows::Links;
 use map_kind::{Dart, Kind, LinkWord};
@@ -276,6 +275,45 @@ fn follow_pair<S: Seen, K: Kind, const DIM: usize>(
     Ok(())
 }
 
+/// Follows a way along any words from a dart that was found, until it leads nowhere or to a dart that was found.
+fn follow_words<S: Seen, K: Kind, const DIM: usize>(
+    links: &Links<K, DIM>,
+    way: &Way,
+    dart: Dart,
+    found: &mut Found<S>,
+) -> Result<(), AllocError>
+    requires next { IsWithin DIM way.now.next }
+    requires after { IsWithin DIM way.now.after }
+    requires met { Contains found.old dart }
+    ensures { OnOk result (IsFollowed K.kind (links_of links.now.rows) way.now.next way.now.after dart found.old found.new) }
+{
+    links.see_sound();
+    let mut way = *way;
+    let mut at = dart;
+    while let Some(next) = found.unmet(number_along(links, &way.next, at)) {
+        found.put(next)?;
+        at = next;
+        way = way.turned();
+    }
+    Ok(())
+}
+
+/// The number of the dart to which a word leads; 0 where a link on its way is free.
+#[inline(always)]
+pub(crate) fn number_along<K: Kind, const DIM: usize>(
+    links: &Links<K, DIM>,
+    word: &LinkWord,
+    dart: Dart,
+) -> u32
+    requires { IsWithin DIM word.now }
+    ensures { result ≡ through (links_of links.now.rows) word.now dart }
+{
+    match word.second {
+        Some(second) => number_through(links, word.first, second, dart),
+        None => links.number_at(dart, word.first),
+    }
+}
+
 /// The number of the dart to which two links lead, one after the other; 0 where one on the way is free.
 #[inline(always)]
 fn number_through<K: Kind, const DIM: usize>(
@@ -292,48 +330,4 @@ fn number_through<K: Kind, const DIM: usize>(
         Some(middle) => links.number_at(middle, second),
         None => 0,
     }
-}
-
-/// Follows a way along any words from a dart that was found, until it leads nowhere or to a dart that was found.
-fn follow_words<S: Seen, K: Kind, const DIM: usize>(
-    links: &Links<K, DIM>,
-    way: &Way,
-    dart: Dart,
-    found: &mut Found<S>,
-) -> Result<(), AllocError>
-    requires next { IsWithin DIM way.now.next }
-    requires after { IsWithin DIM way.now.after }
-    requires met { Contains found.old dart }
-    ensures { OnOk result (IsFollowed K.kind (links_of links.now.rows) way.now.next way.now.after dart found.old found.new) }
-{
-    links.see_sound();
-    let mut way = *way;
-    let mut at = dart;
-    while let Some(next) = unmet(links, way.next, at, found) {
-        found.put(next)?;
-        at = next;
-        way = way.turned();
-    }
-    Ok(())
-}
-
-/// The dart to which a word leads, if it was not found yet.
-#[inline(always)]
-fn unmet<S: Seen, K: Kind, const DIM: usize>(
-    links: &Links<K, DIM>,
-    word: LinkWord,
-    dart: Dart,
-    found: &Found<S>,
-) -> Option<Dart>
-    requires { IsWithin DIM word }
-    ensures some { IfSome result (λ next. (through (links_of links.now.rows) word dart ≡ next) × (next ≢ 0)
-        × (Contains found.now next → ⊥)) }
-    ensures none { IfNone result ((y : ℕ) → through (links_of links.now.rows) word dart ≡ y → y ≢ 0
-        → Contains found.now y) }
-{
-    let reached = follow(links, word, dart)?;
-    if found.contains(reached) {
-        return None;
-    }
-    Some(reached)
 }

@@ -1,4 +1,4 @@
-use Rattle.std.proofs.Common.{length, ap, arith}
+use Rattle.std.proofs.Common.{length, Contains, sym, ap, subst, ◌∙◌, arith}
 use Rattle.std.proofs.lemmas.List.{length_push}
 use Rattle.map_defs.specs.Rows.{links_of}
 use Rattle.cell_walk.proofs.CellDarts.{links-nothing}
@@ -19,10 +19,10 @@ loop-next-preserved g c =
       c.loop-next.invariant.0,
       on_way-more g.K.Kind.kind (links_of c.args.links.now.rows) (links-nothing g.K.Kind.kind g.row.DIM c.args.links.now.rows c.see_sound.ensures.sound) c.see_sound.ensures.sound.back
           c.args.way.now.next c.args.way.now.after c.args.dart c.args.found.now c.loop-next.way.next c.loop-next.way.after c.loop-next.at c.in-Some.next c.loop-next.found
-          c.in-Some.ensures.some.0 c.in-Some.ensures.some.1 c.loop-next.invariant.2,
+          (sym c.number_along.ensures ∙ c.in-Some.ensures.some.0) c.in-Some.ensures.some.1 c.loop-next.invariant.2,
     )
 
 pub returns : goal.returns
 returns g c =
     on_way-all g.K.Kind.kind (links_of c.args.links.now.rows) c.args.way.now.next c.args.way.now.after c.args.dart c.args.found.now c.loop-next.way.next c.loop-next.way.after c.loop-next.at c.loop-next.found
-    c.in_default.ensures.none c.loop-next.invariant.2
+    (λ y leads dart. subst (Contains c.loop-next.found) (c.number_along.ensures ∙ leads) (c.in_default.ensures.none (λ none. dart (sym leads ∙ sym c.number_along.ensures ∙ none)))) c.loop-next.invariant.2
