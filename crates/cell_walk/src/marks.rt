@@ -1,6 +1,6 @@
 //! Marks of darts, for walks over the whole map: each at the place of a dart's number. The place of 0, which is no dart, is
 //! marked too, so that a link that is free is passed by like one that leads to a dart that was found.
-ghost use Rattle.std.specs.Prelude.{◌≡◌, ◌≢◌, ℕ, ◌+◌, ◌<◌, [], ◌∷◌, ◌++◌, true, length, slice_set, IsTrue, IfSome, IfNone, OnOk};
+ghost use Rattle.std.specs.Prelude.{◌≡◌, ◌≢◌, ◌+◌, ◌<◌, [], ◌∷◌, ◌++◌, true, length, slice_set, IsTrue, IfSome, IfNone, OnOk};
 ghost use Rattle.cell_walk.specs.Marks.{IsMarked, AreMarked};
 
 use map_kind::Dart;

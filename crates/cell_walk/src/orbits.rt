@@ -1,7 +1,7 @@
-ghost use Rattle.std.specs.Prelude.{◌≡◌, ◌≢◌, ℕ, ◌+◌, ◌<◌, ◌↔◌, ◌⊎◌, length, take, slice_index, Contains, IfOk, OnOk, All, IsNone, IfSome};
+ghost use Rattle.std.specs.Prelude.{◌≡◌, ◌≢◌, ℕ, ◌↔◌, ◌⊎◌, length, take, slice_index, Contains, IfOk, OnOk, All, IsNone, IfSome};
 ghost use Rattle.std.specs.List.Sorted.{IsStrictlyIncreasing};
 ghost use Rattle.map_defs.specs.Rows.{links_of};
-ghost use Rattle.map_defs.specs.LinkWords.{LinkWord as MapWord, through, IsWithin};
+ghost use Rattle.map_defs.specs.LinkWords.{through, IsWithin};
 ghost use Rattle.map_defs.specs.Cells.{InOrbit, Leads};
 ghost use Rattle.cell_walk.specs.Visits.{IsDartAdded, IsVisited, IsClosed};
 ghost use Rattle.cell_walk.specs.Ways.{IsLink, IsCourse};

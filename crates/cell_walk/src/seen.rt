@@ -1,4 +1,4 @@
-ghost use Rattle.std.specs.Prelude.{◌≡◌, ℕ, List, ◌+◌, ◌<◌, ◌≤◌, ◌↔◌, [], ◌∷◌, ◌++◌, drop, Contains, IsTrue, OnOk, OnErr, vec_len, vec_capacity};
+ghost use Rattle.std.specs.Prelude.{◌≡◌, ℕ, List, ◌+◌, ◌≤◌, ◌↔◌, [], ◌∷◌, ◌++◌, drop, Contains, IsTrue, OnOk, OnErr, vec_len, vec_capacity};
 ghost use Rattle.cell_walk.specs.Marks.{IsMarked};
 
 use map_kind::Dart;

@@ -1,6 +1,6 @@
 //! Orbits of a whole map that are no paths and rings: their darts are marked, and listed until it was looked along all words
 //! from each.
-ghost use Rattle.std.specs.Prelude.{◌≡◌, ℕ, ◌+◌, ◌≤◌, length, slice_index, slice_index_or, All, Contains, IsTrue, OnOk, false};
+ghost use Rattle.std.specs.Prelude.{◌+◌, ◌≤◌, length, slice_index_or, All, Contains, IsTrue, OnOk, false};
 ghost use Rattle.map_defs.specs.Rows.{IsLive, links_of};
 ghost use Rattle.map_defs.specs.LinkWords.{IsWithin};
 ghost use Rattle.map_defs.specs.Cells.{Leads};

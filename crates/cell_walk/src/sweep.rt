@@ -1,5 +1,5 @@
 //! How walks over the whole map mark the darts of orbits: told once for all orbits along the same words.
-ghost use Rattle.std.specs.Prelude.{◌≡◌, ◌≤◌, ◌<◌, ℕ, false, slice_index_or, take, All, Contains, IsTrue};
+ghost use Rattle.std.specs.Prelude.{false, slice_index_or, All, IsTrue};
 ghost use Rattle.map_defs.specs.LinkWords.{IsWithin};
 ghost use Rattle.cell_walk.specs.Ways.{IsLink, AreAlong};
 ghost use Rattle.cell_walk.specs.Sweeps.{AreWanted, IsSweep};
