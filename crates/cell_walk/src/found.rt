@@ -1,8 +1,8 @@
-ghost use Rattle.std.specs.Prelude.{◌≡◌, ◌≢◌, ℕ, ◌≤◌, ◌<◌, ◌^◌, ◌↔◌, [], ◌∷◌, ◌++◌, length, take, drop, slice_index, Contains, IsTrue, IfSome, IfNone, OnOk};
+ghost use Rattle.std.specs.Prelude.{◌≡◌, ◌≢◌, ℕ, ◌≤◌, ◌<◌, ◌^◌, ◌↔◌, [], ◌∷◌, ◌++◌, length, take, drop, slice_index, Contains, IsTrue, IfOk, IfSome, IfNone, OnOk};
 ghost use Rattle.std.specs.Ordering.{nat_cmp};
 ghost use Rattle.std.specs.List.Sorted.{IsPermutation, IsSorted, IsStrictlyIncreasing};
 
-use crate::seen::{Marks, Seen};
+use crate::seen::{Few, Marks, Seen};
 use map_kind::Dart;
 use std::alloc::{AllocError, Global};
 use std::marker::Model;
@@ -25,24 +25,19 @@ impl<S: Seen> Model for Found<S> {
     ghost invariant = { λ found. ListsOnce (S.tells found.seen) found.darts.items };
 }
 
-impl<S: Seen> Found<S> {
+impl Found<Few> {
     /// Nothing found yet.
     pub(crate) fn new(alloc: Global) -> Self
         ensures { result ≡ [] }
     {
         Found {
             darts: Vec::new(alloc),
-            seen: S::new(alloc),
+            seen: Few::new(alloc),
         }
     }
+}
 
-    /// Forgets what was found, for another walk over a map whose darts are numbered up to `made`.
-    pub(crate) fn restart(&mut self, made: u32) -> Result<(), AllocError>
-        ensures { self.new ≡ [] }
-    {
-        self.seen.restart(&mut self.darts, made)
-    }
-
+impl<S: Seen> Found<S> {
     /// How many darts were found.
     #[inline(always)]
     pub(crate) fn len(&self) -> usize
@@ -104,6 +99,16 @@ impl<S: Seen> Found<S> {
 }
 
 impl Found<Marks> {
+    /// Nothing found yet in a map whose darts are numbered up to `made`.
+    pub(crate) fn in_map(alloc: Global, made: u32) -> Result<Self, AllocError>
+        ensures { IfOk result (λ found. found ≡ []) }
+    {
+        Ok(Found {
+            darts: Vec::with_capacity(alloc, made as usize)?,
+            seen: Marks::new(alloc, made)?,
+        })
+    }
+
     /// Brings the darts that were found since so many others were into ascending order.
     pub(crate) fn sort_since(&mut self, place: usize)
         requires { place ≤ length self.old }

@@ -1,4 +1,4 @@
-ghost use Rattle.std.specs.Prelude.{◌≡◌, ℕ, List, ◌+◌, ◌≤◌, ◌↔◌, [], ◌∷◌, ◌++◌, drop, Contains, IsTrue, OnOk, OnErr, vec_len, vec_capacity};
+ghost use Rattle.std.specs.Prelude.{◌≡◌, ℕ, List, ◌+◌, ◌≤◌, ◌↔◌, [], ◌∷◌, ◌++◌, drop, Contains, IsTrue, IfOk, OnOk, OnErr, vec_len, vec_capacity};
 ghost use Rattle.cell_walk.specs.Marks.{IsMarked};
 
 use map_kind::Dart;
@@ -12,16 +12,6 @@ const FEW: usize = 16;
 pub(crate) trait Seen: Drop {
     /// It tells just the darts of the list.
     ghost tells: { Self → List ℕ → Type 0 };
-
-    /// No dart found yet. It takes no memory.
-    fn new(alloc: Global) -> Self
-        ensures { tells result [] };
-
-    /// Forgets all darts, for another walk over a map whose darts are numbered up to `made`, and makes room in the list for
-    /// as many as it needs then.
-    fn restart(&mut self, found: &mut Vec<Dart>, made: u32) -> Result<(), AllocError>
-        ensures empty { found.new.items ≡ [] }
-        ensures told { tells self.new [] };
 
     /// Whether a dart was found.
     fn contains(&self, found: &[Dart], dart: Dart) -> bool
@@ -43,20 +33,19 @@ pub(crate) struct Few {
     more: BTreeSet<Dart>,
 }
 
-impl Seen for Few {
-    ghost tells = { λ seen found. (d : ℕ) → Contains seen.more.keys d ↔ Contains (drop 16 found) d };
-
-    fn new(alloc: Global) -> Self {
+impl Few {
+    /// No dart found yet. It takes no memory.
+    pub(crate) fn new(alloc: Global) -> Self
+        ensures { (d : ℕ) → Contains result.more.keys d ↔ Contains [] d }
+    {
         Few {
             more: BTreeSet::new(alloc),
         }
     }
+}
 
-    fn restart(&mut self, found: &mut Vec<Dart>, _made: u32) -> Result<(), AllocError> {
-        found.clear();
-        self.more.clear();
-        Ok(())
-    }
+impl Seen for Few {
+    ghost tells = { λ seen found. (d : ℕ) → Contains seen.more.keys d ↔ Contains (drop 16 found) d };
 
     fn contains(&self, found: &[Dart], dart: Dart) -> bool {
         if found.len() <= FEW {
@@ -87,28 +76,26 @@ fn make_room(darts: &mut Vec<Dart>) -> Result<(), AllocError>
     darts.reserve(more)
 }
 
-/// For walks over the whole map: a mark at the place of each dart's number. All memory is taken when a walk begins, so that
-/// a dart is put quickly: a dart beyond those of the map, or one too many, would be refused as if there were no memory.
+/// For walks over the whole map: a mark at the place of each dart's number. All memory is taken when they begin, so that a
+/// dart is put quickly: a dart beyond those of the map, or one too many, would be refused as if there were no memory.
 #[derive(Drop)]
 pub(crate) struct Marks {
     marks: Vec<bool>,
 }
 
+impl Marks {
+    /// No dart found yet in a map whose darts are numbered up to `made`.
+    pub(crate) fn new(alloc: Global, made: u32) -> Result<Self, AllocError>
+        ensures { IfOk result (λ seen. (d : ℕ) → IsMarked seen.marks.items d ↔ Contains [] d) }
+    {
+        let mut marks = Vec::new(alloc);
+        marks.resize(made as usize + 1, false)?;
+        Ok(Marks { marks })
+    }
+}
+
 impl Seen for Marks {
     ghost tells = { λ seen found. (d : ℕ) → IsMarked seen.marks.items d ↔ Contains found d };
-
-    fn new(alloc: Global) -> Self {
-        Marks {
-            marks: Vec::new(alloc),
-        }
-    }
-
-    fn restart(&mut self, found: &mut Vec<Dart>, made: u32) -> Result<(), AllocError> {
-        found.clear();
-        self.marks.clear();
-        self.marks.resize(made as usize + 1, false)?;
-        found.reserve(made as usize)
-    }
 
     #[inline(always)]
     fn contains(&self, _found: &[Dart], dart: Dart) -> bool {

@@ -256,9 +256,8 @@ fn orbit_lists<K: Kind, const DIM: usize>(
     ensures ascending { IfOk result (λ orbits. IsStrictlyIncreasing orbits.least.items) }
     ensures darts { IfOk result (λ orbits. AreOrbitsOf (Leads (links_of links.now.rows) (Contains words.now)) orbits.least.items orbits.darts) }
 {
-    let mut found = Found::<Marks>::new(alloc);
     let made = links.made();
-    found.restart(made)?;
+    let mut found = Found::<Marks>::in_map(alloc, made)?;
     let course = course_along::<K>(words);
     let mut least = Vec::new(alloc);
     let mut ends = Vec::new(alloc);
