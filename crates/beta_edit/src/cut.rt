@@ -1,10 +1,10 @@
-ghost use Rattle.std.specs.Prelude.{◌≡◌, ◌+◌, ◌≤◌, IfOk, OnOk};
+ghost use Rattle.std.specs.Prelude.{◌≡◌, ◌+◌, IfOk, OnOk};
 ghost use Rattle.map_defs.specs.Kind.{beta};
 ghost use Rattle.map_defs.specs.Rows.{links_of, made};
 ghost use Rattle.map_defs.specs.Laws.{Laws};
 ghost use Rattle.cell_edit.specs.Stars.{star_of};
 ghost use Rattle.cell_edit.specs.Writing.{WritesEntries, Appends};
-ghost use Rattle.beta_edit.specs.Cutting.{IsAlongEntry, IsOverEntry, IsCornerEntry, AreCutEntries, IsTurn, AreTurns};
+ghost use Rattle.beta_edit.specs.Cutting.{IsAlongEntry, IsCornerEntry, AreCutEntries, IsTurn, AreTurns};
 
 use crate::writing::{push_link, push_way};
 use cell_edit::{Stars, room_for_changes};

@@ -5,7 +5,7 @@ ghost use Rattle.map_defs.specs.Removal.{IsFlatAt};
 use link_rows::Links;
 use map_kind::{Beta, Dart};
 
-/// Whether at the begin of each of these darts two sides meet, on each side of the face.
+/// Whether at the start of each of these darts two sides meet, on each side of the face.
 pub(crate) fn are_flat<const DIM: usize>(links: &Links<Beta, DIM>, darts: &[Dart]) -> bool
     ensures { IsTrue result ↔ ((b : ℕ) → Contains darts.now b → IsFlatAt (links_of links.now.rows) b) }
 {

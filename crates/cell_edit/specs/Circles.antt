@@ -14,7 +14,7 @@ abbrev pub vertex_words : Kind → List LinkWord
 vertex_words alpha = one_link 1 ∷ one_link 2 ∷ []
 vertex_words beta = two_links 2 1 ∷ two_links 0 2 ∷ []
 
--- the seed of a face's pairs that joins the end of side b to the begin of side c
+-- the seed of a face's pairs that joins the end of side b to the start of side c
 abbrev pub side_seed : Kind → Links → ℕ → ℕ → Triple
 side_seed alpha L b c = record { x = L 0 b; y = c; t = 1 }
 side_seed beta L b c = record { x = c; y = b; t = 1 }

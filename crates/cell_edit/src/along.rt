@@ -45,8 +45,8 @@ pub(crate) fn reached<K: Kind, const DIM: usize>(
     orbits_of(alloc, links, &words, darts)
 }
 
-/// The darts of an insertion at a link that grow from some darts along the links along which the new darts lie, those darts
-/// among them, ascending.
+/// The darts that an insertion at a link carries from some darts: those darts, and all to which the links of `carrying_links`
+/// lead from them, ascending.
 pub fn carried_darts<K: Kind, const DIM: usize>(
     alloc: Global,
     links: &Links<K, DIM>,

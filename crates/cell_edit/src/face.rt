@@ -1,4 +1,4 @@
-ghost use Rattle.std.specs.Prelude.{◌≡◌, ℕ, ◌≤◌, ◌<◌, ◌↔◌, All, length, IfOk, OnOk, IsErrOf};
+ghost use Rattle.std.specs.Prelude.{ℕ, ◌≤◌, ◌<◌, ◌↔◌, All, length, IfOk, OnOk, IsErrOf};
 ghost use Rattle.map_defs.specs.Rows.{links_of, IsLive};
 ghost use Rattle.map_defs.specs.Laws.{Laws};
 ghost use Rattle.map_defs.specs.Insertion.{FacePairs, IsClosedPath, IsFacePaired};
@@ -11,9 +11,9 @@ use crate::path::{are_apart, face_seeds, is_closed, is_on_one_volume};
 use link_rows::{Edit, Links};
 use map_kind::{Dart, Kind, Refusal, Refused};
 use sewing::{PairFault, Triple};
-use std::alloc::{AllocError, Global};
+use std::alloc::Global;
 
-/// The edit that inserts a face into a volume along a closed path, which is given by one dart at the begin of each of its
+/// The edit that inserts a face into a volume along a closed path, which is given by one dart at the start of each of its
 /// sides. Each dart of the path's sides, with their copies on the other volumes, gets a new dart, numbered on from those
 /// that were made in the order of these darts; link 2 joins the two, link 1 joins the new darts around the face, and link
 /// 3 across it.

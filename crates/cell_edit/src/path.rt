@@ -98,7 +98,7 @@ pub(crate) fn are_apart(alloc: Global, darts: &[Dart]) -> Result<bool, AllocErro
     Ok(true)
 }
 
-/// The pairs from which those of a face along a closed path grow: the end of each side with the begin of the next.
+/// The pairs from which those of a face along a closed path grow: the end of each side with the start of the next.
 pub(crate) fn face_seeds<K: Kind, const DIM: usize>(
     alloc: Global,
     links: &Links<K, DIM>,
@@ -115,7 +115,7 @@ pub(crate) fn face_seeds<K: Kind, const DIM: usize>(
     Ok(seeds)
 }
 
-/// The pair that joins the end of the side of `one` to the begin of that of `next`.
+/// The pair that joins the end of the side of `one` to the start of that of `next`.
 fn side_seed<K: Kind, const DIM: usize>(links: &Links<K, DIM>, one: Dart, next: Dart) -> Triple
     requires { IsJoining K.kind (links_of links.now.rows) one next }
     ensures { result ≡ side_seed K.kind (links_of links.now.rows) one next }

@@ -11,11 +11,11 @@ use Rattle.cell_edit.specs.Writing.{WritesEntries}
 use Rattle.face_center.specs.declared.hanging.Hanging.{Hanging}
 use Rattle.face_center.specs.declared.hanging.Hanging.TheVariants.{Corner, Face}
 
--- the end of the new edge of x: the ends are numbered on from the begins
+-- the end of the new edge of x: the ends are numbered on from the starts
 abbrev pub tip_of : Stars → ℕ → ℕ
 tip_of stars x = number_from (stars.made + length stars.keys + 1) stars.keys x
 
--- the dart whose link 1 becomes the begin of the new edge of x
+-- the dart whose link 1 becomes the start of the new edge of x
 abbrev pub before : Kind → Hanging → Links → ℕ → ℕ
 before alpha h L x = x
 before beta Corner L x = L 0 x
@@ -32,7 +32,7 @@ abbrev pub across : Hanging → Links → ℕ → ℕ → ℕ
 across Corner L s x = x
 across Face L s x = L s x
 
--- link t of the new darts of x leads to new darts of this dart; the side s is 1 at the begin of the new edge, and 0 at its end
+-- link t of the new darts of x leads to new darts of this dart; the side s is 1 at the start of the new edge, and 0 at its end
 abbrev pub beside : Kind → Hanging → Links → ℕ → ℕ → ℕ → ℕ
 beside alpha h L s x zero = x
 beside alpha h L s x (suc zero) = L (turning h) x
@@ -43,7 +43,7 @@ beside beta h L s x (suc zero) = x
 beside beta h L s x (suc (suc zero)) = across h L s x
 beside beta h L s x (suc (suc (suc t))) = L (suc (suc (suc t))) (before beta h L x)
 
--- what link t becomes at the begin of the new edge of x, 0 where it stays free
+-- what link t becomes at the start of the new edge of x, 0 where it stays free
 abbrev pub star_link : Kind → Hanging → Links → (ℕ → ℕ) → (ℕ → ℕ) → ℕ → ℕ → ℕ
 star_link alpha h L star tip x zero = tip x
 star_link alpha h L star tip x (suc zero) = x

@@ -9,12 +9,12 @@ use crate::hanging::{Hanging, hanging_edit};
 use cell_edit::alpha_corner;
 use link_rows::{Edit, Links};
 use map_kind::{Alpha, Dart, Refused};
-use std::alloc::{AllocError, Global};
+use std::alloc::Global;
 
 /// The edit that hangs a dangling edge in the face of a dart, at the dart's corner. Each dart of the corner, on all sides of
 /// the face, gets two new darts, at which the new edge begins and ends, numbered on from those that were made: first the
-/// begins in the order of the corner's darts, then the ends in the same order. Link 1 joins the dart with the begin, link 0
-/// the begin with the end, and link 1 the ends, where the edge dangles.
+/// starts in the order of the corner's darts, then the ends in the same order. Link 1 joins the dart with the start, link 0
+/// the start with the end, and link 1 the ends, where the edge dangles.
 ///
 /// It is always possible: only memory can lack.
 ///

@@ -9,12 +9,12 @@ use crate::hanging::{Hanging, hanging_edit};
 use cell_edit::beta_corner;
 use link_rows::{Edit, Links};
 use map_kind::{Beta, Dart, Refusal, Refused};
-use std::alloc::{AllocError, Global};
+use std::alloc::Global;
 
 /// The edit that hangs a dangling edge in the face of a dart, at the dart's corner. Each dart of the corner, on all sides of
 /// the face, gets two new darts, at which the new edge begins and ends, numbered on from those that were made: first the
-/// begins in the order of the corner's darts, then the ends in the same order. The way that led into the corner leads over
-/// the begin to where the edge dangles, and over the end back into the corner.
+/// starts in the order of the corner's darts, then the ends in the same order. The way that led into the corner leads over
+/// the start to where the edge dangles, and over the end back into the corner.
 ///
 /// `Unpaired` comes exactly where no way leads into the corner, as the dart is 0-free, memory aside.
 ///

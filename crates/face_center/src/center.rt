@@ -11,9 +11,9 @@ use std::alloc::Global;
 
 /// The edit that makes a vertex in the middle of the face of a dart, with an edge to each corner. Each dart of the face, on
 /// both its sides, gets two new darts, at which its new edge begins and ends, numbered on from those that were made: first
-/// the begins in the order of the face's darts, then the ends in the same order. In a generalized map link 1 joins the dart
-/// with the begin, link 0 the begin with the end, and link 1 the ends around the new vertex. In a combinatorial map the way
-/// leads from the dart over the begin to the new vertex, and over the end back to the dart.
+/// the starts in the order of the face's darts, then the ends in the same order. In a generalized map link 1 joins the dart
+/// with the start, link 0 the start with the end, and link 1 the ends around the new vertex. In a combinatorial map the way
+/// leads from the dart over the start to the new vertex, and over the end back to the dart.
 ///
 /// `NotClosed` comes exactly where link 0 or link 1 of some dart of the face is free, memory aside.
 ///

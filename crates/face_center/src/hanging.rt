@@ -168,8 +168,8 @@ fn push_new<K: Kind, const DIM: usize>(
 }
 
 /// The numbers at a link of the darts at which the new edge of a dart with this row begins and ends; 0 where the link stays
-/// free. From link 2 on they are those of the new edges of neighbours: in a generalized map begins lead to begins, and in a
-/// combinatorial one begins lead to ends.
+/// free. From link 2 on they are those of the new edges of neighbours: in a generalized map starts lead to starts, and in a
+/// combinatorial one starts lead to ends.
 fn new_links<K: Kind, const DIM: usize>(
     links: &Links<K, DIM>,
     row: &Row<DIM>,
@@ -221,7 +221,7 @@ fn new_links<K: Kind, const DIM: usize>(
     }
 }
 
-/// The dart whose link 1 leads to the begin of the new edge of a dart with this row.
+/// The dart whose link 1 leads to the start of the new edge of a dart with this row.
 fn before<K: Kind, const DIM: usize>(
     links: &Links<K, DIM>,
     row: &Row<DIM>,
@@ -300,7 +300,7 @@ fn edge_at(stars: &Stars, place: usize) -> Edge
     }
 }
 
-/// The dart at which the edge ends that begins at a dart: the ends are numbered on from the begins.
+/// The dart at which the edge ends that begins at a dart: the ends are numbered on from the starts.
 fn tip(stars: &Stars, begin: Dart) -> Dart
     requires { begin + length stars.now.keys < 2 ^ 32 }
     ensures { result ≡ begin + length stars.now.keys }
