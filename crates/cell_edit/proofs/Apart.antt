@@ -9,12 +9,6 @@ use Rattle.std.proofs.lemmas.List.Quantifiers.{all_pairs_push}
 abbrev pub AreSeen : List ℕ → ℕ → List ℕ → Type 0
 AreSeen darts k seen = ((e : ℕ) → Contains seen e ↔ Contains (take k darts) e) × AllPairs (λ x y. x ≢ y) (take k darts)
 
-pub seen-none : (darts seen : List ℕ) → seen ≡ [] → AreSeen darts 0 seen
-seen-none darts seen none = (
-  (λ e. (λ has. absurd (omega (arith, (subst (λ xs. Contains xs e) none has).1)), λ has. absurd (omega (arith, length-take 0 darts, has.1)))),
-  λ i j d low high. absurd (omega (arith, length-take 0 darts)),
-)
-
 pub seen-more : (darts : List ℕ) (k d : ℕ) (seen new : List ℕ) → k < length darts → d ≡ get_or darts k d → (Contains seen d → ⊥) → ((e : ℕ) → Contains new e ↔ (Contains seen e ⊎ (d ≡ e)))
     → AreSeen darts k seen → AreSeen darts (k + 1) new
 seen-more darts k d seen new low at fresh grown (same, apart) = (

@@ -2,7 +2,7 @@
 use Rattle.std.proofs.Common.{ℕ, ◌≡◌, ◌≢◌, ◌+◌, ◌<◌, ◌≤◌, ◌⊎◌, List, [], ◌∷◌, ◌++◌, length, take, slice_index, get_or, Contains, refl, sym, ap, ◌∙◌, subst, inl, inr, append_assoc, arith}
 use Rattle.std.specs.List.Sorted.{IsStrictlyIncreasing}
 use Rattle.std.proofs.lemmas.Bool.{cases_lt}
-use Rattle.std.proofs.lemmas.List.{append-nil, take_all, take_more, get_or-take, get_or_default, length-take}
+use Rattle.std.proofs.lemmas.List.{append-nil, take_more, get_or-take, get_or_default, length-take}
 use Rattle.std.proofs.lemmas.List.Elements.{Contains-append_left, Contains-push, Contains-push_cases}
 use Rattle.map_defs.specs.Kind.{Kind, alpha, beta, inverse}
 use Rattle.map_defs.specs.Links.{Links}
@@ -49,13 +49,6 @@ module _ (L : Links) (x : ℕ) where
   -- ---- the links of a dart that ends, one after another
   pub ends-none : (cs : List Change) → Appends L (IsEndingEntry L 0 x) cs cs
   ends-none cs = appends-none L (IsEndingEntry L 0 x) cs (λ d t y e. omega (arith, e.1))
-
-  pub ends-all : (m n : ℕ) (a b : List Change) → m ≡ n → Appends L (IsEndingEntry L m x) a b → Appends L (IsEndingEntry L n x) a b
-  ends-all m n a b e has = subst (λ k. Appends L (IsEndingEntry L k x) a b) e has
-
-  -- no link is left
-  pub ends-free : (m : ℕ) (cs : List Change) → ((t : ℕ) → L t x ≡ 0) → Appends L (IsEndingEntry L m x) cs cs
-  ends-free m cs free = appends-none L (IsEndingEntry L m x) cs (λ d t y e. e.2 (free t))
 
   -- a link that is free already
   pub ends-skip : (m : ℕ) (a b : List Change) → L m x ≡ 0 → Appends L (IsEndingEntry L m x) a b → Appends L (IsEndingEntry L (m + 1) x) a b
@@ -124,9 +117,6 @@ module _ (k : Kind) (L : Links) (w : Laws k L) (i a m : ℕ) (own : inverse k i 
   entries-apart u x d t y z other hu hx (inr e) (inl f) = e.2 (subst (Contains keys) (sym f.0) hx)
   entries-apart u x d t y z other hu hx (inr e) (inr f) = other (sym (beyond-back k L w i u d own e.0 e.1) ∙ beyond-back k L w i x d own f.0 f.1)
 
-  pub cell-none : WritesEntries L (IsCellEntry k L i a m keys (take 0 keys)) []
-  cell-none = writes-none L (IsCellEntry k L i a m keys (take 0 keys)) (λ d t y e. omega (arith, length-take 0 keys, e.1.1))
-
   listed-apart : (q x u : ℕ) → IsStrictlyIncreasing keys → q < length keys → x ≡ get_or keys q x → Contains (take q keys) u → u ≢ x
   listed-apart q x u up low at has e =
       let p : ℕ = has.0 in
@@ -159,6 +149,3 @@ module _ (k : Kind) (L : Links) (w : Laws k L) (i a m : ℕ) (own : inverse k i 
       from : (d t y : ℕ) (e : IsCellEntry k L i a m keys (take (q + 1) keys) d t y) → Contains (take q keys) e.0 ⊎ (x ≡ e.0) → IsCellEntry k L i a m keys (take q keys) d t y ⊎ IsDartEntry k L i a m keys x d t y
       from d t y e (inl had) = inl (e.0, had, e.2)
       from d t y e (inr is) = inr (subst (λ u. IsDartEntry k L i a m keys u d t y) (sym is) e.2)
-
-  pub cell-all : (q : ℕ) (cs : List Change) → length keys ≤ q → WritesEntries L (IsCellEntry k L i a m keys (take q keys)) cs → WritesEntries L (IsCellEntry k L i a m keys keys) cs
-  cell-all q cs past writes = subst (λ ks. WritesEntries L (IsCellEntry k L i a m keys ks) cs) (take_all q keys past) writes

@@ -1,12 +1,12 @@
 -- The changes of one dart and of its new dart, and those of one dart after another.
-use Rattle.std.proofs.Common.{ℕ, ◌≡◌, ◌≢◌, ◌+◌, ◌<◌, ◌≤◌, ◌⊎◌, List, [], ◌∷◌, ◌++◌, length, take, get_or, Contains, refl, sym, ap, ◌∙◌, subst, inl, inr, append_assoc, arith}
-use Rattle.std.proofs.lemmas.List.{take_all, take_more, length-take}
+use Rattle.std.proofs.Common.{ℕ, ◌≡◌, ◌≢◌, ◌+◌, ◌<◌, ◌⊎◌, List, [], ◌∷◌, ◌++◌, length, take, get_or, Contains, refl, sym, ap, ◌∙◌, subst, inl, inr, append_assoc, arith}
+use Rattle.std.proofs.lemmas.List.{take_more}
 use Rattle.std.proofs.lemmas.List.Elements.{Contains-append_left, Contains-push, Contains-push_cases}
 use Rattle.map_defs.specs.Kind.{Kind}
 use Rattle.map_defs.specs.Links.{Links}
 use Rattle.map_defs.specs.Edits.{Change}
 use Rattle.cell_edit.specs.Writing.{WritesEntries, Appends, IsNewEntry, IsKeyEntry, IsCarriedEntry}
-use Rattle.cell_edit.proofs.Writings.{writes-none, writes-one, writes-append, writes-same}
+use Rattle.cell_edit.proofs.Writings.{writes-one, writes-append, writes-same}
 
 module _ (k : Kind) (L : Links) (i : ℕ) (star : ℕ → ℕ) (x : ℕ) where
   -- ---- the link of the old dart, before the links of the new one
@@ -23,9 +23,6 @@ module _ (k : Kind) (L : Links) (i : ℕ) (star : ℕ → ℕ) (x : ℕ) where
 
 -- ---- one dart after another
 module _ (k : Kind) (L : Links) (i m : ℕ) (star : ℕ → ℕ) where
-  pub carried-none : (keys : List ℕ) → WritesEntries L (IsCarriedEntry k L i star m (take 0 keys)) []
-  carried-none keys = writes-none L (IsCarriedEntry k L i star m (take 0 keys)) (λ d t y e. omega (arith, length-take 0 keys, e.1.1))
-
   -- the entries of two darts stand at places of their own
   entries-apart : (u x d t y z : ℕ) → u ≢ x → star u ≢ star x → u ≢ star x → x ≢ star u → IsKeyEntry k L i star m u d t y → IsKeyEntry k L i star m x d t z → ⊥
   entries-apart u x d t y z keys stars left right (inl e) (inl f) = keys (sym e.0 ∙ f.0)
@@ -53,6 +50,3 @@ module _ (k : Kind) (L : Links) (i m : ℕ) (star : ℕ → ℕ) where
       from : (d t y : ℕ) (e : IsCarriedEntry k L i star m (take (p + 1) keys) d t y) → Contains (take p keys) e.0 ⊎ (x ≡ e.0) → IsCarriedEntry k L i star m (take p keys) d t y ⊎ IsKeyEntry k L i star m x d t y
       from d t y e (inl has) = inl (e.0, has, e.2)
       from d t y e (inr is) = inr (subst (λ u. IsKeyEntry k L i star m u d t y) (sym is) e.2)
-
-  pub carried-all : (keys : List ℕ) (p : ℕ) (cs : List Change) → length keys ≤ p → WritesEntries L (IsCarriedEntry k L i star m (take p keys)) cs → WritesEntries L (IsCarriedEntry k L i star m keys) cs
-  carried-all keys p cs past writes = subst (λ ks. WritesEntries L (IsCarriedEntry k L i star m ks) cs) (take_all p keys past) writes

@@ -1,6 +1,5 @@
 -- The sides of a path, place by place.
-use Rattle.std.proofs.Common.{ℕ, zero, suc, Bool, true, ◌≡◌, ◌≢◌, ◌+◌, ◌<◌, ◌≤◌, ◌⊎◌, ◌↔◌, List, [], ◌∷◌, ◌++◌, length, slice_index, Contains, Option, Some, None, IsSome, refl, sym, ap, ◌∙◌, subst, inl, inr, eq-eqb, arith}
-use Rattle.std.specs.Prelude.{IsNone}
+use Rattle.std.proofs.Common.{ℕ, zero, suc, Bool, true, ◌≡◌, ◌≢◌, ◌+◌, ◌<◌, ◌≤◌, ◌⊎◌, ◌↔◌, List, [], ◌∷◌, ◌++◌, length, slice_index, Contains, refl, sym, ap, ◌∙◌, subst, inl, inr, eq-eqb, arith}
 use Rattle.std.proofs.lemmas.Bool.{cases_lt, ne_eqb}
 use Rattle.std.proofs.lemmas.List.Elements.{Contains-append_left, Contains-push, Contains-push_cases}
 use Rattle.map_defs.specs.Kind.{Kind, alpha, beta, inverse}
@@ -36,20 +35,6 @@ at-next path b c (around p last) = (p, omega arith, refl, ap (slice_index path) 
 
 -- ---- a path is closed where each place is
 module _ (k : Kind) (L : Links) (path : List ℕ) where
-  pub joining-more : (q : ℕ) → ((p : ℕ) → p < q → IsJoining k L (slice_index path p) (slice_index path (next_place (length path) p)))
-      → IsJoining k L (slice_index path q) (slice_index path (next_place (length path) q))
-      → (p : ℕ) → p < q + 1 → IsJoining k L (slice_index path p) (slice_index path (next_place (length path) p))
-  joining-more q before now p low = elim (cases_lt p q) [
-    | inl below ↦ before p below
-    | inr past ↦ let e : q ≡ p = omega arith in subst (λ r. IsJoining k L (slice_index path r) (slice_index path (next_place (length path) r))) e now
-  ]
-
-  pub closed-all : (q : ℕ) → length path ≤ q → ((p : ℕ) → p < q → IsJoining k L (slice_index path p) (slice_index path (next_place (length path) p))) → IsClosedPath k L path
-  closed-all q past each b c next =
-      let at = at-next path b c next in
-      subst (λ u. IsJoining k L u c) (sym at.2)
-      (subst (IsJoining k L (slice_index path at.0)) (sym at.3) (each at.0 (omega (arith, at.1))))
-
   pub closed-at : IsClosedPath k L path → (p : ℕ) → p < length path → IsJoining k L (slice_index path p) (slice_index path (next_place (length path) p))
   closed-at closed p low = closed (slice_index path p) (slice_index path (next_place (length path) p)) (next-at path p low)
 
@@ -155,12 +140,6 @@ closed-volume k L w path darts closed b has = subst (InOrbit (IsLinkedBy L (λ j
 abbrev pub IsSeedBelow : Kind → Links → List ℕ → ℕ → ℕ → ℕ → ℕ → Type 0
 IsSeedBelow k L path q x y t = (p : ℕ) × (p < q) × (side_seed k L (slice_index path p) (slice_index path (next_place (length path) p)) ≡ record { x = x; y = y; t = t })
 
-pub seeds-none : (k : Kind) (L : Links) (path : List ℕ) (seeds : List Triple) → seeds ≡ [] → (x y t : ℕ) → Lists seeds x y t ↔ IsSeedBelow k L path 0 x y t
-seeds-none k L path seeds none x y t = (
-  λ has. absurd (omega (arith, (subst (λ (qs : List Triple). Lists qs x y t) none has).1)),
-  λ below. absurd (omega (arith, below.1)),
-)
-
 pub seeds-more : (k : Kind) (L : Links) (path : List ℕ) (q : ℕ) (s : Triple) (seeds : List Triple) → s ≡ side_seed k L (slice_index path q) (slice_index path (next_place (length path) q))
     → ((x y t : ℕ) → Lists seeds x y t ↔ IsSeedBelow k L path q x y t)
     → (x y t : ℕ) → Lists (seeds ++ s ∷ []) x y t ↔ IsSeedBelow k L path (q + 1) x y t
@@ -208,11 +187,6 @@ seeds-all beta L path q past x y t = (to, from)
     from (next, link) =
         let at = at-next path y x next in
         (at.0, omega (arith, at.1), triple-is x y t (slice_index path (next_place (length path) at.0)) (slice_index path at.0) 1 at.3 at.2 link)
-
--- a dart is there unless there is none
-pub some-linked : (o : Option ℕ) → (IsNone o → ⊥) → IsSome o
-some-linked None not = absurd (not refl)
-some-linked (Some d) not = refl
 
 -- ---- the darts of the volume of the first side
 pub volume-of : (L : Links) (path volume : List ℕ) (start : ℕ) → start ≡ slice_index path 0
