@@ -27,13 +27,13 @@ pub record CanBeDrawn (rows : Rows) (beside : Option ℕ) (keys : List ℕ) : Ty
 
 -- The entries of one link s of a dart b that ends: the link becomes free, and the inverse link of the dart where it leads is
 -- drawn across, if that dart remains.
-abbrev pub IsLinkEntry : Links → Option ℕ → List ℕ → ℕ → ℕ → ℕ → ℕ → ℕ → Type 0
-IsLinkEntry L beside keys b s d t y = (L s b ≢ 0)
+abbrev pub IsDrawnEntry : Links → Option ℕ → List ℕ → ℕ → ℕ → ℕ → ℕ → ℕ → Type 0
+IsDrawnEntry L beside keys b s d t y = (L s b ≢ 0)
     × (((d ≡ b) × (t ≡ s) × (y ≡ 0)) ⊎ ((d ≡ L s b) × (Contains keys d → ⊥) × (t ≡ inverse beta s) × DrawsTo L beside t keys b y))
 
 -- those of its links below m
 abbrev pub IsDartEntry : Links → Option ℕ → List ℕ → ℕ → ℕ → ℕ → ℕ → ℕ → Type 0
-IsDartEntry L beside keys m b d t y = (s : ℕ) × (s < m) × IsLinkEntry L beside keys b s d t y
+IsDartEntry L beside keys m b d t y = (s : ℕ) × (s < m) × IsDrawnEntry L beside keys b s d t y
 
 -- those of these darts, where all darts of keys end
 abbrev pub IsCellEntry : Links → Option ℕ → List ℕ → ℕ → List ℕ → ℕ → ℕ → ℕ → Type 0

@@ -5,7 +5,7 @@ ghost use Rattle.map_defs.specs.Laws.{Laws};
 ghost use Rattle.cell_edit.specs.Writing.{WritesEntries, Appends};
 ghost use Rattle.cell_edit.specs.Removing.{PlansEnding};
 ghost use Rattle.beta_edit.specs.Crossing.{drawn_step};
-ghost use Rattle.beta_edit.specs.Drawing.{IsDrawn, CanBeDrawn, IsLinkEntry, IsDartEntry, IsCellEntry};
+ghost use Rattle.beta_edit.specs.Drawing.{IsDrawn, CanBeDrawn, IsDrawnEntry, IsDartEntry, IsCellEntry};
 
 use crate::crossing::{is_among, walk_end_from_within};
 use crate::writing::room_for_ways;
@@ -92,7 +92,7 @@ fn push_link<const DIM: usize>(
     requires dart { Contains darts.now dart }
     requires link { link ≤ DIM }
     ensures { OnOk result (Appends (links_of links.now.rows)
-        (IsLinkEntry (links_of links.now.rows) beside darts.now dart link) changes.old.items changes.new.items) }
+        (IsDrawnEntry (links_of links.now.rows) beside darts.now dart link) changes.old.items changes.new.items) }
 {
     let Some(other) = links.link(dart, link) else {
         return Ok(());

@@ -1,11 +1,11 @@
 -- Changes that are appended, by the entries that they write: one group behind another, and a group for each of a list.
-use Rattle.std.proofs.Common.{ℕ, ◌≡◌, ◌+◌, ◌<◌, ◌⊎◌, ◌↔◌, List, [], ◌∷◌, ◌++◌, length, take, get_or, Contains, sym, ap, ◌∙◌, subst, inl, inr, append_assoc}
+use Rattle.std.proofs.Common.{ℕ, ◌≡◌, ◌≢◌, ◌+◌, ◌<◌, ◌⊎◌, ◌↔◌, List, [], ◌∷◌, ◌++◌, length, take, get_or, Contains, refl, sym, ap, ◌∙◌, subst, inl, inr, append_assoc}
 use Rattle.std.proofs.lemmas.List.{append-nil, take_more}
 use Rattle.std.proofs.lemmas.List.Elements.{Contains-append_left, Contains-push, Contains-push_cases}
 use Rattle.map_defs.specs.Links.{Links}
 use Rattle.map_defs.specs.Edits.{Change}
-use Rattle.cell_edit.specs.Writing.{WritesEntries, Appends}
-use Rattle.cell_edit.proofs.Writings.{writes-none, writes-append, writes-same}
+use Rattle.cell_edit.specs.Writing.{WritesEntries, Appends, IsLinkEntry}
+use Rattle.cell_edit.proofs.Writings.{writes-none, writes-one, writes-append, writes-same}
 
 module _ (L : Links) where
   pub appends-none : (E : ℕ → ℕ → ℕ → Type 0) (cs : List Change) → ((d t y : ℕ) → E d t y → ⊥) → Appends L E cs cs
@@ -21,6 +21,14 @@ module _ (L : Links) where
 
   pub appends-same : (E F : ℕ → ℕ → ℕ → Type 0) (a b : List Change) → ((d t y : ℕ) → E d t y ↔ F d t y) → Appends L E a b → Appends L F a b
   appends-same E F a b same (added, grown, writes) = (added, grown, writes-same L E F added same writes)
+
+  -- the change of one link of one dart
+  pub link-pushed : (d t z : ℕ) (cs : List Change) → z ≢ 0 → Appends L (IsLinkEntry d t z) cs (cs ++ record { dart = d; link = t; old = L t d; new = z } ∷ [])
+  link-pushed d t z cs some =
+      let c : Change = record { dart = d; link = t; old = L t d; new = z } in
+      appends-same (λ e s y. (e ≡ d) × (s ≡ t) × (y ≡ z)) (IsLinkEntry d t z) cs (cs ++ c ∷ [])
+      (λ e s y. (λ o. (o.0, o.1, o.2, λ none. some (sym o.2 ∙ none)), λ o. (o.0, o.1, o.2)))
+      (c ∷ [], refl, writes-one L c refl)
 
 -- ---- the entries of each of a list
 module _ {X : Type 0} (L : Links) (E : X → ℕ → ℕ → ℕ → Type 0) where

@@ -18,6 +18,10 @@ pub record WritesEntries (L : Links) (Entry : ℕ → ℕ → ℕ → Type 0) (c
 abbrev pub Appends : Links → (ℕ → ℕ → ℕ → Type 0) → List Change → List Change → Type 0
 Appends L Entry old new = (added : List Change) × (new ≡ old ++ added) × WritesEntries L Entry added
 
+-- the entry of link i of x, which becomes z; none where z is 0
+abbrev pub IsLinkEntry : ℕ → ℕ → ℕ → ℕ → ℕ → ℕ → Type 0
+IsLinkEntry x i z d t y = (d ≡ x) × (t ≡ i) × (y ≡ z) × (y ≢ 0)
+
 -- the link of an old dart from which link t of its new dart is copied, in an insertion at link i
 abbrev pub copied : Kind → ℕ → ℕ → ℕ
 copied k i t = if t == i + 1 then i else inverse k t

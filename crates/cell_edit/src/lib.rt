@@ -18,6 +18,7 @@ mod path;
 mod places;
 mod room;
 mod stars;
+mod writing;
 
 pub use along::{carried_darts, carrying_links, insertion_pairs, leads};
 pub use corner::{
@@ -31,3 +32,4 @@ pub use insertion::insertion_edit;
 pub use near::is_near;
 pub use room::room_for_changes;
 pub use stars::Stars;
+pub use writing::push_link;

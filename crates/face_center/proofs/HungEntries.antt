@@ -1,22 +1,13 @@
 -- The changes of one dart on which an edge is hung.
-use Rattle.std.proofs.Common.{ℕ, ◌≡◌, ◌≢◌, ◌+◌, ◌<◌, ◌≤◌, ◌⊎◌, List, [], ◌∷◌, ◌++◌, refl, sym, ap, ◌∙◌, inl, inr, arith}
+use Rattle.std.proofs.Common.{ℕ, ◌≡◌, ◌≢◌, ◌+◌, ◌<◌, ◌≤◌, ◌⊎◌, List, refl, sym, ap, ◌∙◌, inl, inr, arith}
 use Rattle.std.proofs.lemmas.Bool.{cases_lt}
 use Rattle.map_defs.specs.Kind.{Kind, alpha, beta}
 use Rattle.map_defs.specs.Links.{Links}
 use Rattle.map_defs.specs.Edits.{Change}
-use Rattle.cell_edit.specs.Writing.{Appends}
+use Rattle.cell_edit.specs.Writing.{Appends, IsLinkEntry}
 use Rattle.face_center.specs.declared.hanging.Hanging.{Hanging}
-use Rattle.face_center.specs.Hanging.{before, star_link, tip_link, IsLinkEntry, IsNewEntry, IsOldEntry, IsHungEntry}
-use Rattle.cell_edit.proofs.Writings.{writes-one}
+use Rattle.face_center.specs.Hanging.{before, star_link, tip_link, IsNewEntry, IsOldEntry, IsHungEntry}
 use Rattle.cell_edit.proofs.Appending.{appends-none, appends-then, appends-same}
-
--- ---- one link of one dart
-pub link-pushed : (L : Links) (d t z : ℕ) (cs : List Change) → z ≢ 0 → Appends L (IsLinkEntry d t z) cs (cs ++ record { dart = d; link = t; old = L t d; new = z } ∷ [])
-link-pushed L d t z cs some =
-    let c : Change = record { dart = d; link = t; old = L t d; new = z } in
-    appends-same L (λ e s y. (e ≡ d) × (s ≡ t) × (y ≡ z)) (IsLinkEntry d t z) cs (cs ++ c ∷ [])
-    (λ e s y. (λ o. (o.0, o.1, o.2, λ none. some (sym o.2 ∙ none)), λ o. (o.0, o.1, o.2)))
-    (c ∷ [], refl, writes-one L c refl)
 
 module _ (k : Kind) (h : Hanging) (L : Links) (star tip : ℕ → ℕ) (x : ℕ) where
   -- ---- the links of the new darts, one after another

@@ -7,7 +7,7 @@ use Rattle.map_defs.specs.Links.{Links}
 use Rattle.map_defs.specs.Rows.{Rows, links_of, made, made_max, IsLive}
 use Rattle.map_defs.specs.Edits.{Edit}
 use Rattle.cell_edit.specs.Stars.{Stars, number_from, star_of}
-use Rattle.cell_edit.specs.Writing.{WritesEntries}
+use Rattle.cell_edit.specs.Writing.{WritesEntries, IsLinkEntry}
 use Rattle.face_center.specs.declared.hanging.Hanging.{Hanging}
 use Rattle.face_center.specs.declared.hanging.Hanging.TheVariants.{Corner, Face}
 
@@ -58,10 +58,6 @@ tip_link alpha h L star tip x (suc t) = tip (beside alpha h L 0 x (suc t))
 tip_link beta h L star tip x zero = star x
 tip_link beta h L star tip x (suc zero) = x
 tip_link beta h L star tip x (suc (suc t)) = star (beside beta h L 0 x (suc (suc t)))
-
--- the entry of link i of x, which becomes z; none where z is 0
-abbrev pub IsLinkEntry : ℕ → ℕ → ℕ → ℕ → ℕ → ℕ → Type 0
-IsLinkEntry x i z d t y = (d ≡ x) × (t ≡ i) × (y ≡ z) × (y ≢ 0)
 
 -- the entries of the links below m of the new darts of x
 abbrev pub IsNewEntry : Kind → Hanging → Links → (ℕ → ℕ) → (ℕ → ℕ) → ℕ → ℕ → ℕ → ℕ → ℕ → Type 0

@@ -4,8 +4,8 @@ ghost use Rattle.cell_edit.specs.Stars.{star_of};
 ghost use Rattle.cell_edit.specs.Writing.{WritesEntries, Appends};
 ghost use Rattle.face_center.specs.Hanging.{tip_of, before, turning, star_link, tip_link, IsOldEntry, IsNewEntry, IsHungEntry, AreHungEntries, CanPair, CanHang, HangsEdges};
 
-use crate::writing::{push_link, room_for_edges};
-use cell_edit::Stars;
+use crate::writing::room_for_edges;
+use cell_edit::{Stars, push_link};
 use link_rows::{Change, Edit, Links, Row};
 use map_kind::{Dart, Kind, is_generalized};
 use std::alloc::{AllocError, Global};

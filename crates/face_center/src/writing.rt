@@ -1,9 +1,6 @@
-ghost use Rattle.std.specs.Prelude.{ℕ, ◌≡◌, ◌+◌, ◌*◌, ◌≤◌, ◌<◌, [], IfOk, vec_len, vec_capacity};
-ghost use Rattle.cell_edit.specs.Writing.{Appends};
-ghost use Rattle.face_center.specs.Hanging.{IsLinkEntry};
+ghost use Rattle.std.specs.Prelude.{◌≡◌, ◌+◌, ◌*◌, ◌≤◌, [], IfOk, vec_capacity};
 
 use link_rows::Change;
-use map_kind::Dart;
 use std::alloc::{AllocError, Global};
 
 /// No changes yet, with room for those of so many darts of a map of dimension `dim`, on each of which an edge is hung: one of
@@ -18,24 +15,4 @@ pub(crate) fn room_for_edges(
     ensures room { IfOk result (λ changes. darts * (2 * dim + 4) ≤ vec_capacity changes) }
 {
     Vec::with_capacity(alloc, darts.saturating_mul(2 * dim + 4))
-}
-
-/// Appends the change by which a link of a new dart becomes the dart of this number; none where the number is 0. There is room
-/// for it.
-pub(crate) fn push_link(new: Dart, link: usize, number: u32, changes: &mut Vec<Change>)
-    requires { vec_len changes.old < vec_capacity changes.old }
-    ensures capacity { vec_capacity changes.new ≡ vec_capacity changes.old }
-    ensures few { vec_len changes.new ≤ vec_len changes.old + 1 }
-    ensures entry { (L : ℕ → ℕ → ℕ) → L link new ≡ 0
-        → Appends L (IsLinkEntry new link number) changes.old.items changes.new.items }
-{
-    if number == 0 {
-        return;
-    }
-    changes.push_reserved(Change {
-        dart: new,
-        link,
-        old: 0,
-        new: number,
-    });
 }

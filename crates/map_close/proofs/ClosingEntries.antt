@@ -4,8 +4,8 @@ use Rattle.std.proofs.lemmas.Bool.{cases_lt}
 use Rattle.map_defs.specs.Kind.{Kind}
 use Rattle.map_defs.specs.Links.{Links}
 use Rattle.map_defs.specs.Edits.{Change}
-use Rattle.cell_edit.specs.Writing.{Appends}
-use Rattle.map_close.specs.NewLinks.{IsNewLink, IsLinkEntry, IsNewEntry, IsOpenEntry}
+use Rattle.cell_edit.specs.Writing.{Appends, IsLinkEntry}
+use Rattle.map_close.specs.NewLinks.{IsNewLink, IsNewEntry, IsOpenEntry}
 use Rattle.cell_edit.proofs.Appending.{appends-none, appends-then, appends-same}
 
 module _ (k : Kind) (i : ℕ) (L : Links) (star : ℕ → ℕ) (x : ℕ) where

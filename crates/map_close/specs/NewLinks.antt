@@ -8,6 +8,7 @@ use Rattle.map_defs.specs.Insertion.{IsJustBelow}
 use Rattle.map_defs.specs.Rows.{Rows, links_of, made, IsLive}
 use Rattle.map_defs.specs.Closing.{IsOpen, IsAround}
 use Rattle.cell_edit.specs.Stars.{Stars}
+use Rattle.cell_edit.specs.Writing.{IsLinkEntry}
 
 -- Link t of the new dart of x becomes z in a closing at link i, where 0 is for a link that stays free.
 pub record IsNewLink (k : Kind) (i : ℕ) (L : Links) (star : ℕ → ℕ) (x t z : ℕ) : Type 0 where
@@ -18,10 +19,6 @@ pub record IsNewLink (k : Kind) (i : ℕ) (L : Links) (star : ℕ → ℕ) (x t 
   -- a link just below leads around the boundary
   pub around : (y : ℕ) → IsJustBelow k i t → IsAround k i t L x y → z ≡ star y
   pub next : t ≡ suc i → z ≡ 0
-
--- the entry of link i of x, which becomes z; none where z is 0
-abbrev pub IsLinkEntry : ℕ → ℕ → ℕ → ℕ → ℕ → ℕ → Type 0
-IsLinkEntry x i z d t y = (d ≡ x) × (t ≡ i) × (y ≡ z) × (y ≢ 0)
 
 -- the entries of the links below m of the new dart of x
 abbrev pub IsNewEntry : Kind → ℕ → Links → (ℕ → ℕ) → ℕ → ℕ → ℕ → ℕ → ℕ → Type 0

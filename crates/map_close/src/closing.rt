@@ -1,15 +1,15 @@
-ghost use Rattle.std.specs.Prelude.{◌≡◌, ℕ, ◌+◌, ◌≤◌, ◌<◌, Contains, IfOk, vec_len, vec_capacity};
+ghost use Rattle.std.specs.Prelude.{◌≡◌, ◌+◌, ◌≤◌, ◌<◌, Contains, IfOk, vec_len, vec_capacity};
 ghost use Rattle.map_defs.specs.Kind.{inverse};
-ghost use Rattle.map_defs.specs.Rows.{Rows, links_of};
+ghost use Rattle.map_defs.specs.Rows.{links_of};
 ghost use Rattle.map_defs.specs.Laws.{Laws};
 ghost use Rattle.cell_edit.specs.Stars.{star_of};
 ghost use Rattle.cell_edit.specs.Writing.{WritesEntries, Appends};
 ghost use Rattle.map_close.specs.Planning.{PlansClosing};
-ghost use Rattle.map_close.specs.NewLinks.{IsNewLink, IsLinkEntry, IsNewEntry, IsOpenEntry, AreClosingEntries, CanClose};
+ghost use Rattle.map_close.specs.NewLinks.{IsNewLink, IsNewEntry, IsOpenEntry, AreClosingEntries, CanClose};
 
 use crate::boundary::{next_open, open_darts};
 use crate::star_table::StarTable;
-use cell_edit::room_for_changes;
+use cell_edit::{push_link, room_for_changes};
 use link_rows::{Change, Edit, Links};
 use map_kind::{Dart, Kind};
 use std::alloc::{AllocError, Global};
@@ -99,26 +99,6 @@ fn push_links<K: Kind, const DIM: usize>(
         let number = new_link(links, link, stars, dart, at);
         push_link(new, at, number, changes);
     }
-}
-
-/// Appends the change by which a link of a dart that is free becomes the dart of this number; none where the number is 0.
-/// There is room for it.
-fn push_link(dart: Dart, link: usize, number: u32, changes: &mut Vec<Change>)
-    requires room { vec_len changes.old < vec_capacity changes.old }
-    ensures capacity { vec_capacity changes.new ≡ vec_capacity changes.old }
-    ensures few { vec_len changes.new ≤ vec_len changes.old + 1 }
-    ensures entry { (rows : Rows) → links_of rows link dart ≡ 0
-        → Appends (links_of rows) (IsLinkEntry dart link number) changes.old.items changes.new.items }
-{
-    if number == 0 {
-        return;
-    }
-    changes.push_reserved(Change {
-        dart,
-        link,
-        old: 0,
-        new: number,
-    });
 }
 
 /// The number at a link of an open dart's new dart; 0 where it stays free.

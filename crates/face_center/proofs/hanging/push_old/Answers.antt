@@ -2,9 +2,10 @@ use Rattle.std.proofs.Common.{ℕ, ◌≡◌, ◌≢◌, ◌++◌, ◌∷◌, []
 use Rattle.std.proofs.lemmas.Bool.{false≢true}
 use Rattle.map_defs.specs.Edits.{Change}
 use Rattle.map_defs.specs.Rows.{links_of}
-use Rattle.cell_edit.specs.Writing.{Appends}
-use Rattle.face_center.specs.Hanging.{before, IsLinkEntry}
-use Rattle.face_center.proofs.HungEntries.{link-pushed, old-alone, old-both}
+use Rattle.cell_edit.specs.Writing.{Appends, IsLinkEntry}
+use Rattle.cell_edit.proofs.Appending.{link-pushed}
+use Rattle.face_center.specs.Hanging.{before}
+use Rattle.face_center.proofs.HungEntries.{old-alone, old-both}
 use Rattle.face_center.proofs.KindFacts.{other-kind}
 use Rattle.face_center.proofs.hanging.push_old.Goals as goal
 

@@ -14,5 +14,5 @@ returns-clause-entries g c =
     let above : stars.made < star_of stars c.args.dart = rw c.star.ensures.star at c.star.ensures.above in
     let apart : c.args.dart ≢ star_of stars c.args.dart = λ e. omega (arith, c.requires.can.made) in
     open-pushed g.K.Kind.kind c.args.link (links_of rows) (star_of stars) c.args.dart (g.row.DIM + 1) c.args.changes.now.items c.push_link.new.changes.items c.push_links.new.changes.items apart
-    ((rw (c.number.ensures.same, c.star.ensures.star) at c.push_link.ensures.entry rows) open_dart.1)
+    ((rw (c.number.ensures.same, c.star.ensures.star) at c.push_link.ensures.entry (links_of rows)) open_dart.1)
     c.push_links.ensures.entries

@@ -27,7 +27,7 @@ loop-at-preserved g c =
           (rounds k g.row.DIM rows sound c.args.link c.args.stars.now c.requires.can c.args.dart c.requires.key)
           c.loop-at.at y number other c.new_link-number.ensures)
           c.loop-at.invariant.0
-          ((rw c.star-new.ensures.star at c.push_link.ensures.entry rows) free),
+          ((rw c.star-new.ensures.star at c.push_link.ensures.entry (links_of rows)) free),
       c.push_link.ensures.capacity ∙ c.loop-at.invariant.1,
       omega (arith, c.push_link.ensures.few, c.loop-at.invariant.2),
     )
