@@ -9,7 +9,6 @@ use Rattle.map_defs.specs.Rows.{Rows, links_of, made, IsLive, IsSound}
 use Rattle.map_defs.specs.LinkWords.{IsCellWord}
 use Rattle.map_defs.specs.Cells.{InCell, Leads}
 use Rattle.map_defs.specs.Edits.{Edit}
-use Rattle.map_defs.specs.Walks.{Walk, stop, go}
 use Rattle.map_defs.specs.Removal.{IsBridged, IsRemovable}
 use Rattle.map_defs.specs.Contraction.{IsContractible}
 use Rattle.link_laws.proofs.CellFacts.{alpha_closed}
@@ -19,13 +18,9 @@ use Rattle.remove_laws.proofs.Removed.{removed_laws, contracted_laws}
 use Rattle.cell_edit.specs.Bridging.{across, CanEnd}
 use Rattle.cell_edit.specs.Removing.{PlansEnding}
 use Rattle.cell_edit.proofs.Premises.{orbit-live, leads-live, live-dart, all-live}
-use Rattle.cell_edit.proofs.WalkTurns.{listed-told}
+use Rattle.cell_edit.proofs.WalkTurns.{listed-told, walk-same}
 
 -- ---- other words for the same set
-pub walk-same : (C D : ℕ → Type 0) (st : ℕ → ℕ) → ((x : ℕ) → C x ↔ D x) → {x y : ℕ} → Walk C st x y → Walk D st x y
-walk-same C D st same (stop n) = stop (λ h. n ((same _).1 h))
-walk-same C D st same (go h w) = go ((same _).0 h) (walk-same C D st same w)
-
 pub bridged-of : (i : ℕ) (C D : ℕ → Type 0) (Step : ℕ → ℕ) (L N : Links) → ((x : ℕ) → C x ↔ D x) → IsBridged alpha i C Step L N → IsBridged alpha i D Step L N
 bridged-of i C D Step L N same b = record {
   gone = λ x t h. b.gone x t ((same x).1 h);

@@ -13,10 +13,8 @@ use Rattle.map_defs.specs.Contraction.{IsContractibleAt, IsContractible, IsContr
 use Rattle.std.specs.List.Sorted.{IsStrictlyIncreasing}
 use Rattle.cell_edit.specs.Bridging.{across, CanEnd}
 use Rattle.cell_edit.specs.Removing.{PlansEnding}
+use Rattle.cell_edit.proofs.Commuting.{commutes-at}
 use Rattle.alpha_edit.proofs.CellEnds.{ends-of, contraction-ends}
-
-commutes-at : (L : Links) (i j k l b : ℕ) → i ≡ k → j ≡ l → CommutesAt L i j b → CommutesAt L k l b
-commutes-at L i j k l b e f h = subst (λ s. CommutesAt L s l b) e (subst (λ s. CommutesAt L i s b) f h)
 
 -- a cell has a dart
 pub some-listed : (keys : List ℕ) (x : ℕ) → Contains keys x → 1 ≤ length keys

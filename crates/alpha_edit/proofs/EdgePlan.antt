@@ -1,20 +1,15 @@
 -- An edge between two corners, told by the lists of the corners' darts and of their pairs.
-use Rattle.std.proofs.Common.{ℕ, ◌≢◌, ◌≤◌, ◌⊎◌, ◌↔◌, List, [], ◌∷◌, Contains, refl, inl, inr}
+use Rattle.std.proofs.Common.{ℕ, ◌≢◌, ◌⊎◌, ◌↔◌, List, Contains, refl, inl, inr}
 use Rattle.map_defs.specs.Kind.{alpha}
 use Rattle.map_defs.specs.Links.{Links}
-use Rattle.map_defs.specs.Cells.{InOrbit}
 use Rattle.map_defs.specs.Pairs.{turned}
 use Rattle.map_defs.specs.Rows.{Rows, links_of, IsLive, IsSound}
-use Rattle.map_defs.specs.Insertion.{IsInsertable, IsCarrying, IsLinkedBy, AreOnOneSide, AlphaEdgeDarts, AlphaEdgePairs, AreAlphaEdgePaired}
+use Rattle.map_defs.specs.Insertion.{IsInsertable, IsCarrying, IsLinkedBy, AlphaEdgeDarts, AlphaEdgePairs, AreAlphaEdgePaired}
 use Rattle.insert_laws.proofs.AlphaInsert.{alpha_edge_can}
 use Rattle.sewing.specs.Triples.{Triple, Lists}
 use Rattle.cell_edit.specs.Writing.{ArePairsOf, IsCornerOf}
-use Rattle.cell_edit.proofs.AlongLinks.{links-orbit, zero-one}
 use Rattle.cell_edit.proofs.WalkTurns.{listed-told}
 use Rattle.cell_edit.proofs.Premises.{insertable-same, orbit-live, linked-live, pairs-among}
-
-pub one-side : (L : Links) (d e : ℕ) → InOrbit (IsLinkedBy L (Contains (0 ∷ 1 ∷ []))) d e ↔ AreOnOneSide L d e
-one-side L d e = links-orbit L (Contains (0 ∷ 1 ∷ [])) (λ j. j ≤ 1) (λ j x has some. (zero-one j).0 has) (λ j x low some. (zero-one j).1 low) d e
 
 pub corners-live : (n : ℕ) (rows : Rows) → IsSound alpha n rows → (d e : ℕ) → IsLive rows d → IsLive rows e → (x : ℕ) → AlphaEdgeDarts (links_of rows) d e x → IsLive rows x
 corners-live n rows sound d e live_d live_e x (inl o) = orbit-live (IsLinkedBy (links_of rows) (IsCarrying alpha 1)) rows (linked-live alpha n rows sound (IsCarrying alpha 1)) d x live_d o

@@ -1,19 +1,18 @@
-ghost use Rattle.std.specs.Prelude.{◌≡◌, ℕ, ◌≤◌, ◌↔◌, Contains, IfOk, OnOk, IsErrOf, IsTrue};
-ghost use Rattle.std.specs.List.Sorted.{IsStrictlyIncreasing};
+ghost use Rattle.std.specs.Prelude.{ℕ, ◌≤◌, ◌↔◌, IfOk, OnOk, IsErrOf};
 ghost use Rattle.map_defs.specs.Kind.{alpha};
 ghost use Rattle.map_defs.specs.Rows.{links_of, IsLive};
 ghost use Rattle.map_defs.specs.Laws.{Laws};
-ghost use Rattle.map_defs.specs.Insertion.{AreOnOneSide, AlphaEdgeDarts, AlphaEdgePairs, AreAlphaEdgePaired};
+ghost use Rattle.map_defs.specs.Insertion.{AlphaEdgePairs, AreAlphaEdgePaired};
 ghost use Rattle.sewing.specs.Triples.{Lists, IsAscending};
 ghost use Rattle.cell_edit.specs.Planning.{PlansEdge};
 
 use cell_edit::{
-    are_in_one_alpha_corner, corners, insertion_edit, insertion_pairs, is_near, leads,
+    are_in_one_alpha_corner, are_on_one_side, corners, insertion_edit, insertion_pairs,
 };
 use link_rows::{Edit, Links};
 use map_kind::{Alpha, Dart, Refusal, Refused};
 use sewing::{PairFault, Triple};
-use std::alloc::{AllocError, Global};
+use std::alloc::Global;
 
 /// The edit that inserts an edge into a face, from the corner of `one` to that of `other`. Each dart of the two corners, on
 /// all sides of the face, gets a new dart, numbered on from those that were made in the order of the corners' darts; link
@@ -51,23 +50,6 @@ pub fn edge_plan<const DIM: usize>(
         Err(PairFault::Unpaired) => Err(Refused::Line(Refusal::Unpaired)),
         Err(PairFault::NoMemory) => Err(Refused::NoMemory),
     }
-}
-
-/// Whether two darts lie on one side of one face. A few steps are taken each way around the face first; then the walk goes
-/// both ways, remembers the darts, and ends where it finds `other`.
-fn are_on_one_side<const DIM: usize>(
-    alloc: Global,
-    links: &Links<Alpha, DIM>,
-    one: Dart,
-    other: Dart,
-) -> Result<bool, AllocError>
-    requires { 2 ≤ DIM }
-    ensures { IfOk result (λ one_side. IsTrue one_side ↔ AreOnOneSide (links_of links.now.rows) one other) }
-{
-    if is_near(links, 0, 1, one, other) || is_near(links, 1, 0, one, other) {
-        return Ok(true);
-    }
-    leads(alloc, links, &[0, 1], one, other)
 }
 
 /// The pairs of the darts of two corners, ascending. `Unpaired` comes exactly where they cannot be paired.

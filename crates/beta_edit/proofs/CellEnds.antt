@@ -10,9 +10,10 @@ use Rattle.map_defs.specs.LinkWords.{IsCellWord}
 use Rattle.map_defs.specs.Cells.{InCell, Leads}
 use Rattle.map_defs.specs.Walks.{Walk}
 use Rattle.cell_edit.proofs.Premises.{orbit-live, leads-live, live-dart, all-live}
+use Rattle.cell_edit.proofs.WalkTurns.{walk-same}
 use Rattle.beta_edit.specs.Crossing.{drawn_step}
 use Rattle.beta_edit.specs.Drawing.{IsDrawn, CanBeDrawn}
-use Rattle.beta_edit.proofs.SameCells.{walk-same, turn-same}
+use Rattle.beta_edit.proofs.SameCells.{turn-same}
 
 pub drawn-of : (C D : ℕ → Type 0) (Step : ℕ → ℕ → ℕ) (L N : Links) → ((x : ℕ) → C x ↔ D x) → IsDrawn C Step L N → IsDrawn D Step L N
 drawn-of C D Step L N same b = record {

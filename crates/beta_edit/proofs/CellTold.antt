@@ -8,6 +8,7 @@ use Rattle.map_defs.specs.Cells.{InCell, here}
 use Rattle.map_defs.specs.Removal.{CommutesAt, IsFlatAt, JoinsNoDart, IsRemovable}
 use Rattle.map_defs.specs.Contraction.{IsContractible}
 use Rattle.remove_laws.proofs.Smoothed.{CanBeSmoothed}
+use Rattle.cell_edit.proofs.Commuting.{commutes-at}
 use Rattle.beta_edit.specs.Crossing.{drawn_step, side_of, IsCellOf}
 use Rattle.beta_edit.proofs.SameCells.{turn-same, joins-same, cell-told}
 use Rattle.beta_edit.proofs.VertexRuns.{flat-smoothed, smooth-apart, apart-joins, joins-above}
@@ -22,9 +23,6 @@ both-else P Q a is first = ((λ e. absurd (false≢true (sym is ∙ e))), λ h. 
 -- the steps of the walk along the link a beside link i
 joins-beside : (L : Links) (C : ℕ → Type 0) (i a b : ℕ) → a ≡ b → JoinsNoDart L i C (drawn_step L (Some a) i) → JoinsNoDart L i C (drawn_step L (Some b) i)
 joins-beside L C i a b e joins = subst (λ s. JoinsNoDart L i C (drawn_step L (Some s) i)) e joins
-
-commutes-at : (L : Links) (i j k l b : ℕ) → i ≡ k → j ≡ l → CommutesAt L i j b → CommutesAt L k l b
-commutes-at L i j k l b e f h = subst (λ s. CommutesAt L s l b) e (subst (λ s. CommutesAt L i s b) f h)
 
 pub side-high : (j : ℕ) → 2 ≤ j → side_of j ≡ 0
 side-high zero h = absurd (omega arith)

@@ -2,15 +2,10 @@
 use Rattle.std.proofs.Common.{ℕ, zero, suc, ◌≤◌, ◌↔◌, List, [], ◌∷◌, Contains, refl, sym, ap, inl, inr, arith}
 use Rattle.map_defs.specs.Kind.{beta}
 use Rattle.map_defs.specs.Links.{Links, HasDimension}
-use Rattle.map_defs.specs.Cells.{InOrbit}
 use Rattle.map_defs.specs.Pairs.{IsGood, InPairs}
-use Rattle.map_defs.specs.Insertion.{AreOnOneSide, IsLinkedBy, BetaEdgeSeed, BetaEdgePairs}
+use Rattle.map_defs.specs.Insertion.{BetaEdgeSeed, BetaEdgePairs}
 use Rattle.sewing.specs.Triples.{Triple, Lists}
-use Rattle.cell_edit.proofs.AlongLinks.{links-orbit, zero-one}
 use Rattle.cell_edit.proofs.PairsAlong.{listed-pairs, listed-good, good-listed, seeded-pairs, seeded-good, good-seeded}
-
-pub one-side : (L : Links) (d e : ℕ) → InOrbit (IsLinkedBy L (Contains (0 ∷ 1 ∷ []))) d e ↔ AreOnOneSide L d e
-one-side L d e = links-orbit L (Contains (0 ∷ 1 ∷ [])) (λ j. j ≤ 1) (λ j x has some. (zero-one j).0 has) (λ j x low some. (zero-one j).1 low) d e
 
 -- ---- the two seeds in a list
 abbrev pub edge_seeds : Links → ℕ → ℕ → List Triple

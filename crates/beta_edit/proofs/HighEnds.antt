@@ -17,8 +17,9 @@ use Rattle.remove_laws.proofs.Ends.{removal_found, contraction_found}
 use Rattle.remove_laws.proofs.Removed.{removed_laws, contracted_laws}
 use Rattle.cell_edit.specs.Bridging.{across, CanEnd}
 use Rattle.cell_edit.specs.Removing.{PlansEnding}
+use Rattle.cell_edit.proofs.WalkTurns.{walk-same}
 use Rattle.beta_edit.specs.Crossing.{beside_of}
-use Rattle.beta_edit.proofs.SameCells.{walk-same, turn-same, cell-told, bridged-of, ends-of}
+use Rattle.beta_edit.proofs.SameCells.{turn-same, cell-told, bridged-of, ends-of}
 use Rattle.beta_edit.proofs.CellEnds.{lives, dart, out-of}
 
 -- a vertex is never contracted

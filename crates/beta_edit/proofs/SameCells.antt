@@ -5,16 +5,12 @@ use Rattle.map_defs.specs.Links.{Links}
 use Rattle.map_defs.specs.Rows.{Rows}
 use Rattle.map_defs.specs.Edits.{Edit}
 use Rattle.map_defs.specs.Cells.{InCell}
-use Rattle.map_defs.specs.Walks.{Walk, stop, go, IsTold}
+use Rattle.map_defs.specs.Walks.{IsTold}
 use Rattle.map_defs.specs.Removal.{IsBridged, JoinsNoDart}
 use Rattle.link_laws.proofs.CellFacts.{orbit_nonzero}
 use Rattle.cell_edit.specs.Removing.{PlansEnding}
-use Rattle.cell_edit.proofs.WalkTurns.{listed-told}
+use Rattle.cell_edit.proofs.WalkTurns.{listed-told, walk-same}
 use Rattle.beta_edit.specs.Crossing.{IsCellOf}
-
-pub walk-same : (C D : ℕ → Type 0) (st : ℕ → ℕ) → ((x : ℕ) → C x ↔ D x) → {x y : ℕ} → Walk C st x y → Walk D st x y
-walk-same C D st same (stop n) = stop (λ h. n ((same _).1 h))
-walk-same C D st same (go h w) = go ((same _).0 h) (walk-same C D st same w)
 
 pub turn-same : (C D : ℕ → Type 0) → ((x : ℕ) → C x ↔ D x) → (x : ℕ) → D x ↔ C x
 turn-same C D same x = ((same x).1, (same x).0)

@@ -6,7 +6,8 @@ ghost use Rattle.map_defs.specs.Laws.{Laws};
 ghost use Rattle.map_defs.specs.Removal.{JoinsNoDart};
 ghost use Rattle.beta_edit.specs.Crossing.{drawn_step, IsDrawnBack};
 
-use crate::crossing::{is_among, walk_end};
+use crate::crossing::walk_end;
+use cell_edit::is_among;
 use link_rows::Links;
 use map_kind::{Beta, Dart};
 

@@ -1,9 +1,10 @@
-ghost use Rattle.std.specs.Prelude.{◌≡◌, ℕ, ◌↔◌, Contains, IsNone, IfSome, IfNone, IsTrue};
+ghost use Rattle.std.specs.Prelude.{◌≡◌, ℕ, ◌↔◌, Contains, IsNone, IfSome, IfNone};
 ghost use Rattle.std.specs.List.Sorted.{IsStrictlyIncreasing};
 ghost use Rattle.map_defs.specs.Kind.{beta};
 ghost use Rattle.map_defs.specs.Rows.{links_of, IsSound};
 ghost use Rattle.beta_edit.specs.Crossing.{side_of, drawn_step, DrawsTo};
 
+use cell_edit::is_among;
 use link_rows::Links;
 use map_kind::{Beta, Dart};
 
@@ -45,14 +46,6 @@ fn across<const DIM: usize>(
         Some(beside) => linked(links, link, linked(links, beside, dart)?),
         None => linked(links, side(link), dart),
     }
-}
-
-/// Whether a dart is one of these, which are ascending.
-pub(crate) fn is_among(darts: &[Dart], dart: Dart) -> bool
-    requires { IsStrictlyIncreasing darts.now }
-    ensures { IsTrue result ↔ Contains darts.now dart }
-{
-    darts.binary_search(&dart).is_ok()
 }
 
 /// The number of the first dart outside a cell on the walk from a dart by which a link is drawn across the cell, 0 where the

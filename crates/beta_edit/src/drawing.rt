@@ -7,8 +7,9 @@ ghost use Rattle.cell_edit.specs.Removing.{PlansEnding};
 ghost use Rattle.beta_edit.specs.Crossing.{drawn_step};
 ghost use Rattle.beta_edit.specs.Drawing.{IsDrawn, CanBeDrawn, IsDrawnEntry, IsDartEntry, IsCellEntry};
 
-use crate::crossing::{is_among, walk_end_from_within};
+use crate::crossing::walk_end_from_within;
 use crate::writing::room_for_ways;
+use cell_edit::is_among;
 use link_rows::{Change, Edit, Links};
 use map_kind::{Beta, Dart, Kind};
 use std::alloc::{AllocError, Global};

@@ -1,17 +1,17 @@
-ghost use Rattle.std.specs.Prelude.{◌≡◌, ℕ, ◌≤◌, ◌↔◌, IfOk, OnOk, IsErrOf, IsTrue};
+ghost use Rattle.std.specs.Prelude.{ℕ, ◌↔◌, IfOk, OnOk, IsErrOf};
 ghost use Rattle.map_defs.specs.Kind.{beta};
 ghost use Rattle.map_defs.specs.Rows.{links_of, IsLive};
 ghost use Rattle.map_defs.specs.Laws.{Laws};
-ghost use Rattle.map_defs.specs.Insertion.{AreOnOneSide, BetaEdgePairs, AreBetaEdgePaired};
+ghost use Rattle.map_defs.specs.Insertion.{BetaEdgePairs, AreBetaEdgePaired};
 ghost use Rattle.sewing.specs.Triples.{Lists, IsAscending};
 ghost use Rattle.cell_edit.specs.Planning.{PlansEdge};
 
 use crate::cut::cut_changes;
-use cell_edit::{Stars, are_in_one_beta_corner, copying_links, corners, is_near, leads};
+use cell_edit::{Stars, are_in_one_beta_corner, are_on_one_side, copying_links, corners};
 use link_rows::{Edit, Links};
 use map_kind::{Beta, Dart, Refusal, Refused};
 use sewing::{PairFault, Triple, pair};
-use std::alloc::{AllocError, Global};
+use std::alloc::Global;
 
 /// The edit that inserts an edge into a face, from the corner of `one` to that of `other`. Each of the two corners, on all
 /// sides of the face, gets a new dart, numbered on from those that were made in the order of the corners' darts. The way
@@ -56,23 +56,6 @@ pub fn edge_plan<const DIM: usize>(
         Err(PairFault::Unpaired) => Err(Refused::Line(Refusal::Unpaired)),
         Err(PairFault::NoMemory) => Err(Refused::NoMemory),
     }
-}
-
-/// Whether two darts lie on one side of one face. A few steps are taken each way around the face first; then the walk goes
-/// both ways, remembers the darts, and ends where it finds `other`.
-fn are_on_one_side<const DIM: usize>(
-    alloc: Global,
-    links: &Links<Beta, DIM>,
-    one: Dart,
-    other: Dart,
-) -> Result<bool, AllocError>
-    requires { 2 ≤ DIM }
-    ensures { IfOk result (λ one_side. IsTrue one_side ↔ AreOnOneSide (links_of links.now.rows) one other) }
-{
-    if is_near(links, 1, 1, one, other) || is_near(links, 0, 0, one, other) {
-        return Ok(true);
-    }
-    leads(alloc, links, &[0, 1], one, other)
 }
 
 /// The pairs of the ways into two corners, ascending. `Unpaired` comes exactly where no way leads into one of them, or they

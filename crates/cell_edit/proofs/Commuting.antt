@@ -1,5 +1,5 @@
 -- Steps along two links in either order.
-use Rattle.std.proofs.Common.{ℕ, ◌≡◌, ◌<◌, ◌⊎◌, refl, sym, ap, ◌∙◌, inl, inr}
+use Rattle.std.proofs.Common.{ℕ, ◌≡◌, ◌<◌, ◌⊎◌, refl, sym, ap, ◌∙◌, subst, inl, inr}
 use Rattle.map_defs.specs.Kind.{Kind}
 use Rattle.map_defs.specs.Links.{Links}
 use Rattle.map_defs.specs.Rows.{Rows, links_of, IsSound}
@@ -19,3 +19,7 @@ commutes-free L i j b free = step-free L i (step L j b) (free (step L j b)) ∙ 
 pub commutes-above : (k : Kind) (n : ℕ) (rows : Rows) → IsSound k n rows → (i j b : ℕ) → (n < i) ⊎ (n < j) → CommutesAt (links_of rows) i j b
 commutes-above k n rows sound i j b (inl above) = commutes-free (links_of rows) i j b (λ x. rows_dimension n rows sound.wide i x above)
 commutes-above k n rows sound i j b (inr above) = sym (commutes-free (links_of rows) j i b (λ x. rows_dimension n rows sound.wide j x above))
+
+-- links that are the same commute alike
+pub commutes-at : (L : Links) (i j k l b : ℕ) → i ≡ k → j ≡ l → CommutesAt L i j b → CommutesAt L k l b
+commutes-at L i j k l b e f h = subst (λ s. CommutesAt L s l b) e (subst (λ s. CommutesAt L i s b) f h)

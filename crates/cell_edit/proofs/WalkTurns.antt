@@ -1,5 +1,5 @@
 -- Walks across listed darts, step by step: one that ends comes out after no more steps than there are darts.
-use Rattle.std.proofs.Common.{ℕ, zero, suc, ◌≡◌, ◌+◌, ◌<◌, ◌≤◌, ◌⊎◌, List, length, slice_index, Contains, refl, sym, ap, ◌∙◌, subst, inl, inr, arith}
+use Rattle.std.proofs.Common.{ℕ, zero, suc, ◌≡◌, ◌+◌, ◌<◌, ◌≤◌, ◌⊎◌, ◌↔◌, List, length, slice_index, Contains, refl, sym, ap, ◌∙◌, subst, inl, inr, arith}
 use Rattle.std.proofs.lemmas.Bool.{cases_lt}
 use Rattle.map_defs.specs.Kind.{Kind, alpha, beta}
 use Rattle.map_defs.specs.Links.{Links}
@@ -22,6 +22,11 @@ stepped st x (suc k) = st (stepped st x k)
 pub record IsOn (keys : List ℕ) (st : ℕ → ℕ) (x k y : ℕ) : Type 0 where
   pub at : y ≡ stepped st x k
   pub within : (j : ℕ) → j < k → Contains keys (stepped st x j)
+
+-- a walk across the same darts
+pub walk-same : (C D : ℕ → Type 0) (st : ℕ → ℕ) → ((x : ℕ) → C x ↔ D x) → {x y : ℕ} → Walk C st x y → Walk D st x y
+walk-same C D st same (stop n) = stop (λ h. n ((same _).1 h))
+walk-same C D st same (go h w) = go ((same _).0 h) (walk-same C D st same w)
 
 -- of listed darts it is told which they are
 pub listed-told : (keys : List ℕ) → IsTold (Contains keys)

@@ -130,7 +130,7 @@ fn two_steps<K: Kind, const DIM: usize>(
 }
 
 /// Whether a dart is one of these, which are ascending.
-pub(crate) fn is_among(darts: &[Dart], dart: Dart) -> bool
+pub fn is_among(darts: &[Dart], dart: Dart) -> bool
     requires { IsStrictlyIncreasing darts.now }
     ensures { IsTrue result ↔ Contains darts.now dart }
 {

@@ -24,12 +24,12 @@ pub use along::{carried_darts, carrying_links, insertion_pairs, leads};
 pub use corner::{
     alpha_corner, are_in_one_alpha_corner, are_in_one_beta_corner, beta_corner, copying_links,
 };
-pub use crossing::are_commuting;
+pub use crossing::{are_commuting, is_among};
 pub use ending::ending_edit;
 pub use face::face_plan;
 pub use firsts::corners;
 pub use insertion::insertion_edit;
-pub use near::is_near;
+pub use near::are_on_one_side;
 pub use room::room_for_changes;
 pub use stars::Stars;
 pub use writing::push_link;

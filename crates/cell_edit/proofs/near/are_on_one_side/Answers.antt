@@ -1,7 +1,7 @@
 use Rattle.std.proofs.lemmas.Result.{IfOk-weaker}
 use Rattle.map_defs.specs.Rows.{links_of}
-use Rattle.alpha_edit.proofs.EdgePlan.{one-side}
-use Rattle.alpha_edit.proofs.edge.are_on_one_side.Goals as goal
+use Rattle.cell_edit.proofs.FaceSteps.{one-side}
+use Rattle.cell_edit.proofs.near.are_on_one_side.Goals as goal
 
 pub returns : goal.returns
 returns g c =
