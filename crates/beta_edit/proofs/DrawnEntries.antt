@@ -1,9 +1,7 @@
 -- The changes of one link of a dart that ends, of one dart after another of them, and of one after another.
-use Rattle.std.proofs.Common.{ℕ, ◌≡◌, ◌≢◌, ◌+◌, ◌<◌, ◌≤◌, ◌⊎◌, List, [], ◌∷◌, ◌++◌, Option, length, take, slice_index, get_or, Contains, sym, ap, ◌∙◌, subst, inl, inr, append_assoc, arith}
+use Rattle.std.proofs.Common.{ℕ, ◌≡◌, ◌≢◌, ◌+◌, ◌<◌, ◌≤◌, ◌⊎◌, List, [], ◌∷◌, ◌++◌, Option, length, take, get_or, Contains, sym, ap, ◌∙◌, subst, inl, inr, append_assoc, arith}
 use Rattle.std.specs.List.Sorted.{IsStrictlyIncreasing}
 use Rattle.std.proofs.lemmas.Bool.{cases_lt}
-use Rattle.std.proofs.lemmas.List.{append-nil, take_more, get_or-take, get_or_default, length-take}
-use Rattle.std.proofs.lemmas.List.Elements.{Contains-append_left, Contains-push, Contains-push_cases}
 use Rattle.map_defs.specs.Kind.{beta, inverse}
 use Rattle.map_defs.specs.Links.{Links}
 use Rattle.map_defs.specs.Laws.{Laws}
@@ -11,18 +9,15 @@ use Rattle.map_defs.specs.Edits.{Change}
 use Rattle.link_laws.proofs.Basics.{inverse_twice}
 use Rattle.link_laws.proofs.Walking.{walk_one}
 use Rattle.cell_edit.specs.Writing.{WritesEntries, Appends}
-use Rattle.cell_edit.proofs.StarNumbers.{rises}
-use Rattle.cell_edit.proofs.Writings.{writes-none, writes-one, writes-append, writes-same}
+use Rattle.cell_edit.proofs.Appending.{appends-none, each-more}
+use Rattle.cell_edit.proofs.Listed.{listed-apart, taken}
+use Rattle.cell_edit.proofs.Writings.{writes-one, writes-append, writes-same}
 use Rattle.beta_edit.specs.Crossing.{DrawsTo}
 use Rattle.beta_edit.specs.Drawing.{IsDrawnEntry, IsDartEntry, IsCellEntry}
 
 -- the link that leads back
 pub link-back : (L : Links) → Laws beta L → (s b x : ℕ) → x ≡ L s b → L s b ≢ 0 → L (inverse beta s) x ≡ b
 link-back L w s b x is some = ap (L (inverse beta s)) is ∙ w.back s b some
-
--- no entry, and so no change
-appends-none : (L : Links) (E : ℕ → ℕ → ℕ → Type 0) (cs : List Change) → ((d t y : ℕ) → E d t y → ⊥) → Appends L E cs cs
-appends-none L E cs none = ([], sym (append-nil cs), writes-none L E none)
 
 module _ (L : Links) (beside : Option ℕ) (keys : List ℕ) (b s : ℕ) where
   -- ---- one link of a dart that ends
@@ -104,35 +99,8 @@ module _ (L : Links) (beside : Option ℕ) (keys : List ℕ) where
       from d t y e (inr above) = let same : e.0 ≡ m = (let h = e.1 in omega arith) in inr (subst (λ s. IsDrawnEntry L beside keys b s d t y) same e.2)
 
   -- ---- one dart after another
-  listed-apart : (q x u : ℕ) → IsStrictlyIncreasing keys → q < length keys → x ≡ get_or keys q x → Contains (take q keys) u → u ≢ x
-  listed-apart q x u up low at has e =
-      let p : ℕ = has.0 in
-      let p_low : p < q = omega (arith, has.1, length-take q keys) in
-      let p_at : slice_index keys p ≡ u = get_or_default keys p 0 u (omega arith) ∙ sym (get_or-take q keys p u p_low) ∙ has.2 in
-      let k_at : slice_index keys q ≡ x = get_or_default keys q 0 x low ∙ sym at in
-      let less : slice_index keys p < slice_index keys q = rises keys up p q p_low low in omega arith
-
-  taken : (q u : ℕ) → Contains (take q keys) u → Contains keys u
-  taken q u has =
-      let p_low : has.0 < q = omega (arith, has.1, length-take q keys) in
-      (has.0, omega (arith, has.1, length-take q keys), sym (get_or-take q keys has.0 u p_low) ∙ has.2)
-
   pub cell-more : Laws beta L → (m q x : ℕ) (a c : List Change) → IsStrictlyIncreasing keys → q < length keys → x ≡ get_or keys q x → Contains keys x
       → WritesEntries L (IsCellEntry L beside keys m (take q keys)) a → Appends L (IsDartEntry L beside keys m x) a c → WritesEntries L (IsCellEntry L beside keys m (take (q + 1) keys)) c
-  cell-more w m q x a c up low at key writes (added, grown, then) =
-      subst (WritesEntries L (IsCellEntry L beside keys m (take (q + 1) keys))) (sym grown)
-      (writes-same L (λ d t y. IsCellEntry L beside keys m (take q keys) d t y ⊎ IsDartEntry L beside keys m x d t y) (IsCellEntry L beside keys m (take (q + 1) keys)) (a ++ added)
-      (λ d t y. (to d t y, λ e. from d t y e (Contains-push_cases (take q keys) x e.0 (subst (λ xs. Contains xs e.0) more e.1))))
-      (writes-append L (IsCellEntry L beside keys m (take q keys)) (IsDartEntry L beside keys m x) a added
-      (λ d t y z e f. darts-apart w m e.0 x d t y z (taken q e.0 e.1) key (listed-apart q x e.0 up low at e.1) e.2 f) writes then))
-    where
-      more : take (q + 1) keys ≡ take q keys ++ x ∷ []
-      more = take_more keys q x low ∙ ap (λ e. take q keys ++ e ∷ []) (sym at)
-
-      to : (d t y : ℕ) → IsCellEntry L beside keys m (take q keys) d t y ⊎ IsDartEntry L beside keys m x d t y → IsCellEntry L beside keys m (take (q + 1) keys) d t y
-      to d t y (inl e) = (e.0, subst (λ xs. Contains xs e.0) (sym more) (Contains-append_left (take q keys) (x ∷ []) e.0 e.1), e.2)
-      to d t y (inr e) = (x, subst (λ xs. Contains xs x) (sym more) (Contains-push (take q keys) x), e)
-
-      from : (d t y : ℕ) (e : IsCellEntry L beside keys m (take (q + 1) keys) d t y) → Contains (take q keys) e.0 ⊎ (x ≡ e.0) → IsCellEntry L beside keys m (take q keys) d t y ⊎ IsDartEntry L beside keys m x d t y
-      from d t y e (inl had) = inl (e.0, had, e.2)
-      from d t y e (inr is) = inr (subst (λ u. IsDartEntry L beside keys m u d t y) (sym is) e.2)
+  cell-more w m q x a c up low at key =
+      each-more L (IsDartEntry L beside keys m) keys q x a c low at
+      (λ u had d t y z e f. darts-apart w m u x d t y z (taken keys q u had) key (listed-apart keys q x u up low at had) e f)

@@ -1,9 +1,7 @@
 -- The changes of one dart that ends, and those of one dart after another.
-use Rattle.std.proofs.Common.{ℕ, ◌≡◌, ◌≢◌, ◌+◌, ◌<◌, ◌≤◌, ◌⊎◌, List, [], ◌∷◌, ◌++◌, length, take, slice_index, get_or, Contains, refl, sym, ap, ◌∙◌, subst, inl, inr, append_assoc, arith}
+use Rattle.std.proofs.Common.{ℕ, ◌≡◌, ◌≢◌, ◌+◌, ◌<◌, ◌≤◌, ◌⊎◌, List, [], ◌∷◌, ◌++◌, length, take, get_or, Contains, refl, sym, ap, ◌∙◌, subst, inl, inr, arith}
 use Rattle.std.specs.List.Sorted.{IsStrictlyIncreasing}
 use Rattle.std.proofs.lemmas.Bool.{cases_lt}
-use Rattle.std.proofs.lemmas.List.{append-nil, take_more, get_or-take, get_or_default, length-take}
-use Rattle.std.proofs.lemmas.List.Elements.{Contains-append_left, Contains-push, Contains-push_cases}
 use Rattle.map_defs.specs.Kind.{Kind, alpha, beta, inverse}
 use Rattle.map_defs.specs.Links.{Links}
 use Rattle.map_defs.specs.Laws.{Laws}
@@ -13,8 +11,9 @@ use Rattle.link_laws.proofs.Basics.{same_or_not}
 use Rattle.link_laws.proofs.Walking.{walk_one}
 use Rattle.cell_edit.specs.Writing.{WritesEntries, Appends}
 use Rattle.cell_edit.specs.Bridging.{LeadsAcross, IsEndingEntry, IsBridgeEntry, IsDartEntry, IsCellEntry}
-use Rattle.cell_edit.proofs.StarNumbers.{rises}
-use Rattle.cell_edit.proofs.Writings.{writes-none, writes-one, writes-append, writes-same}
+use Rattle.cell_edit.proofs.Writings.{writes-one}
+use Rattle.cell_edit.proofs.Appending.{appends-none, appends-then, appends-same, each-more}
+use Rattle.cell_edit.proofs.Listed.{listed-apart, taken}
 
 -- a link that is its own inverse, and leads to d, leads back
 pub beyond-back : (k : Kind) (L : Links) → Laws k L → (i x d : ℕ) → inverse k i ≡ i → d ≡ L i x → d ≢ 0 → L i d ≡ x
@@ -26,20 +25,6 @@ beyond-back k L w i x d own is some =
 lands-one : (k : Kind) (d y z v : ℕ) → Lands k d v y → Lands k d v z → y ≡ z
 lands-one alpha d y z v p q = elim (same_or_not v d) [ inl e ↦ p.1 e ∙ sym (q.1 e) | inr n ↦ p.0 n ∙ sym (q.0 n) ]
 lands-one beta d y z v p q = p ∙ sym q
-
--- ---- nothing added, and more added behind
-pub appends-none : (L : Links) (E : ℕ → ℕ → ℕ → Type 0) (cs : List Change) → ((d t y : ℕ) → E d t y → ⊥) → Appends L E cs cs
-appends-none L E cs none = ([], sym (append-nil cs), writes-none L E none)
-
-pub appends-more : (L : Links) (E F : ℕ → ℕ → ℕ → Type 0) (a b c : List Change) → ((d t y z : ℕ) → E d t y → F d t z → ⊥) → Appends L E a b → Appends L F b c → Appends L (λ d t y. E d t y ⊎ F d t y) a c
-appends-more L E F a b c apart (first, grown, writes) (then, again, behind) = (
-  first ++ then,
-  again ∙ ap (λ (cs : List Change). cs ++ then) grown ∙ append_assoc a first then,
-  writes-append L E F first then apart writes behind,
-)
-
-pub appends-same : (L : Links) (E F : ℕ → ℕ → ℕ → Type 0) (a b : List Change) → ((d t y : ℕ) → E d t y → F d t y) → ((d t y : ℕ) → F d t y → E d t y) → Appends L E a b → Appends L F a b
-appends-same L E F a b to from (added, grown, writes) = (added, grown, writes-same L E F added (λ d t y. (to d t y, from d t y)) writes)
 
 -- one change
 pub appends-one : (L : Links) (a b : List Change) (c : Change) → c.old ≡ L c.link c.dart → b ≡ a ++ c ∷ [] → Appends L (λ d t y. (d ≡ c.dart) × (t ≡ c.link) × (y ≡ c.new)) a b
@@ -53,7 +38,7 @@ module _ (L : Links) (x : ℕ) where
   -- a link that is free already
   pub ends-skip : (m : ℕ) (a b : List Change) → L m x ≡ 0 → Appends L (IsEndingEntry L m x) a b → Appends L (IsEndingEntry L (m + 1) x) a b
   ends-skip m a b free = appends-same L (IsEndingEntry L m x) (IsEndingEntry L (m + 1) x) a b
-      (λ d t y e. (e.0, omega (arith, e.1), e.2, e.3)) (λ d t y e. (e.0, low t (cases_lt t m) e.1 e.2, e.2, e.3))
+      (λ d t y. (λ e. (e.0, omega (arith, e.1), e.2, e.3), λ e. (e.0, low t (cases_lt t m) e.1 e.2, e.2, e.3)))
     where
       low : (t : ℕ) → (t < m) ⊎ (m ≤ t) → t < m + 1 → L t x ≢ 0 → t < m
       low t (inl below) h some = below
@@ -63,8 +48,8 @@ module _ (L : Links) (x : ℕ) where
   pub ends-push : (m : ℕ) (a b c : List Change) → L m x ≢ 0 → Appends L (IsEndingEntry L m x) a b → c ≡ b ++ record { dart = x; link = m; old = L m x; new = 0 } ∷ []
       → Appends L (IsEndingEntry L (m + 1) x) a c
   ends-push m a b c some before grown =
-      appends-same L (λ d t y. IsEndingEntry L m x d t y ⊎ One d t y) (IsEndingEntry L (m + 1) x) a c to (λ d t y e. from d t y e (cases_lt t m))
-      (appends-more L (IsEndingEntry L m x) One a b c (λ d t y z e o. omega (arith, e.1, o.1)) before
+      appends-same L (λ d t y. IsEndingEntry L m x d t y ⊎ One d t y) (IsEndingEntry L (m + 1) x) a c (λ d t y. (to d t y, λ e. from d t y e (cases_lt t m)))
+      (appends-then L (IsEndingEntry L m x) One a b c (λ d t y z e o. omega (arith, e.1, o.1)) before
       (appends-one L b c (record { dart = x; link = m; old = L m x; new = 0 }) refl grown))
     where
       One : ℕ → ℕ → ℕ → Type 0
@@ -96,7 +81,7 @@ module _ (k : Kind) (L : Links) (i a : ℕ) (keys : List ℕ) (x : ℕ) where
       → c ≡ b ++ record { dart = r; link = i; old = x; new = y } ∷ [] → Appends L (IsBridgeEntry k L i a keys x) b c
   bridge-push r z y b c is some out back walk lands grown =
       appends-same L (λ d t u. (d ≡ r) × (t ≡ i) × (u ≡ y)) (IsBridgeEntry k L i a keys x) b c
-      (λ d t u o. to d t u o.0 o.1 o.2) (λ d t u e. (e.0 ∙ sym is, e.3, new d u e.0 e.4))
+      (λ d t u. (λ o. to d t u o.0 o.1 o.2, λ e. (e.0 ∙ sym is, e.3, new d u e.0 e.4)))
       (appends-one L b c (record { dart = r; link = i; old = x; new = y }) (sym back) grown)
     where
       to : (d t u : ℕ) → d ≡ r → t ≡ i → u ≡ y → IsBridgeEntry k L i a keys x d t u
@@ -117,35 +102,8 @@ module _ (k : Kind) (L : Links) (w : Laws k L) (i a m : ℕ) (own : inverse k i 
   entries-apart u x d t y z other hu hx (inr e) (inl f) = e.2 (subst (Contains keys) (sym f.0) hx)
   entries-apart u x d t y z other hu hx (inr e) (inr f) = other (sym (beyond-back k L w i u d own e.0 e.1) ∙ beyond-back k L w i x d own f.0 f.1)
 
-  listed-apart : (q x u : ℕ) → IsStrictlyIncreasing keys → q < length keys → x ≡ get_or keys q x → Contains (take q keys) u → u ≢ x
-  listed-apart q x u up low at has e =
-      let p : ℕ = has.0 in
-      let p_low : p < q = omega (arith, has.1, length-take q keys) in
-      let p_at : slice_index keys p ≡ u = get_or_default keys p 0 u (omega arith) ∙ sym (get_or-take q keys p u p_low) ∙ has.2 in
-      let k_at : slice_index keys q ≡ x = get_or_default keys q 0 x low ∙ sym at in
-      let less : slice_index keys p < slice_index keys q = rises keys up p q p_low low in omega arith
-
-  taken : (q u : ℕ) → Contains (take q keys) u → Contains keys u
-  taken q u has =
-      let p_low : has.0 < q = omega (arith, has.1, length-take q keys) in
-      (has.0, omega (arith, has.1, length-take q keys), sym (get_or-take q keys has.0 u p_low) ∙ has.2)
-
   pub cell-more : (q x : ℕ) (b c : List Change) → IsStrictlyIncreasing keys → q < length keys → x ≡ get_or keys q x → Contains keys x
       → WritesEntries L (IsCellEntry k L i a m keys (take q keys)) b → Appends L (IsDartEntry k L i a m keys x) b c → WritesEntries L (IsCellEntry k L i a m keys (take (q + 1) keys)) c
-  cell-more q x b c up low at has writes (added, grown, then) =
-      subst (WritesEntries L (IsCellEntry k L i a m keys (take (q + 1) keys))) (sym grown)
-      (writes-same L (λ d t y. IsCellEntry k L i a m keys (take q keys) d t y ⊎ IsDartEntry k L i a m keys x d t y) (IsCellEntry k L i a m keys (take (q + 1) keys)) (b ++ added)
-      (λ d t y. (to d t y, λ e. from d t y e (Contains-push_cases (take q keys) x e.0 (subst (λ xs. Contains xs e.0) more e.1))))
-      (writes-append L (IsCellEntry k L i a m keys (take q keys)) (IsDartEntry k L i a m keys x) b added
-      (λ d t y z e f. entries-apart e.0 x d t y z (listed-apart q x e.0 up low at e.1) (taken q e.0 e.1) has e.2 f) writes then))
-    where
-      more : take (q + 1) keys ≡ take q keys ++ x ∷ []
-      more = take_more keys q x low ∙ ap (λ e. take q keys ++ e ∷ []) (sym at)
-
-      to : (d t y : ℕ) → IsCellEntry k L i a m keys (take q keys) d t y ⊎ IsDartEntry k L i a m keys x d t y → IsCellEntry k L i a m keys (take (q + 1) keys) d t y
-      to d t y (inl e) = (e.0, subst (λ xs. Contains xs e.0) (sym more) (Contains-append_left (take q keys) (x ∷ []) e.0 e.1), e.2)
-      to d t y (inr e) = (x, subst (λ xs. Contains xs x) (sym more) (Contains-push (take q keys) x), e)
-
-      from : (d t y : ℕ) (e : IsCellEntry k L i a m keys (take (q + 1) keys) d t y) → Contains (take q keys) e.0 ⊎ (x ≡ e.0) → IsCellEntry k L i a m keys (take q keys) d t y ⊎ IsDartEntry k L i a m keys x d t y
-      from d t y e (inl had) = inl (e.0, had, e.2)
-      from d t y e (inr is) = inr (subst (λ u. IsDartEntry k L i a m keys u d t y) (sym is) e.2)
+  cell-more q x b c up low at has =
+      each-more L (IsDartEntry k L i a m keys) keys q x b c low at
+      (λ u had d t y z e f. entries-apart u x d t y z (listed-apart keys q x u up low at had) (taken keys q u had) has e f)

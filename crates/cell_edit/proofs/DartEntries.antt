@@ -1,12 +1,11 @@
 -- The changes of one dart and of its new dart, and those of one dart after another.
-use Rattle.std.proofs.Common.{ℕ, ◌≡◌, ◌≢◌, ◌+◌, ◌<◌, ◌⊎◌, List, [], ◌∷◌, ◌++◌, length, take, get_or, Contains, refl, sym, ap, ◌∙◌, subst, inl, inr, append_assoc, arith}
-use Rattle.std.proofs.lemmas.List.{take_more}
-use Rattle.std.proofs.lemmas.List.Elements.{Contains-append_left, Contains-push, Contains-push_cases}
+use Rattle.std.proofs.Common.{ℕ, ◌≡◌, ◌≢◌, ◌+◌, ◌<◌, List, [], ◌∷◌, ◌++◌, length, take, get_or, Contains, refl, sym, ◌∙◌, inl, inr, append_assoc}
 use Rattle.map_defs.specs.Kind.{Kind}
 use Rattle.map_defs.specs.Links.{Links}
 use Rattle.map_defs.specs.Edits.{Change}
 use Rattle.cell_edit.specs.Writing.{WritesEntries, Appends, IsNewEntry, IsKeyEntry, IsCarriedEntry}
-use Rattle.cell_edit.proofs.Writings.{writes-one, writes-append, writes-same}
+use Rattle.cell_edit.proofs.Appending.{each-more}
+use Rattle.cell_edit.proofs.Writings.{writes-one, writes-append}
 
 module _ (k : Kind) (L : Links) (i : ℕ) (star : ℕ → ℕ) (x : ℕ) where
   -- ---- the link of the old dart, before the links of the new one
@@ -33,20 +32,6 @@ module _ (k : Kind) (L : Links) (i m : ℕ) (star : ℕ → ℕ) where
   pub carried-more : (keys : List ℕ) (p x : ℕ) (a b : List Change) → p < length keys → x ≡ get_or keys p x
       → ((u : ℕ) → Contains (take p keys) u → (u ≢ x) × (star u ≢ star x) × (u ≢ star x) × (x ≢ star u))
       → WritesEntries L (IsCarriedEntry k L i star m (take p keys)) a → Appends L (IsKeyEntry k L i star m x) a b → WritesEntries L (IsCarriedEntry k L i star m (take (p + 1) keys)) b
-  carried-more keys p x a b low at apart writes (added, grown, then) =
-      subst (WritesEntries L (IsCarriedEntry k L i star m (take (p + 1) keys))) (sym grown)
-      (writes-same L (λ d t y. IsCarriedEntry k L i star m (take p keys) d t y ⊎ IsKeyEntry k L i star m x d t y) (IsCarriedEntry k L i star m (take (p + 1) keys)) (a ++ added)
-      (λ d t y. (to d t y, λ e. from d t y e (Contains-push_cases (take p keys) x e.0 (subst (λ xs. Contains xs e.0) more e.1))))
-      (writes-append L (IsCarriedEntry k L i star m (take p keys)) (IsKeyEntry k L i star m x) a added
-      (λ d t y z e f. let h = apart e.0 e.1 in entries-apart e.0 x d t y z h.0 h.1 h.2 h.3 e.2 f) writes then))
-    where
-      more : take (p + 1) keys ≡ take p keys ++ x ∷ []
-      more = take_more keys p x low ∙ ap (λ e. take p keys ++ e ∷ []) (sym at)
-
-      to : (d t y : ℕ) → IsCarriedEntry k L i star m (take p keys) d t y ⊎ IsKeyEntry k L i star m x d t y → IsCarriedEntry k L i star m (take (p + 1) keys) d t y
-      to d t y (inl e) = (e.0, subst (λ xs. Contains xs e.0) (sym more) (Contains-append_left (take p keys) (x ∷ []) e.0 e.1), e.2)
-      to d t y (inr e) = (x, subst (λ xs. Contains xs x) (sym more) (Contains-push (take p keys) x), e)
-
-      from : (d t y : ℕ) (e : IsCarriedEntry k L i star m (take (p + 1) keys) d t y) → Contains (take p keys) e.0 ⊎ (x ≡ e.0) → IsCarriedEntry k L i star m (take p keys) d t y ⊎ IsKeyEntry k L i star m x d t y
-      from d t y e (inl has) = inl (e.0, has, e.2)
-      from d t y e (inr is) = inr (subst (λ u. IsKeyEntry k L i star m u d t y) (sym is) e.2)
+  carried-more keys p x a b low at apart =
+      each-more L (IsKeyEntry k L i star m) keys p x a b low at
+      (λ u has d t y z e f. let h = apart u has in entries-apart u x d t y z h.0 h.1 h.2 h.3 e f)

@@ -2,7 +2,8 @@ use Rattle.std.proofs.Common.{ℕ, ◌+◌, lit<, arith}
 use Rattle.std.proofs.lemmas.List.Elements.{All-contains}
 use Rattle.map_defs.specs.Rows.{links_of, IsLive}
 use Rattle.cell_edit.specs.Bridging.{IsEndingEntry, IsBridgeEntry}
-use Rattle.cell_edit.proofs.BridgeEntries.{appends-more, dart-apart}
+use Rattle.cell_edit.proofs.Appending.{appends-then}
+use Rattle.cell_edit.proofs.BridgeEntries.{dart-apart}
 use Rattle.cell_edit.proofs.RowSize.{row-fits}
 use Rattle.cell_edit.proofs.ending.push_dart.Goals as goal
 
@@ -18,7 +19,7 @@ push_bridge-requires g c =
 
 pub returns-clause-entries : goal.returns-clause-entries
 returns-clause-entries g c =
-    appends-more (links_of c.args.links.now.rows) (IsEndingEntry (links_of c.args.links.now.rows) (g.row.DIM + 1) c.args.dart)
+    appends-then (links_of c.args.links.now.rows) (IsEndingEntry (links_of c.args.links.now.rows) (g.row.DIM + 1) c.args.dart)
     (IsBridgeEntry g.K.Kind.kind (links_of c.args.links.now.rows) c.args.link c.args.beside c.args.darts.now c.args.dart)
     c.args.changes.now.items c.push_links.new.changes.items c.push_bridge.new.changes.items
     (λ d t y z e f. dart-apart g.K.Kind.kind (links_of c.args.links.now.rows) c.requires.laws c.args.link c.args.beside (g.row.DIM + 1) c.requires.can.own c.args.darts.now c.args.dart d t y z c.requires.key e f)
