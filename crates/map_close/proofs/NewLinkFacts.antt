@@ -1,5 +1,5 @@
 -- What a link of a new dart becomes: it is one of four, and it is told which.
-use Rattle.std.proofs.Common.{ℕ, zero, suc, ◌≡◌, ◌≢◌, ◌+◌, ◌<◌, ◌≤◌, refl, sym, ap, ◌∙◌, arith}
+use Rattle.std.proofs.Common.{ℕ, zero, suc, ◌≡◌, ◌+◌, ◌<◌, ◌≤◌, refl, sym, ap, ◌∙◌, arith}
 use Rattle.map_defs.specs.Kind.{Kind, alpha, beta, inverse, IsDistant}
 use Rattle.map_defs.specs.Links.{Links, HasDimension}
 use Rattle.map_defs.specs.Insertion.{IsJustBelow}
@@ -62,16 +62,6 @@ module _ (k : Kind) (i : ℕ) (own : inverse k i ≡ i) (L : Links) (star : ℕ 
     around = λ y b walk. absurd (next-above k i t own (after t is) b);
     next = λ e. refl;
   }
-
-  -- a higher link that is not distant is the next one
-  pub rest-link : (t : ℕ) → t ≢ i → (IsDistant k i t → ⊥) → i ≤ t → IsNewLink k i L star x t 0
-  rest-link t other near high = next-link t (cases (link_cases k i t own))
-    where
-      cases : IsBeside k i t → t ≡ suc i
-      cases (same e) = absurd (other e)
-      cases (next e) = e
-      cases (below c) = absurd (let less = below-less k i t own c in omega arith)
-      cases (far c) = absurd (near c)
 
   -- where the way around each boundary ends, each link of the new dart becomes one dart, or none
   module _ (rounds : (t : ℕ) → (y : ℕ) × IsAround k i t L x y) where

@@ -42,9 +42,6 @@ pub record AreToldUpTo (keys : List ℕ) (made p : ℕ) (numbers : List ℕ) : T
   pub whole : (x : ℕ) → (slice_index numbers x ≡ 0) ⊎ ((k : ℕ) × (k < p) × (slice_index numbers x ≡ made + 1 + k) × (slice_index keys k ≡ x))
 
 module _ (keys : List ℕ) (made : ℕ) (up : IsStrictlyIncreasing keys) (within : All (λ (d : ℕ). (0 < d) × (d ≤ made)) keys) where
-  pub told-none : (numbers : List ℕ) → length numbers ≡ made + 1 → ((x : ℕ) → slice_index numbers x ≡ 0) → AreToldUpTo keys made 0 numbers
-  told-none numbers long zeros = record { long = long; told = λ k less. absurd (omega arith); whole = λ x. inl (zeros x) }
-
   earlier : (j k : ℕ) → j < k → k < length keys → slice_index keys j ≢ slice_index keys k
   earlier j k less low same = let below = AllPairs-from_increasing keys up j k 0 less low in omega arith
 

@@ -1,7 +1,6 @@
 -- A walk out of a bounded set, step by step: where a step is one-to-one and does not come to the first dart, the walk is out
 -- after no more steps than there are numbers up to the bound.
-use Rattle.std.proofs.Common.{ℕ, zero, suc, ◌≡◌, ◌≢◌, ◌+◌, ◌<◌, ◌≤◌, ◌⊎◌, refl, sym, ap, ◌∙◌, subst, inl, inr, arith}
-use Rattle.std.proofs.lemmas.Bool.{cases_lt}
+use Rattle.std.proofs.Common.{ℕ, zero, suc, ◌≡◌, ◌≢◌, ◌+◌, ◌<◌, ◌≤◌, sym, subst, arith}
 use Rattle.map_defs.specs.Walks.{Walk, stop, go}
 use Rattle.link_laws.proofs.Pigeonhole.{pigeonhole}
 use Rattle.cell_edit.proofs.WalkTurns.{stepped}
@@ -12,19 +11,6 @@ pub record IsAlong (C : ℕ → Type 0) (st : ℕ → ℕ) (x k y : ℕ) : Type 
   pub within : (j : ℕ) → j < k → C (stepped st x j)
 
 module _ (C : ℕ → Type 0) (st : ℕ → ℕ) where
-  pub along-begins : (x : ℕ) → IsAlong C st x 0 x
-  along-begins x = record { at = refl; within = λ j low. absurd (omega arith) }
-
-  pub along-goes : (x k y : ℕ) → IsAlong C st x k y → C y → IsAlong C st x (k + 1) (st y)
-  along-goes x k y on has = record { at = ap st on.at ∙ next; within = λ j low. within j (cases_lt j k) low }
-    where
-      next : st (stepped st x k) ≡ stepped st x (k + 1)
-      next = ap (stepped st x) (let e : suc k ≡ k + 1 = omega arith in e)
-
-      within : (j : ℕ) → (j < k) ⊎ (k ≤ j) → j < k + 1 → C (stepped st x j)
-      within j (inl less) low = on.within j less
-      within j (inr more) low = let e : k ≡ j = omega arith in subst C (on.at ∙ ap (stepped st x) e) has
-
   walk-from : (x k y : ℕ) → ((j : ℕ) → j < k → C (stepped st x j)) → Walk C st (stepped st x k) y → Walk C st x y
   walk-from x zero y within w = w
   walk-from x (suc k) y within w = walk-from x k y (λ j low. within j (omega arith)) (go (within k (omega arith)) w)
