@@ -11,13 +11,11 @@ use crate::ListRow;
 use crate::cut::cut;
 use crate::words::Words;
 use attr_rules::{TableRule, merge_listed, split_listed};
+use link_rows::MADE_MAX;
 use map_kind::{Dart, Value};
 use std::alloc::{AllocError, Global};
 use std::marker::Model;
 use text_words::{read_integer, read_name, read_numeral};
-
-/// How many darts are ever made at most.
-const MADE_MAX: u32 = 4_194_304;
 
 /// What a listing's first line tells.
 #[derive(Clone, Copy)]
