@@ -84,10 +84,7 @@ fn read_rows<'a>(
     let mut rows = Vec::new(alloc);
     let mut left = cursor;
     for _ in 0..header.live {
-        match push_row(&mut rows, header.dim, header.made, left) {
-            Ok(after) => left = after,
-            Err(fault) => return Err(fault),
-        }
+        left = push_row(&mut rows, header.dim, header.made, left)?;
     }
     Ok((rows, left))
 }
@@ -140,10 +137,7 @@ fn read_rules(
         return Ok((rules, left));
     }
     while left.rest.starts_with(b"rule ") {
-        match push_rule(&mut rules, left) {
-            Ok(after) => left = after,
-            Err(fault) => return Err(fault),
-        }
+        left = push_rule(&mut rules, left)?;
     }
     Ok((rules, left))
 }
@@ -184,10 +178,7 @@ fn read_values(alloc: Global, cursor: Cursor) -> Result<(Vec<ToldValue>, Cursor)
     let mut values = Vec::new(alloc);
     let mut left = cursor;
     while left.rest.starts_with(b"val ") {
-        match push_value(&mut values, left) {
-            Ok(after) => left = after,
-            Err(fault) => return Err(fault),
-        }
+        left = push_value(&mut values, left)?;
     }
     Ok((values, left))
 }
@@ -234,10 +225,7 @@ fn read_marks(
         return Ok((marks.into_names(), left));
     }
     while left.rest.starts_with(b"mark ") {
-        match push_mark(&mut marks, left) {
-            Ok(after) => left = after,
-            Err(fault) => return Err(fault),
-        }
+        left = push_mark(&mut marks, left)?;
     }
     Ok((marks.into_names(), left))
 }

@@ -7,8 +7,8 @@ use Rattle.list_text.proofs.told.read_rules.Goals as goal
 
 pub loop-rules-preserved : goal.loop-rules-preserved
 loop-rules-preserved c =
-    section-on rule_taken (codes "rule ") refl c.loop-rules.rules.items c.push_rule.new.rules.items c.loop-rules.left.line c.loop-rules.left.rest.now (cursor_view c.in-Ok.after) _
-    (sym c.starts_with.ensures.value ∙ c.loop-rules-test.true) c.in-Ok.ensures.taken c.loop-rules.invariant
+    section-on rule_taken (codes "rule ") refl c.loop-rules.rules.items c.push_rule.new.rules.items c.loop-rules.left.line c.loop-rules.left.rest.now (cursor_view c.in_ok-left.left) _
+    (sym c.starts_with.ensures.value ∙ c.loop-rules-test.true) c.in_ok-left.ensures.taken c.loop-rules.invariant
 
 pub returns-clause-counted : goal.returns-clause-counted
 returns-clause-counted c =

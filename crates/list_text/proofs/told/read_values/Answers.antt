@@ -7,8 +7,8 @@ use Rattle.list_text.proofs.told.read_values.Goals as goal
 
 pub loop-values-preserved : goal.loop-values-preserved
 loop-values-preserved c =
-    section-on value_taken (codes "val ") refl c.loop-values.values.items c.push_value.new.values.items c.loop-values.left.line c.loop-values.left.rest.now (cursor_view c.in-Ok.after) _
-    (sym c.starts_with.ensures.value ∙ c.loop-values-test.true) c.in-Ok.ensures.taken c.loop-values.invariant
+    section-on value_taken (codes "val ") refl c.loop-values.values.items c.push_value.new.values.items c.loop-values.left.line c.loop-values.left.rest.now (cursor_view c.in_ok-left.left) _
+    (sym c.starts_with.ensures.value ∙ c.loop-values-test.true) c.in_ok-left.ensures.taken c.loop-values.invariant
 
 pub returns-clause-counted : goal.returns-clause-counted
 returns-clause-counted c =
