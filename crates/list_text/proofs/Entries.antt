@@ -1,7 +1,6 @@
 -- Reading entries one after the other, as a loop does.
-use Rattle.std.proofs.Common.{◌≡◌, ℕ, suc, ◌+◌, ◌-◌, ◌≤◌, ◌<◌, List, [], ◌∷◌, ◌++◌, Option, Some, None, refl, sym, ap, ◌∙◌, append_assoc, arith}
+use Rattle.std.proofs.Common.{◌≡◌, ℕ, suc, ◌+◌, ◌-◌, ◌<◌, List, [], ◌∷◌, ◌++◌, Option, Some, None, refl, sym, ap, ◌∙◌, append_assoc, arith}
 use Rattle.std.specs.Option.{option_map}
-use Rattle.std.proofs.lemmas.List.{append-nil}
 use Rattle.machine_defs.specs.Script.{◌>>=◌}
 use Rattle.machine_defs.specs.Listing.{ListRow}
 use Rattle.machine_defs.specs.ListingLines.{entries, entries_behind, row_of, words_between, is_colon, numeral_within}
@@ -58,20 +57,6 @@ entries-none made count i known (word ∷ words) total lt h so_far = of_number (
         let k : count - i ≡ suc (count - (i + 1)) = omega arith in
         let step : behind known (entries made (count - i) (word ∷ words)) ≡ None = rw (k, is) refl in
         sym step ∙ so_far
-
-pub entries-done : (made count i : ℕ) (known : List ℕ) (words : List (List ℕ)) (total : Option (List ℕ)) → count ≤ i → words ≡ []
-    → behind known (entries made (count - i) words) ≡ total → Some known ≡ total
-entries-done made count i known words total le h so_far =
-    let k : count - i ≡ 0 = omega arith in
-    let step : behind known (entries made (count - i) words) ≡ Some known = rw (k, h) (ap (λ (es : List ℕ). Some es) (append-nil known)) in
-    sym step ∙ so_far
-
-pub entries-more : (made count i : ℕ) (known word : List ℕ) (words others : List (List ℕ)) (total : Option (List ℕ)) → count ≤ i → words ≡ word ∷ others
-    → behind known (entries made (count - i) words) ≡ total → None ≡ total
-entries-more made count i known word words others total le h so_far =
-    let k : count - i ≡ 0 = omega arith in
-    let step : behind known (entries made (count - i) words) ≡ None = rw (k, h) refl in
-    sym step ∙ so_far
 
 -- without a colon a line is no row
 pub row_of-none : (n made : ℕ) (line : List ℕ) → after_first is_colon line ≡ [] → row_of n made line ≡ None

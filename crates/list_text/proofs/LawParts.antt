@@ -7,17 +7,8 @@ use Rattle.std.proofs.lemmas.Bool.{cases_lt}
 use Rattle.map_defs.specs.Kind.{Kind, IsDistant}
 use Rattle.machine_defs.specs.Listing.{ListRow}
 use Rattle.machine_defs.specs.ListingFaults.{links_in, KeepsLaws, IsLawful, IsFirstWithout}
-use Rattle.row_laws.specs.Rows.{IsRow, LeadsBack, IsClosedAt, AreClosed}
+use Rattle.row_laws.specs.Rows.{IsRow, IsClosedAt, AreClosed}
 use Rattle.row_laws.proofs.RowsAt.{link-above}
-
-pub keeps-from : (k : Kind) (rows : List ListRow) (i d e : ℕ) → LeadsBack k rows i d e → AreClosed k rows i d e → KeepsLaws k rows i d e
-keeps-from k rows i d e b c = record { live = b.0; back = b.1; apart = b.2; free_alike = λ j x y. (c j x y).0; square = λ j x y. (c j x y).1 }
-
-pub keeps-back : (k : Kind) (rows : List ListRow) (i d e : ℕ) → KeepsLaws k rows i d e → LeadsBack k rows i d e
-keeps-back k rows i d e h = (h.live, h.back, h.apart)
-
-pub keeps-closed : (k : Kind) (rows : List ListRow) (i d e : ℕ) → KeepsLaws k rows i d e → AreClosed k rows i d e
-keeps-closed k rows i d e h j x y = (h.free_alike j x y, h.square j x y)
 
 -- above the dimension all links are free
 pub closed-all : (k : Kind) (n : ℕ) (rows : List ListRow) (i d e end : ℕ) → All (IsRow n) rows → n < end → ((j : ℕ) → i < j → j < end → IsDistant k i j → IsClosedAt k rows i d e j)

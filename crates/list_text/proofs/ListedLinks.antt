@@ -1,5 +1,5 @@
 -- The links of a listing's map: those of its rows, where the darts that have none are buried.
-use Rattle.std.proofs.Common.{◌≡◌, ◌≢◌, ℕ, zero, suc, ◌+◌, ◌-◌, ◌<◌, ◌≤◌, ◌↔◌, List, [], ◌∷◌, length, get_or, set, take, Option, Some, None, is_some, IsSome, Contains, refl, sym, ap, ◌∙◌, subst, inl, inr, arith}
+use Rattle.std.proofs.Common.{◌≡◌, ◌≢◌, ℕ, ◌+◌, ◌<◌, ◌≤◌, ◌↔◌, List, [], length, get_or, set, take, Option, Some, None, IsSome, refl, sym, ap, ◌∙◌, subst, inl, inr, arith}
 use Rattle.std.specs.Prelude.{All}
 use Rattle.std.specs.List.{AllPairs}
 use Rattle.std.proofs.lemmas.Bool.{cases_lt, false≢true}
@@ -9,7 +9,7 @@ use Rattle.std.proofs.lemmas.List.Kept.{AllPairs-from_increasing}
 use Rattle.map_defs.specs.Kind.{Kind}
 use Rattle.map_defs.specs.Laws.{Laws}
 use Rattle.map_defs.specs.Rows.{Rows, made, row_at, links_of, entry_of, IsLive, AreWide, IsSound}
-use Rattle.map_defs.specs.Edits.{Edit, with_births, after_edit, Fits}
+use Rattle.map_defs.specs.Edits.{Edit, after_edit, Fits}
 use Rattle.link_laws.proofs.RowFacts.{rows_lead_to_live}
 use Rattle.edit_laws.proofs.RowWrites.{births-links}
 use Rattle.edit_laws.proofs.EditPlain.{births-fit}
@@ -18,7 +18,7 @@ use Rattle.edit_laws.proofs.EditLinks.{links-else, ended, lives-on}
 use Rattle.edit_laws.proofs.KeptLaws.{laws-same}
 use Rattle.machine_defs.specs.Listing.{ListRow, Listing}
 use Rattle.machine_defs.specs.ListingFaults.{row_in, HasRow, links_in, IsLawful}
-use Rattle.row_laws.specs.Rows.{IsRow, IsMadeRow, AreRows}
+use Rattle.row_laws.specs.Rows.{IsRow, IsMadeRow}
 use Rattle.list_text.specs.Judging.{IsSoundListing}
 use Rattle.list_text.specs.Spread.{AreSpread, AreUnlisted}
 use Rattle.list_text.proofs.SpreadRows.{row-made, row-none, spread-more, spread-live, spread-wide, spread-links}

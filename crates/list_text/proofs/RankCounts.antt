@@ -1,14 +1,14 @@
 -- The counts of the map of the new numbers are those of the rows.
-use Rattle.std.proofs.Common.{◌≡◌, ℕ, zero, suc, ◌+◌, ◌<◌, ◌==◌, ◌↔◌, Bool, true, false, cond, List, [], ◌∷◌, length, map, get_or, Option, Some, None, is_some, IsSome, refl, sym, ap, ◌∙◌, subst, inl, inr, arith}
+use Rattle.std.proofs.Common.{◌≡◌, ℕ, zero, suc, ◌+◌, ◌<◌, ◌↔◌, List, [], ◌∷◌, length, map, get_or, Option, Some, None, is_some, IsSome, refl, sym, ap, ◌∙◌, subst, inl, inr, arith}
 use Rattle.std.specs.Prelude.{slice_index, filter, Contains}
-use Rattle.std.proofs.lemmas.Bool.{cases_lt, false≢true, eqb-true}
+use Rattle.std.proofs.lemmas.Bool.{cases_lt, false≢true}
 use Rattle.std.proofs.lemmas.List.{length-map, get_or-map, get_or_default, get_or_past}
 use Rattle.map_defs.specs.Kind.{Kind}
 use Rattle.map_defs.specs.Cells.{NamesCell, NamesComponent}
 use Rattle.map_defs.specs.Rows.{Rows, row_at, links_of, IsLive, live_count}
 use Rattle.map_defs.specs.Counts.{HasCount, AreCounts, AreCountsAmong}
 use Rattle.machine_defs.specs.Listing.{ListRow}
-use Rattle.machine_defs.specs.ListingFaults.{row_in, HasRow, links_in, IsLawful}
+use Rattle.machine_defs.specs.ListingFaults.{HasRow, links_in, IsLawful}
 use Rattle.row_laws.specs.Rows.{darts_of, AreRows}
 use Rattle.list_text.specs.Ranks.{AreRanked}
 use Rattle.list_text.proofs.Ranking.{old, old-next, old-rises, names, names-component}

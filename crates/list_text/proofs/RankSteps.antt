@@ -1,60 +1,20 @@
 -- The links of the new numbers, set one after the other.
-use Rattle.std.proofs.Common.{◌≡◌, ℕ, zero, suc, ◌+◌, ◌-◌, ◌<◌, ◌≤◌, ◌↔◌, List, [], ◌∷◌, ◌++◌, length, get_or, Option, Some, None, is_some, IsSome, refl, sym, ap, ◌∙◌, subst, inl, inr, arith}
-use Rattle.std.specs.Prelude.{slice_index, slice_index_or, slice_set, option_map, Contains, IfSome, Vec, Err}
+use Rattle.std.proofs.Common.{◌≡◌, ℕ, zero, suc, ◌+◌, ◌-◌, ◌<◌, ◌≤◌, ◌↔◌, List, [], ◌∷◌, ◌++◌, length, get_or, Option, Some, None, refl, sym, ap, ◌∙◌, subst, inl, inr, arith}
+use Rattle.std.specs.Prelude.{slice_index, slice_index_or, Contains, IfSome, Vec, Err}
 use Rattle.std.specs.declared.alloc.Global.{Global}
 use Rattle.std.specs.List.Sorted.{IsStrictlyIncreasing}
-use Rattle.std.proofs.lemmas.Bool.{cases_lt, false≢true}
-use Rattle.std.proofs.lemmas.List.{length-set, get_or-set_same, get_or_append_left, get_or-append_right, length-append}
+use Rattle.std.proofs.lemmas.Bool.{cases_lt}
+use Rattle.std.proofs.lemmas.List.{get_or_append_left, get_or-append_right, length-append}
 use Rattle.map_defs.specs.Kind.{Kind}
 use Rattle.map_defs.specs.Cells.{NamesCell}
-use Rattle.map_defs.specs.Rows.{Rows, row_at, links_of, entry_of, IsLive, AreWide}
-use Rattle.map_defs.specs.Edits.{with_births, with_entry}
-use Rattle.edit_laws.proofs.RowWrites.{row-same, links-untouched, live-entry, wide-entry, nothing-entry, births-wide, births-old, births-new}
-use Rattle.edit_laws.proofs.EditSound.{length-births}
+use Rattle.map_defs.specs.Rows.{Rows, links_of, entry_of, IsLive}
 use Rattle.machine_defs.specs.Listing.{ListRow}
 use Rattle.machine_defs.specs.ListingFaults.{links_in, IsLawful}
 use Rattle.row_laws.specs.Rows.{darts_of, IsRow, AreRows}
-use Rattle.list_text.specs.Ranks.{IsRank, AreSetUpTo, AreRanked, AreLeast, items_of, lists_of}
+use Rattle.list_text.specs.Ranks.{AreSetUpTo, AreRanked, AreLeast, items_of, lists_of}
 use Rattle.row_laws.proofs.RowsRead.{good, some, some_is}
 use Rattle.row_laws.proofs.RowsAt.{row-found}
 use Rattle.list_text.proofs.Ranking.{names}
-
-pub set-none : (n : ℕ) (rows : List ListRow) → AreSetUpTo n rows 0 0 (with_births n (length rows) (None ∷ []))
-set-none n rows = record {
-  long = length-births n (length rows) (None ∷ []) ∙ omega arith;
-  nothing = births-old n (length rows) (None ∷ []) 0 (omega arith);
-  live = λ q h. ap is_some (births-new n (length rows) (None ∷ []) (q + 1) (omega arith) (omega arith));
-  wide = births-wide n (length rows) (None ∷ []) (λ x row h. absurd (nothing x h));
-  before = λ j q h low. absurd (omega arith);
-  here = λ j h. absurd (omega arith);
-}
-  where
-    nothing : {row : List ℕ} (x : ℕ) → row_at (None ∷ []) x ≡ Some row → ⊥
-    nothing zero h = absurd cc
-    nothing (suc x) h = absurd cc
-
-written : (n : ℕ) (R : Rows) (d i to : ℕ) → IsLive R d → AreWide n R → i ≤ n → links_of (with_entry R d i to) i d ≡ to
-written n R d i to live wide low = at (row_at R d) refl live
-  where
-    at : (o : Option (List ℕ)) → row_at R d ≡ o → IsSome o → links_of (with_entry R d i to) i d ≡ to
-    at None e live = absurd (false≢true live)
-    at (Some row) e live =
-        let long = wide d row e in
-        ap (λ (o : Option (List ℕ)). entry_of o i) (row-same R d i to ∙ ap (option_map (λ (row : List ℕ). slice_set row i to)) e) ∙ get_or-set_same row i to 0 (omega (arith, long))
-
-pub set-more : (n : ℕ) (rows : List ListRow) (p i to : ℕ) (R : Rows) → p < length rows → i ≤ n → IsRank rows (links_in rows i (slice_index (darts_of rows) p)) to
-    → AreSetUpTo n rows p i R → AreSetUpTo n rows p (i + 1) (with_entry R (p + 1) i to)
-set-more n rows p i to R h low rank are = record {
-  long = length-set R (p + 1) _ ∙ are.long;
-  nothing = nothing-entry R (p + 1) i to are.nothing;
-  live = λ q g. live-entry R (p + 1) i to (q + 1) ∙ are.live q g;
-  wide = wide-entry n R (p + 1) i to are.wide;
-  before = λ j q g less. rw (links-untouched R (p + 1) i to (q + 1) j (λ e _. absurd (omega arith))) (are.before j q g less);
-  here = λ j less. elim (cases_lt j i) [
-    | inl below ↦ rw (links-untouched R (p + 1) i to (p + 1) j (λ _ e. absurd (omega arith))) (are.here j below)
-    | inr same ↦ let e : j ≡ i = omega arith in rw e (rw (written n R (p + 1) i to (are.live p h) are.wide low) rank)
-  ];
-}
 
 pub set-row : (n : ℕ) (rows : List ListRow) (p i : ℕ) (R : Rows) → n < i → AreSetUpTo n rows p i R → AreSetUpTo n rows (p + 1) 0 R
 set-row n rows p i R h are = record {

@@ -5,7 +5,7 @@ use Rattle.std.proofs.lemmas.Bool.{cases_lt, cases_eq, false≢true, eqb-true}
 use Rattle.std.proofs.lemmas.Bool.Decides.{nat_tests}
 use Rattle.std.proofs.lemmas.List.{length-set, length-replicate, length-take-le, take-map, take_more, get_or-take, get_or-set_same, get_or-set_other, get_or_past}
 use Rattle.map_defs.specs.Rows.{Rows, row_at, links_of, entry_of, IsLive, AreWide}
-use Rattle.map_defs.specs.Edits.{free_row, with_births}
+use Rattle.map_defs.specs.Edits.{with_births}
 use Rattle.edit_laws.proofs.RowWrites.{births-old, births-new, births-links}
 use Rattle.edit_laws.proofs.EditSound.{length-births}
 use Rattle.machine_defs.specs.Listing.{ListRow}

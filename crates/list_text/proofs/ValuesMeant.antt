@@ -1,5 +1,5 @@
 -- The rules and the values that the lines mean.
-use Rattle.std.proofs.Common.{◌≡◌, ◌≢◌, ℕ, zero, suc, ◌+◌, ◌<◌, ◌==◌, Bool, true, false, cond, List, [], ◌∷◌, ◌++◌, length, map, get_or, Some, IsSome, refl, ap, ◌∙◌, subst, arith}
+use Rattle.std.proofs.Common.{◌≡◌, ◌≢◌, ℕ, zero, suc, ◌+◌, ◌<◌, ◌==◌, Bool, true, false, cond, List, [], ◌∷◌, ◌++◌, length, map, refl, ap, ◌∙◌, subst, arith}
 use Rattle.std.specs.Prelude.{All, filter, slice_index}
 use Rattle.std.specs.List.{list_any, range_with_len}
 use Rattle.std.proofs.lemmas.Bool.{false≢true}
@@ -8,7 +8,7 @@ use Rattle.std.proofs.lemmas.List.{map-append}
 use Rattle.std.proofs.lemmas.List.Elements.{filter-append}
 use Rattle.map_defs.specs.Kind.{Kind, alpha, beta, letter}
 use Rattle.machine_defs.specs.Listing.{ListRow, ListRule, ListValue}
-use Rattle.machine_defs.specs.ListingFaults.{row_in, HasRow, IsLawful, first_copy}
+use Rattle.machine_defs.specs.ListingFaults.{HasRow, IsLawful, first_copy}
 use Rattle.row_laws.specs.Rows.{darts_of}
 use Rattle.list_text.specs.Letters.{kind_named}
 use Rattle.row_laws.proofs.RowsAt.{row-missing}

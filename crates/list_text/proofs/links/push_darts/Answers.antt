@@ -1,4 +1,4 @@
-use Rattle.std.proofs.Common.{◌≡◌, ℕ, suc, ◌+◌, ◌-◌, ◌++◌, ◌∷◌, [], List, sym, ap, ◌∙◌, arith, append_assoc}
+use Rattle.std.proofs.Common.{◌≡◌, suc, ◌+◌, ◌-◌, ◌∷◌, [], arith, append_assoc}
 use Rattle.std.specs.List.{range_with_len}
 use Rattle.list_text.proofs.RankSteps.{number-is}
 use Rattle.list_text.proofs.ValuesMeant.{range-suc}

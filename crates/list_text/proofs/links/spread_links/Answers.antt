@@ -1,4 +1,4 @@
-use Rattle.std.proofs.Common.{◌≡◌, ℕ, take, ap, ◌∙◌, lit<}
+use Rattle.std.proofs.Common.{◌≡◌, ap, ◌∙◌, lit<}
 use Rattle.std.proofs.lemmas.List.{take_all}
 use Rattle.machine_defs.specs.Listing.{ListRow, Listing}
 use Rattle.list_text.specs.Spread.{AreSpread}
