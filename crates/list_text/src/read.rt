@@ -15,7 +15,7 @@ use crate::values::{rules_meant, values_meant};
 use crate::{ListFault, ListRule, ListValue, Listing};
 use std::alloc::Global;
 
-/// How many bytes a text has at most.
+/// How many bytes the text of a listing has at most.
 pub const LISTING_MAX: u64 = 16_777_216;
 
 /// The listing that a text tells, or the first fault of the text. Both versions of the format are read: version 1 has no

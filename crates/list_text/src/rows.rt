@@ -50,8 +50,9 @@ fn entries<K: Kind, const DIM: usize>(
     ensures { IfOk result (λ entries. entries.items
         ≡ map (λ (i : ℕ). links_of links.now.rows i dart) (range_with_len 0 (DIM + 1))) }
 {
-    let mut entries = Vec::new(alloc);
-    for link in 0..links.dimension() + 1 {
+    let count = links.dimension() + 1;
+    let mut entries = Vec::with_capacity(alloc, count)?;
+    for link in 0..count {
         entries.push(links.number_at(dart, link))?;
     }
     Ok(entries)

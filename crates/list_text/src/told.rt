@@ -16,6 +16,15 @@ use crate::{ListFault, ListRow, ListWhat, MarkName};
 use std::alloc::Global;
 use text_words::read_name;
 
+/// How the line of a rule begins.
+const RULE: &[u8] = b"rule ";
+
+/// How the line of a value begins.
+const VALUE: &[u8] = b"val ";
+
+/// How the line of a mark begins.
+const MARK: &[u8] = b"mark ";
+
 /// What the lines of a text tell. Its laws and its values are not yet looked at.
 #[derive(Drop)]
 pub(crate) struct Told {
@@ -136,7 +145,7 @@ fn read_rules(
     if version == 1 {
         return Ok((rules, left));
     }
-    while left.rest.starts_with(b"rule ") {
+    while left.rest.starts_with(RULE) {
         left = push_rule(&mut rules, left)?;
     }
     Ok((rules, left))
@@ -150,7 +159,7 @@ fn push_rule<'a>(rules: &mut Vec<ToldRule>, cursor: Cursor<'a>) -> Result<Cursor
     ensures shorter { IfOk result (λ left. length left.rest.now < length cursor.entry.rest.now) }
 {
     let (text, left) = next_line(cursor)?;
-    let Some(rule) = rule_of(Words::of(behind(text, 5))) else {
+    let Some(rule) = rule_of(Words::of(behind(text, RULE.len()))) else {
         return Err(bad(left.line, ListWhat::Form));
     };
     if !is_rule_behind(rules.last(), rule) {
@@ -177,7 +186,7 @@ fn read_values(alloc: Global, cursor: Cursor) -> Result<(Vec<ToldValue>, Cursor)
 {
     let mut values = Vec::new(alloc);
     let mut left = cursor;
-    while left.rest.starts_with(b"val ") {
+    while left.rest.starts_with(VALUE) {
         left = push_value(&mut values, left)?;
     }
     Ok((values, left))
@@ -191,7 +200,7 @@ fn push_value<'a>(values: &mut Vec<ToldValue>, cursor: Cursor<'a>) -> Result<Cur
     ensures shorter { IfOk result (λ left. length left.rest.now < length cursor.entry.rest.now) }
 {
     let (text, left) = next_line(cursor)?;
-    let Some(value) = value_of(Words::of(behind(text, 4))) else {
+    let Some(value) = value_of(Words::of(behind(text, VALUE.len()))) else {
         return Err(bad(left.line, ListWhat::Form));
     };
     if !is_value_behind(values.last(), value) {
@@ -224,7 +233,7 @@ fn read_marks(
     if version == 1 {
         return Ok((marks.into_names(), left));
     }
-    while left.rest.starts_with(b"mark ") {
+    while left.rest.starts_with(MARK) {
         left = push_mark(&mut marks, left)?;
     }
     Ok((marks.into_names(), left))
@@ -238,7 +247,7 @@ fn push_mark<'a>(marks: &mut Names<'a>, cursor: Cursor<'a>) -> Result<Cursor<'a>
     ensures shorter { IfOk result (λ left. length left.rest.now < length cursor.entry.rest.now) }
 {
     let (text, left) = next_line(cursor)?;
-    let Some(name) = read_name(behind(text, 5)) else {
+    let Some(name) = read_name(behind(text, MARK.len())) else {
         return Err(bad(left.line, ListWhat::Form));
     };
     if !marks.put(name)? {
