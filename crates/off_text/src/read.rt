@@ -17,7 +17,7 @@ use map_kind::Value;
 use std::alloc::Global;
 use text_words::take_word;
 
-/// How many bytes a text has at most.
+/// How many bytes an OFF text has at most.
 pub const TEXT_MAX: u64 = 16_777_216;
 
 /// How many corners a face has at most.
@@ -161,10 +161,7 @@ fn read_points<'a>(
     let mut points = Vec::new(alloc);
     let mut left = cursor;
     for _ in 0..count {
-        match push_point(&mut points, left) {
-            Ok(after) => left = after,
-            Err(fault) => return Err(fault),
-        }
+        left = push_point(&mut points, left)?;
     }
     Ok((points, left))
 }
@@ -215,10 +212,7 @@ fn read_faces(
     let mut corners = Vec::new(alloc);
     let mut left = cursor;
     for _ in 0..counts.faces {
-        match push_face(&mut faces, &mut corners, counts.points, left) {
-            Ok(after) => left = after,
-            Err(fault) => return Err(fault),
-        }
+        left = push_face(&mut faces, &mut corners, counts.points, left)?;
     }
     Ok((faces, left))
 }
