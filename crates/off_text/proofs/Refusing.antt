@@ -14,12 +14,6 @@ pub refused-line : {Y : Type 0} (result : Result Y Refused) (refusal : Refusal) 
 refused-line (Ok x) refusal Why is known = absurd is
 refused-line (Err refused) refusal Why is known = subst (λ r. IfLine r Why) (sym is) known
 
--- want of memory
-pub refused-memory : {Y : Type 0} (result : Result Y Refused) (Why : machine.Refusal → Type 0) → IsErrAnd result (λ refused. refused ≡ NoMemory)
-    → IfErr result (λ refused. IfLine refused Why)
-refused-memory (Ok x) Why is = absurd is
-refused-memory (Err refused) Why is = subst (λ r. IfLine r Why) (sym is) tt
-
 -- what was known of a refusal that is passed on as it is
 pub refused-again : {Y : Type 0} (result : Result Y Refused) (refused : Refused) (Known Why : machine.Refusal → Type 0) → IsErrAnd result (λ other. other ≡ refused)
     → ((why : machine.Refusal) → Known why → Why why) → IfLine refused Known → IfErr result (λ other. IfLine other Why)

@@ -97,6 +97,3 @@ way-more k L d x y old new grown apart at dart way = record {
 pub way-round : (k : Kind) (L : Links) (d x : ℕ) (darts : List ℕ) → x ≡ d → IsOnTheWay k L d darts x → IsRound k L d darts
 way-round k L d x darts back way =
     subst (IsRound k L d) (append-nil darts) (way.on [] (subst (λ z. Passes (next_round k L) d z []) (sym back) there))
-
-pub way-open : (k : Kind) (L : Links) (d x : ℕ) (darts : List ℕ) → next_round k L x ≡ 0 → IsOnTheWay k L d darts x → IsOpen k L d
-way-open k L d x darts none way = (x, way.reached, none)
