@@ -1,5 +1,5 @@
 //! Faces, by the places of 0-cells.
-ghost use Rattle.std.specs.Prelude.{ℕ, ◌≡◌, ◌+◌, ◌^◌, ◌<◌, ◌≤◌, ◌⊎◌, [], All, Contains, length, map, slice_index, slice_index_or, IfOk};
+ghost use Rattle.std.specs.Prelude.{ℕ, ◌≡◌, ◌+◌, ◌^◌, ◌<◌, ◌≤◌, ◌⊎◌, All, Contains, length, map, slice_index, IfOk};
 ghost use Rattle.off_text.specs.Meanings.{lists_of};
 ghost use Rattle.off_text.specs.MapViews.{IsPlaced};
 

@@ -11,7 +11,7 @@ use text_words::{is_digits, read_numeral};
 
 /// The natural number that a word writes, or `u64::MAX` where it is greater; none exactly where the word is not one or more
 /// digits.
-pub fn read_natural(word: &[u8]) -> Option<u64>
+fn read_natural(word: &[u8]) -> Option<u64>
     ensures { result ≡ (if is_natural word.now then Some (min (value_of word.now) u64.MAX) else None) }
 {
     // Most words are numerals, which are read at once.

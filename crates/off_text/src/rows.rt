@@ -92,16 +92,13 @@ pub fn next_row(cursor: Cursor) -> Result<(Row, Cursor), u32>
         let (text, after) = split_line(rest);
         line += 1;
         rest = after;
-        match take_word(without_comment(text)) {
-            Some((first, others)) => {
-                let row = Row {
-                    line,
-                    first,
-                    others,
-                };
-                return Ok((row, Cursor { line, rest }));
-            }
-            None => {}
+        if let Some((first, others)) = take_word(without_comment(text)) {
+            let row = Row {
+                line,
+                first,
+                others,
+            };
+            return Ok((row, Cursor { line, rest }));
         }
     }
     Err(line)
