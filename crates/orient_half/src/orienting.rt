@@ -65,10 +65,7 @@ fn sign_all<const DIM: usize>(
     let mut search = Search::new(alloc, made)?;
     for number in 0..made {
         let dart = Dart::new(number + 1).unwrap();
-        match sign_from(alloc, links, dart, &mut search) {
-            Ok(()) => {}
-            Err(fault) => return Err(fault),
-        }
+        sign_from(alloc, links, dart, &mut search)?;
     }
     Ok(signs_of(alloc, links, &search)?)
 }
