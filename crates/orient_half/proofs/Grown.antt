@@ -5,7 +5,7 @@ use Rattle.std.proofs.lemmas.List.Elements.{Contains-append_left, Contains-push,
 use Rattle.map_defs.specs.Links.{Links}
 use Rattle.map_defs.specs.Cells.{onward, InComponent}
 use Rattle.orient_half.specs.declared.search.Reached.{Reached}
-use Rattle.orient_half.specs.Marks.{Marks, mark_at, sign_at, IsReached, IsKept, Flips, AreHeld, AreQueued}
+use Rattle.orient_half.specs.Marks.{Marks, mark_at, sign_at, IsReached, IsKept, AreHeld, AreQueued}
 use Rattle.orient_half.specs.Searches.{IsGiven, IsSearched, IsGrown}
 use Rattle.orient_half.proofs.MarkFacts.{not-twice, reached-mark, sign-mark, kept-same, kept-trans, kept-sign, kept-reached, put-here, put-cases, put-kept, put-reached}
 use Rattle.orient_half.proofs.WholeLinks.{AreWhole, lands-live}
@@ -67,9 +67,6 @@ module _ (n : ℕ) (Live : ℕ → Type 0) (L : Links) where
 
     kept : IsKept marks new
     kept = put-kept marks (L i x) (mark (not b) i) y-low fresh
-
-    pub put-flips : Flips L new x i
-    put-flips = (b, kept-sign marks new kept x b signed, sign-mark (mark_at new (L i x)) (mark (not b) i) (put-here marks (L i x) (mark (not b) i) y-low))
 
     pub grown-put : IsGrown n Live L marks new queue (queue ++ L i x ∷ [])
     grown-put = record {

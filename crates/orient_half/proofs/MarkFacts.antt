@@ -5,7 +5,7 @@ use Rattle.std.proofs.lemmas.List.{get_or-set_same, get_or-set_other}
 use Rattle.map_defs.specs.Links.{Links}
 use Rattle.link_laws.proofs.Basics.{same_or_not}
 use Rattle.orient_half.specs.declared.search.Reached.{Reached}
-use Rattle.orient_half.specs.Marks.{Marks, mark_at, sign_of, sign_at, IsReached, IsKept, Flips, Clashes}
+use Rattle.orient_half.specs.Marks.{Marks, mark_at, sign_of, sign_at, IsReached, IsKept, Flips}
 
 pub Some-one : {X : Type 0} (x y : X) → Some x ≡ Some y → x ≡ y
 Some-one x y e = cc
@@ -33,11 +33,6 @@ sign-mark o r e = ap sign_of e
 pub reached-sign : (o : Option Reached) (b : Bool) → sign_of o ≡ Some b → IsSome o
 reached-sign o b e = let m = mark-of_sign o b e in reached-mark o m.0 m.1
 
--- reached or not
-pub reached-or_not : (o : Option Reached) → IsSome o ⊎ (o ≡ None)
-reached-or_not None = inr refl
-reached-or_not (Some r) = inl refl
-
 module _ (old new : Marks) (kept : IsKept old new) where
   pub kept-sign : (d : ℕ) (b : Bool) → sign_at old d ≡ Some b → sign_at new d ≡ Some b
   kept-sign d b e =
@@ -49,9 +44,6 @@ module _ (old new : Marks) (kept : IsKept old new) where
 
   pub kept-flips : (L : Links) (d i : ℕ) → Flips L old d i → Flips L new d i
   kept-flips L d i f = (f.0, kept-sign d f.0 f.1, kept-sign (L i d) (not f.0) f.2)
-
-  pub kept-clashes : (L : Links) (d i : ℕ) → Clashes L old d i → Clashes L new d i
-  kept-clashes L d i f = (f.0, kept-sign d f.0 f.1, kept-sign (L i d) f.0 f.2)
 
 pub kept-same : (marks : Marks) → IsKept marks marks
 kept-same marks d r e = e

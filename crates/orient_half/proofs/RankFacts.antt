@@ -45,9 +45,6 @@ pub rank-of : (darts : List ℕ) (d : ℕ) → Contains darts d → (s : ℕ) ×
 rank-of darts d has = (has.0 + 1, omega arith, omega (arith, has.1), origin-next darts has.0 ∙ get_or_default darts has.0 0 d has.1 ∙ has.2)
 
 module _ (darts : List ℕ) (made : ℕ) (up : IsStrictlyIncreasing darts) (within : AreMade made darts) where
-  pub ranked-none : (table : List ℕ) → length table ≡ made + 1 → ((d : ℕ) → slice_index table d ≡ 0) → AreRankedUpTo darts made 0 table
-  ranked-none table long zeros = record { long = long; told = λ k less. absurd (omega arith); whole = λ d. inl (zeros d) }
-
   earlier : (j k : ℕ) → j < k → k < length darts → slice_index darts j ≢ slice_index darts k
   earlier j k less low same = let below = AllPairs-from_increasing darts up j k 0 less low in omega arith
 

@@ -44,19 +44,6 @@ module _ (n : ℕ) (Live : ℕ → Type 0) (L : Links) where
       none : (d : ℕ) → IsReached (replicate count None) d → ⊥
       none d reached = let m = mark-of (mark_at (replicate count None) d) reached in let e : None ≡ Some m.0 = sym (unreached count d) ∙ m.1 in cc
 
-  -- a dart that is not live, or was reached, needs no search
-  pub surveyed-skip : (next : ℕ) (marks : Marks) → (Live next → IsReached marks next) → IsSurveyed n Live L next marks → IsSurveyed n Live L (next + 1) marks
-  surveyed-skip next marks known survey = record {
-    held = survey.held;
-    met = λ d live low. met d live (below-more next d low);
-    flipped = survey.flipped;
-    least = survey.least;
-  }
-    where
-      met : (d : ℕ) → Live d → (d < next) ⊎ (d ≡ next) → IsReached marks d
-      met d live (inl below) = survey.met d live below
-      met d live (inr is) = subst (IsReached marks) (sym is) (known (subst Live is live))
-
   -- the search of a component begins
   pub searched-begun : (first : ℕ) (old : Marks) → Live first → mark_at old first ≡ None → IsSurveyed n Live L first old → IsSearched n Live L first old (slice_set old first (Some (mark true 0))) (first ∷ [])
   searched-begun first old live fresh survey = record {

@@ -55,12 +55,6 @@ module _ (n : ℕ) (Live : ℕ → Type 0) (L : Links) (whole : AreWhole n Live 
   pub lands-live : (d i : ℕ) → Live d → i ≤ n → Live (L i d)
   lands-live d i live within = whole.lands d i (whole.linked d i live within)
 
-  pub walked-live : (d : ℕ) (links : List ℕ) → Live d → All (λ i. i ≤ n) links → Live (walked L d links)
-  walked-live d [] live all = live
-  walked-live d (i ∷ links) live all =
-      let t : (i ≤ n) × All (λ j. j ≤ n) links = All-tail (λ j. j ≤ n) i links all in
-      walked-live (L i d) links (lands-live d i live t.0) t.1
-
   -- the links of a walk lead back in the other order
   pub walked-reverse : (d : ℕ) (links : List ℕ) → Live d → All (λ i. i ≤ n) links → walked L (walked L d links) (reverse links) ≡ d
   walked-reverse d [] live all = refl
