@@ -1,5 +1,5 @@
 //! Boundaries and folds, which are looked for without memory.
-ghost use Rattle.std.specs.Prelude.{◌≡◌, ◌≢◌, ℕ, ◌≤◌, ◌↔◌, IsTrue, IfSome, IfNone};
+ghost use Rattle.std.specs.Prelude.{◌≡◌, ℕ, ◌≤◌, ◌↔◌, IsTrue, IfSome, IfNone};
 ghost use Rattle.map_defs.specs.Rows.{links_of, IsLive};
 ghost use Rattle.half_defs.specs.Orientation.{HasBoundary, IsFolded, IsFirstFold};
 ghost use Rattle.orient_half.specs.Boundaries.{IsLeastFold};

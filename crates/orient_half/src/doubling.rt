@@ -1,4 +1,4 @@
-ghost use Rattle.std.specs.Prelude.{◌≡◌, ℕ, ◌+◌, ◌-◌, ◌<◌, ◌≤◌, length, IfOk, OnOk};
+ghost use Rattle.std.specs.Prelude.{◌≡◌, ◌+◌, ◌-◌, ◌<◌, ◌≤◌, length, IfOk, OnOk};
 ghost use Rattle.map_defs.specs.Kind.{alpha, beta};
 ghost use Rattle.map_defs.specs.Rows.{IsLive, links_of, live_count};
 ghost use Rattle.map_defs.specs.Laws.{Laws};

@@ -2,7 +2,7 @@
 ghost use Rattle.std.specs.Prelude.{◌≡◌, ℕ, ◌+◌, ◌≤◌, ◌<◌, [], ◌∷◌, ◌++◌, Some, None, true, not, length, replicate, slice_set, Contains, MatchBool, MatchOption, IfOk, OnOk};
 ghost use Rattle.map_defs.specs.Rows.{links_of, IsLive};
 ghost use Rattle.half_defs.specs.Orientation.{HasBoundary};
-ghost use Rattle.orient_half.specs.Marks.{mark_at, sign_at, IsReached, Flips, Clashes, AreHeld, AreQueued};
+ghost use Rattle.orient_half.specs.Marks.{mark_at, sign_at, Flips, Clashes, AreHeld, AreQueued};
 ghost use Rattle.orient_half.specs.Searches.{IsGiven, IsGrown, IsSurveyed, MeetsClash};
 
 use link_rows::Links;
