@@ -42,10 +42,7 @@ pub fn sew_faces(
         if has_repeat(&mut marks, face + 1, corners) {
             return Err(MeshFault::Repeated { face });
         }
-        match add_face(&mut book, oriented, face, corners) {
-            Ok(()) => {}
-            Err(fault) => return Err(fault),
-        }
+        add_face(&mut book, oriented, face, corners)?;
     }
     Ok(Sewn {
         sides: book.sides,
@@ -65,10 +62,7 @@ fn add_face(book: &mut Book, oriented: bool, face: u32, corners: &[u32]) -> Resu
 {
     let base = book.sides.len() as u32;
     for place in 0..corners.len() as u32 {
-        match book.add(oriented, face, Side::new(base, corners, place)) {
-            Ok(()) => {}
-            Err(fault) => return Err(fault),
-        }
+        book.add(oriented, face, Side::new(base, corners, place))?;
     }
     Ok(())
 }

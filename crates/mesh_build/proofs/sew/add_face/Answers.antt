@@ -16,11 +16,11 @@ loop-place-preserved c =
     let kept = c.loop-place.invariant in
     let based : c.len-base.result ≡ base = omega (arith, c.args.book.now.sides.ok.0) in
     let side : side_view c.new.result ≡ f place = c.new.ensures ∙ ap (λ (b : ℕ). side_at b c.args.corners.now place) based in
-    let more : sides_view c.add.new.self.sides ≡ sides_view c.loop-place.book.sides ++ f place ∷ [] = c.in-Ok.ensures.sides ∙ ap (λ (s : Side). sides_view c.loop-place.book.sides ++ s ∷ []) side in
+    let more : sides_view c.add.new.self.sides ≡ sides_view c.loop-place.book.sides ++ f place ∷ [] = c.in_ok-add.ensures.sides ∙ ap (λ (s : Side). sides_view c.loop-place.book.sides ++ s ∷ []) side in
     let none : side_fault (kind_of c.args.oriented) c.args.face (f place) (filter (has_ends (f place)) (sides_view c.loop-place.book.sides)) ≡ None =
-    subst (λ (s : Side). side_fault (kind_of c.args.oriented) c.args.face s (filter (has_ends s) (sides_view c.loop-place.book.sides)) ≡ None) side c.in-Ok.ensures.fault in
+    subst (λ (s : Side). side_fault (kind_of c.args.oriented) c.args.face s (filter (has_ends s) (sides_view c.loop-place.book.sides)) ≡ None) side c.in_ok-add.ensures.fault in
     record {
-      kept = c.in-Ok.ensures.ok;
+      kept = c.in_ok-add.ensures.ok;
       number = omega (
         arith,
         kept.number,

@@ -1,5 +1,6 @@
 use Rattle.std.proofs.Common.{◌≡◌, ℕ, ◌+◌, ◌<◌, true, false, List, [], ◌∷◌, ◌++◌, length, get_or, drop, map, replicate, refl, sym, ap, subst, ◌∙◌, arith}
 use Rattle.std.proofs.lemmas.List.{length-map, length-append, append-nil, drop_all, get_or-replicate}
+use Rattle.std.proofs.lemmas.Result.{err_from_is_err_and}
 use Rattle.map_defs.specs.MeshMap.{Side, repeats, face_sides, sides_from, faces_fault}
 use Rattle.mesh_build.specs.Sides.{side_view, sides_view}
 use Rattle.mesh_laws.specs.Sides.{kind_of, IsRing}
@@ -51,14 +52,16 @@ add_face-requires-clause-few c =
       length-sides_from n c.list-corners.result.now rest,
     )
 
-pub returns-in-Err-clause-fault : goal.returns-in-Err-clause-fault
-returns-in-Err-clause-fault c =
+pub returns-in_err-add_face-clause-fault : goal.returns-in_err-add_face-clause-fault
+returns-in_err-add_face-clause-fault c =
     let n : ℕ = length c.loop-face.book.sides.items in
     let earlier : List Side = sides_view c.loop-face.book.sides in
     let split = faces-split c.args.mesh.now.faces c.loop-face.face c.list-corners.result.now (omega (arith, c.loop-face-test.true, c.len-face-end.ensures)) c.list-corners.ensures in
     let once : repeats [] c.list-corners.result.now ≡ false = sym c.has_repeat.ensures.result ∙ c.if-has_repeat.false in
     let long : n ≡ length earlier = omega (arith, length-map c.loop-face.book.sides.items side_view) in
-    faces_fault-stop Sewn c.in-Err.fault (kind_of c.args.oriented) c.loop-face.face n earlier c.list-corners.result.now _ _ _ long split once c.in-Err.ensures.fault c.loop-face.invariant.fault
+    let p = err_from_is_err_and c.from_residual-in_err-add_face.result c.from_residual-in_err-add_face.ensures.1 in
+    rw (p.1, p.2)
+    (faces_fault-stop Sewn c.in_err-add_face.field-0.0 (kind_of c.args.oriented) c.loop-face.face n earlier c.list-corners.result.now _ _ _ long split once c.in_err-add_face.ensures.fault c.loop-face.invariant.fault)
 
 pub loop-face-preserved : goal.loop-face-preserved
 loop-face-preserved c =
@@ -68,13 +71,13 @@ loop-face-preserved c =
     let split = faces-split c.args.mesh.now.faces c.loop-face.face c.list-corners.result.now (omega (arith, c.loop-face-test.true, c.len-face-end.ensures)) c.list-corners.ensures in
     let once : repeats [] corners ≡ false = sym c.has_repeat.ensures.result ∙ c.if-has_repeat.false in
     let long : n ≡ length earlier = omega (arith, length-map c.loop-face.book.sides.items side_view) in
-    let more : sides_view c.add_face.new.book.sides ≡ earlier ++ face_sides n corners = c.in-Ok.ensures.sides in
+    let more : sides_view c.add_face.new.book.sides ≡ earlier ++ face_sides n corners = c.in_ok-add_face.ensures.sides in
     let longer : length c.add_face.new.book.sides.items ≡ n + length corners =
     omega (arith, ap length more, length-append earlier (face_sides n corners), length-face_sides n corners, length-map c.loop-face.book.sides.items side_view, length-map c.add_face.new.book.sides.items side_view) in
     record {
-      kept = c.in-Ok.ensures.kept;
+      kept = c.in_ok-add_face.ensures.kept;
       sides = sides-on n (length c.add_face.new.book.sides.items) earlier (sides_view c.add_face.new.book.sides) corners _ _ _ split more longer c.loop-face.invariant.sides;
-      fault = faces_fault-on (kind_of c.args.oriented) c.loop-face.face n earlier (sides_view c.add_face.new.book.sides) corners _ _ _ long more split once c.in-Ok.ensures.fault c.loop-face.invariant.fault;
+      fault = faces_fault-on (kind_of c.args.oriented) c.loop-face.face n earlier (sides_view c.add_face.new.book.sides) corners _ _ _ long more split once c.in_ok-add_face.ensures.fault c.loop-face.invariant.fault;
       long = c.has_repeat.ensures.long ∙ c.loop-face.invariant.long;
       fresh = c.has_repeat.ensures.stamped;
     }
