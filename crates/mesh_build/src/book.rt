@@ -1,4 +1,4 @@
-ghost use Rattle.std.specs.Prelude.{◌≡◌, Bool, ◌&&◌, ◌==◌, ◌+◌, ◌<◌, [], ◌∷◌, ◌++◌, map, filter, IfOk, IfErr, OnOk, vec_len};
+ghost use Rattle.std.specs.Prelude.{◌≡◌, Bool, ◌&&◌, ◌==◌, ◌+◌, ◌<◌, [], ◌∷◌, ◌++◌, filter, IfOk, IfErr, OnOk, vec_len};
 ghost use Rattle.map_defs.specs.MeshMap.{side_fault, has_ends};
 ghost use Rattle.mesh_build.specs.Sides.{side_view, sides_view, Fails};
 ghost use Rattle.mesh_laws.specs.Sides.{kind_of};

@@ -1,4 +1,4 @@
-ghost use Rattle.std.specs.Prelude.{◌≡◌, ◌+◌, ◌*◌, ◌≤◌, ◌<◌, ◌^◌, [], ◌∷◌, None, length, map, IfOk, IfErr};
+ghost use Rattle.std.specs.Prelude.{◌≡◌, ◌*◌, ◌≤◌, ◌<◌, ◌^◌, [], ◌∷◌, None, length, map, IfOk, IfErr};
 ghost use Rattle.map_defs.specs.Edits.{after_edit};
 ghost use Rattle.map_defs.specs.Edits as edits;
 ghost use Rattle.map_defs.specs.Rows.{links_of};
@@ -116,7 +116,7 @@ fn sewn_map<K: Kind, const DIM: usize>(
 }
 
 /// The sides of a mesh, sewn, unless they would have more darts than are ever made; or what is wrong with a face.
-pub fn sew_few(alloc: Global, oriented: bool, mesh: &Mesh) -> Result<Sewn, MeshFault>
+fn sew_few(alloc: Global, oriented: bool, mesh: &Mesh) -> Result<Sewn, MeshFault>
     requires faces { HasFaces (mesh_view mesh.now) }
     ensures few { IfOk result (λ sewn. per_side (kind_of oriented) * length sewn.sides.items ≤ MADE_MAX) }
     ensures sides { IfOk result (λ sewn. sides_view sewn.sides ≡ sides_of (mesh_view mesh.now).faces) }

@@ -7,7 +7,6 @@ ghost use Rattle.mesh_laws.specs.SideLinks.{entry_change, entry_changes, start_a
 ghost use Rattle.mesh_build.specs.EntriesView.{entries_view};
 
 use crate::sew::Sewn;
-use crate::side::Side;
 use link_rows::{Change, Edit, MADE_MAX};
 use map_kind::Dart;
 use std::alloc::{AllocError, Global};
