@@ -40,15 +40,15 @@ fn put_place(places: &mut Vec<u32>, darts: &[Dart], place: u32)
 /// The faces along these ways round: for each the places of its darts.
 pub(crate) fn faces_of(
     alloc: Global,
-    rounds: &[Vec<Dart>],
+    rounds: &Lists<Dart>,
     places: &[u32],
 ) -> Result<Vec<Vec<u32>>, AllocError>
-    requires { All (λ round. All (λ d. d < length places.now) round) (lists_of rounds.now) }
-    ensures { IfOk result (λ faces. lists_of faces.items ≡ map (map (slice_index places.now)) (lists_of rounds.now)) }
+    requires { All (λ round. All (λ d. d < length places.now) round) rounds.now }
+    ensures { IfOk result (λ faces. lists_of faces.items ≡ map (map (slice_index places.now)) rounds.now) }
 {
     let mut faces = Vec::with_capacity(alloc, rounds.len())?;
-    for round in rounds {
-        faces.push(face_of(alloc, round, places)?)?;
+    for face in 0..rounds.len() {
+        faces.push(face_of(alloc, rounds.list(face), places)?)?;
     }
     Ok(faces)
 }

@@ -1,10 +1,8 @@
-use Rattle.std.proofs.Common.{◌≡◌, ◌≤◌, ◌<◌, inl, inr, ℕ, List, length, map, slice_index, Some, None, All, Contains, Vec, sym, ap, ap₂, ◌∙◌, subst, arith}
+use Rattle.std.proofs.Common.{◌≡◌, ◌≤◌, inl, inr, ℕ, List, length, map, slice_index, Some, None, All, Contains, sym, ap, ◌∙◌, subst, arith}
 use Rattle.std.specs.List.{AllZip}
-use Rattle.std.specs.declared.alloc.Global.{Global}
 use Rattle.map_defs.specs.Refusal as machine
 use Rattle.map_defs.specs.OffOfMap.{ListsCells, LacksOffText}
 use Rattle.map_kind.specs.Refusals.{meaning}
-use Rattle.off_text.specs.Meanings.{lists_of}
 use Rattle.off_text.specs.MapViews.{placed, off_view}
 use Rattle.off_text.proofs.Refusing.{refused-line, refused-again}
 use Rattle.off_text.proofs.OffFacts.{cells-few, rounds-made, lists-made, off-rows, none-open, none-thin, some-thin, none-lacks}
@@ -19,7 +17,7 @@ returns-in_err-points-clause-refused g c =
     c.from_residual-in_err-points.ensures.1
     (λ why known. inr (inl (
       known.0,
-      none-open g.K.Kind.kind g.row.DIM c.args.links.now.rows c.see_sound.ensures.sound r.0 (lists_of c.in_ok-rounds.rounds.items) r.1 r.2,
+      none-open g.K.Kind.kind g.row.DIM c.args.links.now.rows c.see_sound.ensures.sound r.0 c.in_ok-rounds.rounds r.1 r.2,
       (known.1.0, (c.in_ok-vertices.ensures.members known.1.0).0 (subst (λ vertices. Contains vertices known.1.0) c.deref.ensures.value known.1.1), known.1.2),
     )))
     c.in_err-points.ensures.refused
@@ -33,11 +31,11 @@ returns-in_err-refuse_thin-clause-refused g c =
     c.from_residual-in_err-refuse_thin.ensures.1
     (inr (inr (
       ap meaning thin.0,
-      none-open g.K.Kind.kind g.row.DIM c.args.links.now.rows c.see_sound.ensures.sound r.0 (lists_of c.in_ok-rounds.rounds.items) r.1 r.2,
+      none-open g.K.Kind.kind g.row.DIM c.args.links.now.rows c.see_sound.ensures.sound r.0 c.in_ok-rounds.rounds r.1 r.2,
       none-lacks g.K.Kind.kind c.args.links.now.rows (placed c.args.places.now) c.in_ok-vertices.vertices.least.items c.in_ok-points.points.items named
           (subst (λ vertices. AllZip (λ d point. placed c.args.places.now d ≡ Some point) vertices c.in_ok-points.points.items) c.deref.ensures.value c.in_ok-points.ensures.points),
-      some-thin g.K.Kind.kind g.row.DIM c.args.links.now.rows c.see_sound.ensures.sound r.0 (lists_of c.in_ok-rounds.rounds.items) thin.1.0 r.1 r.2
-          (subst (λ (rounds : List (Vec ℕ Global)). Contains (lists_of rounds) thin.1.0) c.deref-2.ensures.value thin.1.1) thin.1.2,
+      some-thin g.K.Kind.kind g.row.DIM c.args.links.now.rows c.see_sound.ensures.sound r.0 c.in_ok-rounds.rounds thin.1.0 r.1 r.2
+          thin.1.1 thin.1.2,
     )))
 
 pub place_cells-requires-clause-few : goal.place_cells-requires-clause-few
@@ -55,10 +53,9 @@ place_cells-requires-clause-made g c =
 pub faces_of-requires : goal.faces_of-requires
 faces_of-requires g c =
     let r = c.in_ok-rounds.ensures.rounds in
-    let long : length c.deref-4.result.now ≡ length c.in_ok-places_of_darts.places_of_darts.items = ap length c.deref-4.ensures.value in
-    subst (λ (rounds : List (Vec ℕ Global)). All (All (λ d. d < length c.deref-4.result.now)) (lists_of rounds)) (sym c.deref-3.ensures.value)
-    (rounds-made g.K.Kind.kind g.row.DIM c.args.links.now.rows c.see_sound.ensures.sound (length c.deref-4.result.now) r.0 (lists_of c.in_ok-rounds.rounds.items)
-    (omega (arith, long, c.in_ok-places_of_darts.ensures.long, c.made.ensures.made)) r.1 r.2)
+    let long : length c.deref-2.result.now ≡ length c.in_ok-places_of_darts.places_of_darts.items = ap length c.deref-2.ensures.value in
+    rounds-made g.K.Kind.kind g.row.DIM c.args.links.now.rows c.see_sound.ensures.sound (length c.deref-2.result.now) r.0 c.in_ok-rounds.rounds
+    (omega (arith, long, c.in_ok-places_of_darts.ensures.long, c.made.ensures.made)) r.1 r.2
 
 pub returns-clause-rows : goal.returns-clause-rows
 returns-clause-rows g c =
@@ -67,21 +64,21 @@ returns-clause-rows g c =
     let edged : ListsCells g.K.Kind.kind c.args.links.now.rows 1 c.in_ok-cells.field-0.items = record { members = c.in_ok-cells.ensures.members; ascending = c.in_ok-cells.ensures.ascending } in
     off-rows g.K.Kind.kind g.row.DIM c.args.links.now.rows c.see_sound.ensures.sound (placed c.args.places.now)
     (off_view (record { points = c.in_ok-points.points; faces = c.in_ok-faces_of.field-0; edges = c.len.result }))
-    c.in_ok-vertices.vertices.least.items r.0 c.in_ok-cells.field-0.items (lists_of c.in_ok-rounds.rounds.items) c.in_ok-vertices.vertices.darts c.in_ok-places_of_darts.places_of_darts.items
+    c.in_ok-vertices.vertices.least.items r.0 c.in_ok-cells.field-0.items c.in_ok-rounds.rounds c.in_ok-vertices.vertices.darts c.in_ok-places_of_darts.places_of_darts.items
     named c.in_ok-vertices.ensures.darts
     c.in_ok-places_of_darts.ensures.placed
     (subst (λ vertices. AllZip (λ d point. placed c.args.places.now d ≡ Some point) vertices c.in_ok-points.points.items) c.deref.ensures.value c.in_ok-points.ensures.points)
     r.1 r.2
-    (c.in_ok-faces_of.ensures ∙ ap₂ (λ (places : List ℕ) (rounds : List (Vec ℕ Global)). map (map (slice_index places)) (lists_of rounds)) c.deref-4.ensures.value c.deref-3.ensures.value)
+    (c.in_ok-faces_of.ensures ∙ ap (λ (places : List ℕ). map (map (slice_index places)) c.in_ok-rounds.rounds) c.deref-2.ensures.value)
     edged (omega (arith, c.len.ensures, c.in_ok-cells.field-0.ok.0))
 
 pub returns-clause-answered : goal.returns-clause-answered
 returns-clause-answered g c =
     let r = c.in_ok-rounds.ensures.rounds in
     let named : ListsCells g.K.Kind.kind c.args.links.now.rows 0 c.in_ok-vertices.vertices.least.items = record { members = c.in_ok-vertices.ensures.members; ascending = c.in_ok-vertices.ensures.ascending } in (
-      none-open g.K.Kind.kind g.row.DIM c.args.links.now.rows c.see_sound.ensures.sound r.0 (lists_of c.in_ok-rounds.rounds.items) r.1 r.2,
+      none-open g.K.Kind.kind g.row.DIM c.args.links.now.rows c.see_sound.ensures.sound r.0 c.in_ok-rounds.rounds r.1 r.2,
       none-lacks g.K.Kind.kind c.args.links.now.rows (placed c.args.places.now) c.in_ok-vertices.vertices.least.items c.in_ok-points.points.items named
           (subst (λ vertices. AllZip (λ d point. placed c.args.places.now d ≡ Some point) vertices c.in_ok-points.points.items) c.deref.ensures.value c.in_ok-points.ensures.points),
-      none-thin g.K.Kind.kind g.row.DIM c.args.links.now.rows c.see_sound.ensures.sound r.0 (lists_of c.in_ok-rounds.rounds.items) r.1 r.2
-          (subst (λ (rounds : List (Vec ℕ Global)). All (λ round. 3 ≤ length round) (lists_of rounds)) c.deref-2.ensures.value c.in_ok-refuse_thin.ensures.thick),
+      none-thin g.K.Kind.kind g.row.DIM c.args.links.now.rows c.see_sound.ensures.sound r.0 c.in_ok-rounds.rounds r.1 r.2
+          c.in_ok-refuse_thin.ensures.thick,
     )

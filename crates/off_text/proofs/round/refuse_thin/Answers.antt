@@ -1,17 +1,15 @@
-use Rattle.std.proofs.Common.{◌≤◌, All, length, vec_len, subst, arith}
+use Rattle.std.proofs.Common.{ℕ, List, [], ◌≤◌, ◌<◌, All, length, subst, arith}
 use Rattle.std.proofs.lemmas.List.{take_all}
 use Rattle.std.proofs.lemmas.List.Elements.{All-more}
-use Rattle.off_text.proofs.RoundLists.{all-lists, all-long}
 use Rattle.off_text.proofs.round.refuse_thin.Goals as goal
 
-pub loop-round-preserved : goal.loop-round-preserved
-loop-round-preserved c =
-    let long : 3 ≤ vec_len c.round-item.result = omega (arith, c.len.ensures, c.if-len-lt3.false) in
-    All-more (λ round. 3 ≤ vec_len round) c.args.rounds.now c.loop-round.round-index c.round-item.result c.loop-round-test.true c.loop-round.invariant
-    (subst (λ round. 3 ≤ vec_len round) c.round-item.is long)
+pub loop-place-preserved : goal.loop-place-preserved
+loop-place-preserved c =
+    let low : c.loop-place.place < length c.args.rounds.now = omega (arith, c.len-place-end.ensures, c.loop-place-test.true) in
+    let long : 3 ≤ length c.list.result.now = omega (arith, c.if-list-lt3.false) in
+    All-more (λ (round : List ℕ). 3 ≤ length round) c.args.rounds.now c.loop-place.place [] low c.loop-place.invariant
+    (subst (λ (round : List ℕ). 3 ≤ length round) c.list.ensures long)
 
 pub returns-clause-thick : goal.returns-clause-thick
 returns-clause-thick c =
-    all-lists (λ round. 3 ≤ length round) c.args.rounds.now
-    (all-long 3 c.args.rounds.now
-    (subst (All (λ round. 3 ≤ vec_len round)) (take_all c.loop-round.round-index c.args.rounds.now c.loop-round-test.false) c.loop-round.invariant))
+    subst (All (λ (round : List ℕ). 3 ≤ length round)) (take_all c.loop-place.place c.args.rounds.now (omega (arith, c.len-place-end.ensures, c.loop-place-test.false))) c.loop-place.invariant
