@@ -173,7 +173,7 @@ fn entries_behind(
     }
 }
 
-/// So many entries up to `made`, which are all words that are left. Room is made for so many at once, which are five at most.
+/// So many entries up to `made`, which are all words that are left.
 fn read_entries(
     alloc: Global,
     made: u32,
@@ -182,7 +182,7 @@ fn read_entries(
 ) -> Result<Option<Vec<u32>>, AllocError>
     ensures { IfOk result (λ links. option_map items_of links ≡ entries made count (words_left words.entry)) }
 {
-    let mut links = Vec::with_capacity(alloc, count as usize)?;
+    let mut links = Vec::new(alloc);
     let mut left = words;
     for _ in 0..count {
         match take_entry(made, left) {
