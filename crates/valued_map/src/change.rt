@@ -178,15 +178,11 @@ impl<K: Kind, const DIM: usize> ValuedMap<K, DIM> {
         };
         let made = self.links.made();
         let draft = begin_step(alloc, made, &edit, asked)?;
-        let olds = old_values(
-            alloc,
-            &self.labels,
-            &self.pool,
-            made,
-            &edit.deaths,
-            &[],
-            asked,
-        )?;
+        let olds = if asked {
+            old_values(alloc, &self.labels, &self.pool, made, &edit.deaths, &[])?
+        } else {
+            Vec::new(alloc)
+        };
         self.links.apply(&edit);
         end_ids(&mut self.labels, &mut self.pool, &edit.deaths);
         let values = new_values(&self.labels, &self.pool, olds);
@@ -252,7 +248,7 @@ fn moved<K: Kind, H: Hook, const DIM: usize>(
         return Ok((groups, Vec::new(alloc)));
     }
     let older = links.made() - edit.births;
-    let renewed = renewed(alloc, edit, older, asked)?;
-    let olds = old_values(alloc, labels, pool, older, &renewed, &groups, asked)?;
+    let renewed = renewed(alloc, edit, older)?;
+    let olds = old_values(alloc, labels, pool, older, &renewed, &groups)?;
     Ok((groups, olds))
 }

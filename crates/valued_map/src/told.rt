@@ -1,5 +1,5 @@
-//! What a change is told as. Where it is not asked for, nothing is looked at, and no memory is taken.
-ghost use Rattle.std.specs.Prelude.{◌≡◌, ◌≢◌, ℕ, ◌+◌, ◌≤◌, ◌<◌, ◌⊎◌, ◌↔◌, ◌==◌, ◌++◌, [], ◌∷◌, if◌then◌else◌, map, length, IsTrue, Contains, AllPairs, IfOk, OnOk};
+//! What a change is told as, where it is asked for.
+ghost use Rattle.std.specs.Prelude.{◌≡◌, ◌≢◌, ℕ, ◌+◌, ◌≤◌, ◌<◌, ◌⊎◌, ◌↔◌, ◌==◌, ◌++◌, [], ◌∷◌, if◌then◌else◌, map, length, Contains, AllPairs, IfOk, OnOk};
 ghost use Rattle.std.specs.List.Sorted.{IsStrictlyIncreasing};
 ghost use Rattle.map_defs.specs.Rows.{links_of, IsLive};
 ghost use Rattle.map_defs.specs.Cells.{InCell};
@@ -116,20 +116,12 @@ fn changes_in_order(alloc: Global, changes: &[Change]) -> Result<Vec<Change>, Al
     Ok(kept)
 }
 
-/// The darts that an edit ends, and those that it bore after so many, if they are asked for.
-pub(crate) fn renewed(
-    alloc: Global,
-    edit: &Edit,
-    older: u32,
-    asked: bool,
-) -> Result<Vec<Dart>, AllocError>
+/// The darts that an edit ends, and those that it bore after so many.
+pub(crate) fn renewed(alloc: Global, edit: &Edit, older: u32) -> Result<Vec<Dart>, AllocError>
     requires { older + edit.now.births ≤ MADE_MAX }
-    ensures { IfOk result (λ darts. IsTrue asked → (d : ℕ) → Contains darts.items d
+    ensures { IfOk result (λ darts. (d : ℕ) → Contains darts.items d
         ↔ (Contains edit.now.deaths d ⊎ ((older < d) × (d < older + edit.now.births + 1)))) }
 {
-    if !asked {
-        return Ok(Vec::new(alloc));
-    }
     let mut darts = Vec::from_slice(alloc, &edit.deaths)?;
     for number in older + 1..older + edit.births + 1 {
         add_numbered(number, &mut darts)?;
@@ -159,16 +151,12 @@ pub(crate) fn old_values<const DIM: usize>(
     older: u32,
     renewed: &[Dart],
     groups: &[Group],
-    asked: bool,
 ) -> Result<Vec<ValueChange>, AllocError>
     requires high { DIM ≤ 8 }
     requires groups { (n : ℕ) → n < length groups.now → (group_at groups.now n).dim ≤ DIM }
-    ensures { IfOk result (λ values. IsTrue asked → (before : Labeling) → ((i d : ℕ) → IsBefore older before labels.now i d)
+    ensures { IfOk result (λ values. (before : Labeling) → ((i d : ℕ) → IsBefore older before labels.now i d)
         → AreOldValues (IsRelabelledPlace DIM renewed.now groups.now) before pool.now values.items) }
 {
-    if !asked {
-        return Ok(Vec::new(alloc));
-    }
     let mut values = Vec::new(alloc);
     for dim in 0..DIM + 1 {
         let darts = darts_in(alloc, dim, renewed, groups)?;
@@ -213,16 +201,12 @@ pub(crate) fn cell_values<K: Kind, const DIM: usize>(
     pool: &Pool,
     dim: usize,
     dart: Dart,
-    asked: bool,
 ) -> Result<Vec<ValueChange>, AllocError>
     requires dim { dim ≤ DIM }
     requires live { IsLive links.now.rows dart }
-    ensures { IfOk result (λ values. IsTrue asked
-        → AreOldValues (λ i d. (i ≡ dim) × InCell K.kind (links_of links.now.rows) dim dart d) labels.now pool.now values.items) }
+    ensures { IfOk result (λ values.
+        AreOldValues (λ i d. (i ≡ dim) × InCell K.kind (links_of links.now.rows) dim dart d) labels.now pool.now values.items) }
 {
-    if !asked {
-        return Ok(Vec::new(alloc));
-    }
     let mut values = Vec::new(alloc);
     let darts = cell(alloc, links, dim, dart)?;
     add_values(labels, pool, links.made(), dim, &darts, &mut values)?;

@@ -43,15 +43,7 @@ impl<K: Kind, const DIM: usize> ValuedMap<K, DIM> {
             return Ok(None);
         }
         let draft = begin_step(alloc, made, &no_edit(alloc), asked)?;
-        let olds = cell_values(
-            alloc,
-            &self.links,
-            &self.labels,
-            &self.pool,
-            dim,
-            dart,
-            asked,
-        )?;
+        let olds = cell_values(alloc, &self.links, &self.labels, &self.pool, dim, dart)?;
         self.put_value(alloc, dim, dart, value)?;
         let values = new_values(&self.labels, &self.pool, olds);
         Ok(finish_step(draft, values, Vec::new(alloc)))

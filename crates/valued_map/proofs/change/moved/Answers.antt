@@ -25,12 +25,12 @@ returns-clause-olds g c = λ some old led stored.
     let older : ℕ = c.made.result - c.edit.inside.births in
     let older-is : older ≡ made old = (omega (arith, c.made.ensures.made, births-is)) ∙ before-made k n e old c.args.links.now.rows led in
     let renewed : List ℕ = c.in_ok-renewed.renewed.items in
-    let members = subst (λ (o : ℕ). (d : ℕ) → Contains renewed d ↔ (Contains e.deaths d ⊎ ((o < d) × (d < o + e.births + 1)))) older-is (c.in_ok-renewed.ensures some) in
+    let members = subst (λ (o : ℕ). (d : ℕ) → Contains renewed d ↔ (Contains e.deaths d ⊎ ((o < d) × (d < o + e.births + 1)))) older-is c.in_ok-renewed.ensures in
     let all = rw (c.deref.ensures.value, c.deref-2.ensures.value) at c.in_ok-olds.ensures in
     let grafted = c.carried.ensures.grafted old led in
     olds-as (IsRelabelledPlace n renewed c.in_ok-groups.groups.items) (IsRevaluedPlace n (made old) e c.in_ok-groups.groups.items) c.args.labels.now c.carried.new.pool c.in_ok-olds.olds.items
     (renewed-places n (made old) e renewed c.in_ok-groups.groups.items members)
-    (all some c.args.labels.now (λ i d. (
+    (all c.args.labels.now (λ i d. (
       (λ low. (elim (grafted.each i d) [ inl same ↦ same | inr given ↦ absurd (let high : made old < d = given.1 in omega (arith, older-is)) ])),
       λ high. unlabelled k n old c.args.labels.now c.args.pool.now c.args.rules.now stored i d (subst (λ (o : ℕ). o < d) older-is high),
     )))

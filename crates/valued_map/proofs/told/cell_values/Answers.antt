@@ -6,7 +6,7 @@ use Rattle.valued_map.proofs.ListedValues.{cell-olds}
 use Rattle.valued_map.proofs.told.cell_values.Goals as goal
 
 pub returns : goal.returns
-returns g c = λ some.
+returns g c =
     let all = rw (c.in_ok-add_values.was, c.new-values.ensures.items, c.deref.ensures.value) at c.add_values.ensures in
     let added = all c.args.labels.now (λ d here. (
       (λ low. refl),

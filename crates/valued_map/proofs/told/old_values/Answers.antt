@@ -19,7 +19,7 @@ loop-dim-preserved g c = λ before same.
     (olds-more (IsPlaceIn renewed c.args.groups.now c.loop-dim.dim) before c.args.pool.now c.loop-dim.dim c.loop-dim.values.items darts (λ j x place. place.0) c.in_ok-darts.ensures.ascending (c.loop-dim.invariant before same)))
 
 pub returns : goal.returns
-returns g c = λ some before same.
+returns g c = λ before same.
     let n : ℕ = g.row.DIM in
     let whole : c.loop-dim.dim ≡ n + 1 = omega (arith, c.loop-dim-test.false) in
     olds-as (IsPlaceIn c.args.renewed.now c.args.groups.now (n + 1)) (IsRelabelledPlace n c.args.renewed.now c.args.groups.now) before c.args.pool.now c.loop-dim.values.items

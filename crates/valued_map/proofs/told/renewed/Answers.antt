@@ -43,7 +43,7 @@ loop-number-preserved c =
     )
 
 pub returns : goal.returns
-returns c = λ some.
+returns c =
     let births-is : c.edit.inside.births ≡ c.args.edit.now.births = ap (λ (e : Edit). e.births) c.edit.view_is in
     let whole : c.loop-number.number ≡ c.args.older + c.args.edit.now.births + 1 = omega (arith, c.loop-number-test.false, births-is) in
     subst (λ (m : ℕ). (d : ℕ) → Contains c.loop-number.darts.items d ↔ (Contains c.args.edit.now.deaths d ⊎ ((c.args.older < d) × (d < m)))) whole c.loop-number.invariant.1

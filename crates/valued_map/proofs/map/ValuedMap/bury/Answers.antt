@@ -1,4 +1,5 @@
 use Rattle.std.proofs.Common.{refl, ℕ, ◌+◌, ◌≤◌, arith, List, [], ◌∷◌, IsTrue, ap, sym, subst, ◌∙◌}
+use Rattle.std.proofs.lemmas.Bool.{false≢true}
 use Rattle.map_defs.specs.Rows.{Rows, IsLive, made, made_max, live_count}
 use Rattle.map_defs.specs.Edits.{Edit, IsLed}
 use Rattle.machine_defs.specs.Difference.{ValueChange}
@@ -11,6 +12,7 @@ use Rattle.valued_map.proofs.Edited.{end-step}
 use Rattle.valued_map.proofs.Places.{places-after, room-after}
 use Rattle.valued_map.proofs.Joining.{unlabelled}
 use Rattle.valued_map.proofs.map.ValuedMap.bury.Goals as goal
+use Rattle.valued_map.proofs.map.ValuedMap.bury.Goals.{then-asked+in_ok-olds, else-asked}
 
 pub invariant_of-self : goal.invariant_of-self
 invariant_of-self g c =
@@ -47,14 +49,18 @@ returns-clause-step g c =
     let alone = rw (← c.self.view_is) at c.requires.alone in
     let taken = rw (c.deref-2.ensures.value, c.in_ok-vec.ensures.items) at c.end_ids.ensures in
     let begun : IsBegun c.args.asked (made rows) (death_edit c.args.dart) c.in_ok-draft.draft = rw (c.made-made.ensures.made, c.in_ok-vec.ensures.items, c.new.ensures.items) at c.in_ok-draft.ensures in
-    let old : IsTrue c.args.asked → AreOldValues (IsRelabelledPlace n (c.args.dart ∷ []) []) c.self.inside.labels c.self.inside.pool c.in_ok-olds.olds.items =
-    λ some. (let all = rw (c.deref.ensures.value, c.in_ok-vec.ensures.items) at c.in_ok-olds.ensures in
-    all some c.self.inside.labels (λ i d. ((λ low. refl), λ high. unlabelled k n rows c.self.inside.labels c.self.inside.pool c.self.inside.rules c.self.invariant i d (omega (arith, c.made-made.ensures.made))))) in
+    let old : IsTrue c.args.asked → AreOldValues (IsRelabelledPlace n (c.args.dart ∷ []) []) c.self.inside.labels c.self.inside.pool c.if-asked.olds.items =
+    λ some. (elim c.if-asked.branch [
+      | then-asked+in_ok-olds w ↦
+          let all = rw (w.deref.ensures.value, c.in_ok-vec.ensures.items) at w.in_ok-olds.ensures in
+          rw w.olds-is (all c.self.inside.labels (λ i d. ((λ low. refl), λ high. unlabelled k n rows c.self.inside.labels c.self.inside.pool c.self.inside.rules c.self.invariant i d (omega (arith, c.made-made.ensures.made)))))
+      | else-asked w ↦ absurd (false≢true (subst IsTrue w.if-asked.false some))
+    ]) in
     let values : List ValueChange = c.new_values-values.result.items in
     rw (← c.self.view_is, c.finish_step.ensures, c.new-2.ensures.items)
     (subst (λ (r : Rows). IsStep c.args.asked (content_of k n rows c.self.inside.labels c.self.inside.pool c.self.inside.rules) (content_of k n r c.end_ids.new.labels c.end_ids.new.pool c.self.inside.rules) (finished c.in_ok-draft.draft values [])) (sym is)
     (end-step k n rows c.args.dart c.self.inside.labels c.end_ids.new.labels c.self.inside.pool c.end_ids.new.pool c.self.inside.rules c.self.invariant live alone taken
-    c.args.asked c.in_ok-draft.draft begun c.in_ok-olds.olds.items values old c.new_values-values.ensures))
+    c.args.asked c.in_ok-draft.draft begun c.if-asked.olds.items values old c.new_values-values.ensures))
 
 pub returns-clause-places_stay : goal.returns-clause-places_stay
 returns-clause-places_stay g c =

@@ -31,4 +31,4 @@ returns-clause-step g c =
     c.args.dim c.args.dart c.args.value valued c.self.inside.labels c.self-2.inside.labels c.self.inside.pool c.self-2.inside.pool
     (value-shown k n rows c.self.inside.labels c.self.inside.pool c.self.inside.rules c.self.invariant)
     (value-shown k n c.self-2.inside.links.rows c.self-2.inside.labels c.self-2.inside.pool c.self-2.inside.rules c.self-2.invariant)
-    c.args.asked c.in_ok-draft.draft begun c.in_ok-olds.olds.items values c.in_ok-olds.ensures c.new_values-values.ensures)
+    c.args.asked c.in_ok-draft.draft begun c.in_ok-olds.olds.items values (λ some. c.in_ok-olds.ensures) c.new_values-values.ensures)
