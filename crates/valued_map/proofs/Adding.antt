@@ -1,8 +1,7 @@
 -- Darts that are added to those that an edit touched.
-use Rattle.std.proofs.Common.{ℕ, zero, suc, ◌≡◌, ◌⊎◌, ◌+◌, ◌<◌, inl, inr, refl, sym, ap, subst, ◌∙◌, List, [], ◌∷◌, ◌++◌, length, get_or, Option, Some, None, IsSome, Contains, arith}
+use Rattle.std.proofs.Common.{ℕ, zero, suc, ◌≡◌, ◌⊎◌, ◌+◌, ◌<◌, inl, inr, refl, sym, ap, subst, ◌∙◌, List, [], ◌∷◌, length, get_or, Option, Some, None, IsSome, arith}
 use Rattle.std.proofs.lemmas.Bool.{false≢true, cases_eq}
 use Rattle.std.proofs.lemmas.List.{get_or_default}
-use Rattle.std.proofs.lemmas.List.Elements.{Contains-append_left, Contains-push, Contains-push_cases}
 use Rattle.map_defs.specs.Kind.{Kind}
 use Rattle.map_defs.specs.Rows.{Rows, IsLive, links_of, row_at}
 use Rattle.map_defs.specs.Edits.{Change, Edit, IsLed, after_edit, with_changes, with_births, buried}
@@ -14,13 +13,6 @@ use Rattle.valued_map.specs.Changing.{AreAdded}
 
 pub added-none : (rows : Rows) (Wanted : ℕ → Type 0) (xs : List ℕ) → ((x : ℕ) → Wanted x → IsLive rows x → ⊥) → AreAdded rows Wanted xs xs
 added-none rows Wanted xs none = record { kept = λ x h. h; live = λ x h. inl h; all = λ x w h. absurd (none x w h) }
-
-pub added-one : (rows : Rows) (d : ℕ) (xs : List ℕ) → IsLive rows d → AreAdded rows (λ x. x ≡ d) xs (xs ++ d ∷ [])
-added-one rows d xs live = record {
-  kept = λ x h. Contains-append_left xs (d ∷ []) x h;
-  live = λ x h. (elim (Contains-push_cases xs d x h) [ inl before ↦ inl before | inr e ↦ inr (subst (IsLive rows) e live) ]);
-  all = λ x e h. subst (Contains (xs ++ d ∷ [])) (sym e) (Contains-push xs d);
-}
 
 pub added-then : (rows : Rows) (Wanted Other : ℕ → Type 0) (xs ys zs : List ℕ) → AreAdded rows Wanted xs ys → AreAdded rows Other ys zs → AreAdded rows (λ x. Wanted x ⊎ Other x) xs zs
 added-then rows Wanted Other xs ys zs a b = record {

@@ -1,6 +1,5 @@
 -- Darts that were born and joined cells by their ids, and the cells that the darts spare which an edit changed.
 use Rattle.std.proofs.Common.{ℕ, ◌≡◌, ◌≢◌, ◌⊎◌, ◌+◌, ◌-◌, ◌<◌, ◌≤◌, List, Contains, IsSome, Option, Some, None, inl, inr, refl, sym, ap, subst, ◌∙◌, arith}
-use Rattle.std.specs.Prelude.{IfSome}
 use Rattle.std.proofs.lemmas.Bool.{cases_eq, cases_lt}
 use Rattle.map_defs.specs.Kind.{Kind}
 use Rattle.map_defs.specs.LinkWords.{LinkWord, through, through_second, IsWithin}
@@ -37,10 +36,6 @@ leading-within k n rows sound w x leads =
     stops : (s : Option ℕ) → through_second nowhere s 0 ≡ 0
     stops None = refl
     stops (Some j) = refl
-
-pub if-some : (o : Option ℕ) (P : ℕ → Type 0) → ((id : ℕ) → o ≡ Some id → P id) → IfSome o P
-if-some None P all = tt
-if-some (Some id) P all = all id refl
 
 -- a dart more was given an id, or not, and was looked at
 pub born-more : (k : Kind) (i : ℕ) (rows : Rows) (older : ℕ) (l m : Labeling) (number : ℕ) → ((j d : ℕ) → d ≢ number → id_of m j d ≡ id_of l j d) → (xs ys zs : List ℕ)

@@ -1,5 +1,5 @@
 -- Groups with the values that cells had, one dimension after another.
-use Rattle.std.proofs.Common.{ℕ, ◌≡◌, ◌⊎◌, ◌↔◌, ◌+◌, ◌-◌, ◌<◌, inl, inr, sym, ap, subst, ◌∙◌, List, [], ◌++◌, length, Option, None, IsSome, Contains, slice_index, arith}
+use Rattle.std.proofs.Common.{ℕ, ◌≡◌, ◌⊎◌, ◌↔◌, ◌+◌, ◌-◌, ◌<◌, inl, inr, sym, ap, subst, ◌∙◌, List, ◌++◌, length, Option, None, IsSome, Contains, slice_index, arith}
 use Rattle.std.specs.List.Sorted.{IsStrictlyIncreasing}
 use Rattle.std.proofs.lemmas.Bool.{cases_lt, cases_eq, false≢true}
 use Rattle.std.proofs.lemmas.List.{get_or_append_left, get_or-append-add, get_or_default, get_or_past, length-append}
@@ -31,15 +31,6 @@ restored-as k rows Dims Others Wanted Asked value other groups dims wanted value
   });
   all = λ i d dim asked live. r.all i d ((dims i).1 dim) (wanted i d asked live) live;
   ascending = r.ascending;
-}
-
--- no groups where there is no such dimension
-pub restored-none : (k : Kind) (rows : Rows) (Dims : ℕ → Type 0) (Wanted : ℕ → ℕ → Type 0) (value : ℕ → ℕ → Option Value) → ((i : ℕ) → Dims i → ⊥)
-    → AreRestored k (links_of rows) (IsLive rows) Dims Wanted value []
-restored-none k rows Dims Wanted value none = record {
-  cells = λ n lt. absurd (omega arith);
-  all = λ i d dim wanted live. absurd (none i dim);
-  ascending = λ m n lt below. absurd (omega arith);
 }
 
 module _ (k : Kind) (rows : Rows) (laws : Laws k (links_of rows)) (dim : ℕ) (Dims : ℕ → Type 0) (Wanted : ℕ → ℕ → Type 0) (value : ℕ → ℕ → Option Value) (darts : List ℕ)
