@@ -1,5 +1,5 @@
 //! The dual of a map, in which the values and rules go with their cells.
-ghost use Rattle.std.specs.Prelude.{◌≡◌, ◌+◌, ◌-◌, ◌≤◌, ◌<◌, ◌↔◌, [], false, None, length, reverse, IfOk, IfErr, OnOk, OnErr, IsErrOf, IsTrue};
+ghost use Rattle.std.specs.Prelude.{◌≡◌, ◌+◌, ◌-◌, ◌≤◌, ◌<◌, [], length, reverse, IfOk, OnOk, OnErr, IsTrue};
 ghost use Rattle.map_defs.specs.Rows.{IsLive, links_of, made, live_count};
 ghost use Rattle.map_defs.specs.Laws.{Laws};
 ghost use Rattle.map_defs.specs.Edits.{Fits, after_edit};
