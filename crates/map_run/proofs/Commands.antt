@@ -85,10 +85,3 @@ soak_unseeded soak kind seed count differ = no_soak soak kind seed count (λ k f
 
 pub soak_uncounted : (soak kind seed count : List ℕ) → ((n : ℕ) → 1 ≤ n → n ≤ 100000 → count ≡ decimal n → ⊥) → IsNoCommand (soak ∷ kind ∷ seed ∷ count ∷ [])
 soak_uncounted soak kind seed count differ = no_soak soak kind seed count (λ k from squares low some few e. differ squares some few (cc))
-
--- no other number of words is a command
-pub not_counted : (words : List (List ℕ)) → length words ≢ 5 → length words ≢ 2 → length words ≢ 4 → IsNoCommand words
-not_counted words five two four (RunScript k n name file) t = five (ap length t.1)
-not_counted words five two four (Audit listing) t = two (ap length t.1)
-not_counted words five two four (Half listing) t = two (ap length t.1)
-not_counted words five two four (Soak k seed count) t = four (ap length t.1)

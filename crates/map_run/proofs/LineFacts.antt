@@ -1,5 +1,5 @@
 -- What a line answers, from what its reply is.
-use Rattle.std.proofs.Common.{◌≡◌, ◌≢◌, ℕ, List, [], ◌∷◌, Option, Some, None, Result, Ok, Err, Bool, true, false, ◌||◌, refl, sym, ◌∙◌, subst, inl, inr, OnOk, IfOk, IfErr}
+use Rattle.std.proofs.Common.{◌≡◌, ◌≢◌, ℕ, List, [], ◌∷◌, Option, Some, None, Result, Ok, Err, Bool, true, false, ◌||◌, refl, sym, ◌∙◌, subst, inl, inr, IfOk, IfErr}
 use Rattle.std.proofs.lemmas.List.{append-nil}
 use Rattle.map_io.specs.declared.sink.PutFault.{PutFault}
 use Rattle.map_io.specs.declared.sink.PutFault.TheVariants.{Failed, NoMemory}
@@ -11,7 +11,6 @@ use Rattle.machine_defs.specs.Text.{Reply, Refused, reply_text, replies_text, is
 use Rattle.map_defs.specs.Refusal.{Syntax}
 use Rattle.machine_defs.specs.Machine.{Step, Obeys, blank, obeyed, unread}
 use Rattle.std.specs.declared.alloc.AllocError.{AllocError}
-use Rattle.text_lines.specs.Writing.{WritesText, IsWritten}
 use Rattle.map_core.specs.Calls.{Does}
 use Rattle.map_kind.specs.declared.done.Done.{Done}
 use Rattle.map_kind.specs.declared.refusal.Refused as rust
@@ -21,23 +20,6 @@ use Rattle.machine_defs.specs.Text as text
 use Rattle.script_text.specs.Meanings.{IsSyntax}
 use Rattle.map_run.specs.Writing.{IsSaid, Says, SaysRefused, SaysMade, IsAnswered, AnswersLine}
 use Rattle.text_lines.proofs.WritingFacts.{Appended-nothing}
-
--- a reply that was written, or cut short, and is told to be a refusal or not
-said-is : (reply : Reply) (written : Result (Unit {0}) PutFault) (result : Result Bool PutFault) (refused : Bool) (piece : List ℕ)
-    → refused ≡ is_refused reply → OnOk written (result ≡ Ok refused) → IfErr written (λ (fault : PutFault). result ≡ Err fault)
-    → IsWritten (reply_text reply) written piece → IsSaid reply result piece
-said-is reply (Ok done) result refused piece same ok err p = rw ok (p.1, same)
-said-is reply (Err Failed) result refused piece same ok err p = rw err p
-said-is reply (Err NoMemory) result refused piece same ok err p = rw err p
-
-pub Says-from : (before after : Option (List ℕ)) (reply : Reply) (written : Result (Unit {0}) PutFault) (result : Result Bool PutFault) (refused : Bool)
-    → refused ≡ is_refused reply → OnOk written (result ≡ Ok refused) → IfErr written (λ (fault : PutFault). result ≡ Err fault)
-    → WritesText before after written (reply_text reply) → Says before after reply result
-Says-from before after reply written result refused same ok err w = record {
-  piece = w.piece;
-  appended = w.appended;
-  is = said-is reply written result refused w.piece same ok err w.is;
-}
 
 one-reply : (reply : Reply) → reply_text reply ≡ replies_text (reply ∷ [])
 one-reply reply = sym (append-nil (reply_text reply))

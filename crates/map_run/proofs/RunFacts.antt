@@ -21,7 +21,7 @@ use Rattle.machine_defs.specs.Machine.{Obeys, Run}
 use Rattle.machine_defs.specs.Program.{EndsLine, Begins, run_status}
 use Rattle.map_run.specs.Writing.{IsAnswered, AnswersLine, IsFrontOfLine}
 use Rattle.map_run.specs.Going.{IsGoing, IsObeyed, ObeysScript}
-use Rattle.text_lines.proofs.WritingFacts.{Appended-nothing, Appended-then, EndsLine-then, IsFront-all, IsFront-then}
+use Rattle.text_lines.proofs.WritingFacts.{Appended-then, EndsLine-then, IsFront-all, IsFront-then}
 
 -- every reply ends with a line
 done_ends : (b : Bool) (text : List ℕ) → EndsLine (cond b (ended (codes "ok")) (ended text))
@@ -91,9 +91,6 @@ any-append (reply ∷ replies) here =
 
 text-append : (replies here : List Reply) → replies_text (replies ++ here) ≡ replies_text replies ++ replies_text here
 text-append replies here = flat_map-append reply_text replies here
-
-pub Going-start : (hook : Hook) (s : State) (o : Option (List ℕ)) → IsGoing hook s s [] false o o
-Going-start hook s o = record { replies = []; run = (refl, refl); any = refl; appended = Appended-nothing o }
 
 pub Going-more : (hook : Hook) (start mid new : State) (done : List (List ℕ)) (line : List ℕ) (refused here : Bool) (before middle after : Option (List ℕ))
     → IsGoing hook start mid done refused before middle → AnswersLine hook middle after mid new (words_of line) (Ok here)
