@@ -1,5 +1,5 @@
 //! A script, obeyed from the map of a mesh or from the empty map.
-ghost use Rattle.std.specs.Prelude.{◌≡◌, ℕ, ◌≤◌, ◌||◌, List, Some, IfOk, IfErr, IsErrOf};
+ghost use Rattle.std.specs.Prelude.{◌≡◌, ℕ, ◌≤◌, List, Some, IfOk, IfErr, IsErrOf};
 ghost use Rattle.machine_defs.specs.Outside.{Rose};
 ghost use Rattle.map_io.specs.Cause.{HasCause};
 ghost use Rattle.map_run.specs.Going.{ObeysScript};
@@ -129,19 +129,11 @@ fn obey_script<K: Edits<DIM>, H: Hook, const DIM: usize, S: Sink>(
     let mut rest = Some(script);
     while let Some(text) = rest {
         let (line, after) = script::next_line(text);
-        refused = either(
-            machine::obey_line(alloc, line, &mut map, &mut reply, out)?,
-            refused,
-        );
+        let line_refused = machine::obey_line(alloc, line, &mut map, &mut reply, out)?;
+        refused = refused || line_refused;
         rest = after;
     }
     Ok(refused)
-}
-
-fn either(one: bool, other: bool) -> bool
-    ensures { result ≡ (other || one) }
-{
-    other || one
 }
 
 /// The status of a script that was obeyed, or cut short.
