@@ -71,22 +71,22 @@ pub fn truth<'a>(answer: Result<bool, Refused>) -> Result<Answer<'a>, AllocError
 }
 
 /// What is said of a question of yes or no that takes no memory.
-pub fn told<'a>(answer: Result<bool, Refusal>) -> Result<Answer<'a>, AllocError>
-    ensures { (hook : Hook) (s : State) (line : MapLine) → AnswersAtOnce hook s line Truth answer → IfOk result (λ said. Step hook s line (answer_meaning said) s) }
+pub fn told<'a>(answer: Result<bool, Refusal>) -> Answer<'a>
+    ensures { (hook : Hook) (s : State) (line : MapLine) → AnswersAtOnce hook s line Truth answer → Step hook s line (answer_meaning result) s }
 {
     match answer {
-        Ok(answer) => Ok(Answer::Line(Reply::Truth(answer))),
-        Err(refusal) => Ok(Answer::Line(Reply::No(refusal))),
+        Ok(answer) => Answer::Line(Reply::Truth(answer)),
+        Err(refusal) => Answer::Line(Reply::No(refusal)),
     }
 }
 
 /// What is said of the value of a cell.
-pub fn cell_value<'a>(value: Result<Option<Value>, Refusal>) -> Result<Answer<'a>, AllocError>
-    ensures { (hook : Hook) (s : State) (line : MapLine) → AnswersAtOnce hook s line CellValue value → IfOk result (λ said. Step hook s line (answer_meaning said) s) }
+pub fn cell_value<'a>(value: Result<Option<Value>, Refusal>) -> Answer<'a>
+    ensures { (hook : Hook) (s : State) (line : MapLine) → AnswersAtOnce hook s line CellValue value → Step hook s line (answer_meaning result) s }
 {
     match value {
-        Ok(value) => Ok(Answer::Line(Reply::Value(value))),
-        Err(refusal) => Ok(Answer::Line(Reply::No(refusal))),
+        Ok(value) => Answer::Line(Reply::Value(value)),
+        Err(refusal) => Answer::Line(Reply::No(refusal)),
     }
 }
 
@@ -120,11 +120,11 @@ pub fn meshed<'a>(rows: Result<OffRows, Refused>) -> Result<Answer<'a>, AllocErr
 }
 
 /// What is said of a log: the steps, as the map lends them.
-pub fn logged(steps: Result<&[Changed], Refusal>) -> Result<Answer<'_>, AllocError>
-    ensures { (hook : Hook) (s : State) (line : MapLine) → AnswersAtOnce hook s line (λ found. Logged found.now) steps.entry → IfOk result (λ said. Step hook s line (answer_meaning said) s) }
+pub fn logged(steps: Result<&[Changed], Refusal>) -> Answer<'_>
+    ensures { (hook : Hook) (s : State) (line : MapLine) → AnswersAtOnce hook s line (λ found. Logged found.now) steps.entry → Step hook s line (answer_meaning result) s }
 {
     match steps {
-        Ok(steps) => Ok(Answer::Log(steps)),
-        Err(refusal) => Ok(Answer::Line(Reply::No(refusal))),
+        Ok(steps) => Answer::Log(steps),
+        Err(refusal) => Answer::Line(Reply::No(refusal)),
     }
 }

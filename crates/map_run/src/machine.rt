@@ -165,11 +165,11 @@ fn ask<'a, K: Edits<DIM>, H: Hook, const DIM: usize>(
     ensures { IfOk result (λ answer. Step (H.hook map.now.hook) map.now.state (question_meaning line.now) (answer_meaning answer) map.now.state) }
 {
     match line {
-        Question::Log(name) => logged(map.log(name.as_str())),
+        Question::Log(name) => Ok(logged(map.log(name.as_str()))),
         Question::Cell(dim, dart) => darts(map.cell(alloc, *dim, *dart)),
         Question::Same(dim, one, other) => truth(map.same(alloc, *dim, *one, *other)),
-        Question::Free(link, dart) => told(map.free(*link, *dart)),
-        Question::Value(dim, dart) => cell_value(map.value(*dim, *dart)),
+        Question::Free(link, dart) => Ok(told(map.free(*link, *dart))),
+        Question::Value(dim, dart) => Ok(cell_value(map.value(*dim, *dart))),
         Question::Removable(dim, dart) => truth(map.removable(alloc, *dim, *dart)),
         Question::Contractible(dim, dart) => truth(map.contractible(alloc, *dim, *dart)),
         Question::Sewable(link, one, other) => truth(map.sewable(alloc, *link, *one, *other)),
