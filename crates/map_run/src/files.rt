@@ -33,14 +33,9 @@ pub fn fetch_texts<F: Shelf>(
     ensures fetched { (files : Files) → F.holds shelf.old ≡ Some files → AreFetched files command.entry result }
     ensures cause { HasCause (F.faults shelf.old) (F.faults shelf.new) (IsErrOf result FetchFault.Failed) }
 {
-    let mesh = match fetch_mesh(alloc, command.mesh, shelf) {
-        Ok(mesh) => mesh,
-        Err(fault) => return Err(fault),
-    };
-    match shelf.fetch(alloc, command.script, FILE_LIMIT) {
-        Ok(script) => Ok(Texts { mesh, script }),
-        Err(fault) => Err(fault),
-    }
+    let mesh = fetch_mesh(alloc, command.mesh, shelf)?;
+    let script = shelf.fetch(alloc, command.script, FILE_LIMIT)?;
+    Ok(Texts { mesh, script })
 }
 
 /// Fetches a mesh, if one is named.
@@ -57,9 +52,6 @@ fn fetch_mesh<F: Shelf>(
 {
     match name {
         None => Ok(None),
-        Some(name) => match shelf.fetch(alloc, name, FILE_LIMIT) {
-            Ok(bytes) => Ok(Some(bytes)),
-            Err(fault) => Err(fault),
-        },
+        Some(name) => Ok(Some(shelf.fetch(alloc, name, FILE_LIMIT)?)),
     }
 }

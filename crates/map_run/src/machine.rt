@@ -58,10 +58,8 @@ fn say_done<S: Sink>(text: &mut Vec<u8>, out: &mut S, done: Done) -> Result<bool
     ensures said { Says (S.written out.old) (S.written out.new) (reply_meaning (Reply.Done done)) result }
     ensures cause { HasCause (S.faults out.old) (S.faults out.new) (IsErrOf result PutFault.Failed) }
 {
-    match Reply::Done(done).put_over(text, out) {
-        Ok(()) => Ok(false),
-        Err(fault) => Err(fault),
-    }
+    Reply::Done(done).put_over(text, out)?;
+    Ok(false)
 }
 
 /// Writes why a line was refused; where memory was wanting there is no reply.
@@ -80,10 +78,8 @@ fn say_refusal<S: Sink>(text: &mut Vec<u8>, out: &mut S, refusal: Refusal) -> Re
     ensures said { Says (S.written out.old) (S.written out.new) (reply_meaning (Reply.No refusal)) result }
     ensures cause { HasCause (S.faults out.old) (S.faults out.new) (IsErrOf result PutFault.Failed) }
 {
-    match Reply::No(refusal).put_over(text, out) {
-        Ok(()) => Ok(true),
-        Err(fault) => Err(fault),
-    }
+    Reply::No(refusal).put_over(text, out)?;
+    Ok(true)
 }
 
 /// Answers a line that asks, and tells whether it was refused.
@@ -113,10 +109,10 @@ fn say<S: Sink>(
     ensures cause { HasCause (S.faults out.old) (S.faults out.new) (IsErrOf result PutFault.Failed) }
 {
     match answer {
-        Ok(answer) => match answer.put_to(alloc, text, out) {
-            Ok(()) => Ok(answer.is_refused()),
-            Err(fault) => Err(fault),
-        },
+        Ok(answer) => {
+            answer.put_to(alloc, text, out)?;
+            Ok(answer.is_refused())
+        }
         Err(_) => Err(PutFault::NoMemory),
     }
 }

@@ -49,10 +49,7 @@ pub fn load_mesh<K: Kind, H: Hook, const DIM: usize>(
     ensures loaded { OnOk result (IsLoaded K.kind DIM bytes.now map.new.state) }
     ensures refused { IfErr result (λ fault. Refuses K.kind bytes.now fault) }
 {
-    let built = match build_mesh::<K, DIM>(alloc, bytes) {
-        Ok(built) => built,
-        Err(fault) => return Err(fault),
-    };
+    let built = build_mesh::<K, DIM>(alloc, bytes)?;
     match map.load_links(alloc, built.links, &built.places, &built.cells) {
         Ok(_) => Ok(()),
         Err(_) => Err(LoadFault::Map(MeshFault::NoMemory)),

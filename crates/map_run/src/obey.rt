@@ -105,10 +105,10 @@ fn first_map<'h, K: Kind, H: Hook, const DIM: usize>(
     let mut map = Map::new(alloc, hook);
     match &texts.mesh {
         None => Ok(map),
-        Some(bytes) => match load_mesh(alloc, &mut map, bytes) {
-            Ok(()) => Ok(map),
-            Err(fault) => Err(fault),
-        },
+        Some(bytes) => {
+            load_mesh(alloc, &mut map, bytes)?;
+            Ok(map)
+        }
     }
 }
 
