@@ -32,10 +32,6 @@ counted-then old mid new here later one two =
     let more = accepted-append here later in
     (omega (arith, one.0, two.0, long), omega (arith, one.1, two.1, more))
 
--- no line
-pub obeys-none : (hook : Hook) (s : State) (old : Tally) → Obeys hook s [] old s old
-obeys-none hook s old = ([], (refl, refl), (omega arith, omega arith))
-
 -- some lines, and then others
 pub obeys-then : (hook : Hook) (s mid new : State) (xs ys : List Line) (old between counted : Tally) → Obeys hook s xs old mid between → Obeys hook mid ys between new counted
     → Obeys hook s (xs ++ ys) old new counted
@@ -47,9 +43,6 @@ pub record AreBegun (hook : Hook) (kind : Kind) (seed count : ℕ) (s : State) (
   pub replies : List Reply
   pub counted : IsCounted old replies tally
   pub rest : (later : List Reply) (new : State) → TakesSquares hook kind before number left now later new → TakesSquares hook kind None seed count s (replies ++ later) new
-
-pub begun-none : (hook : Hook) (kind : Kind) (seed count : ℕ) (s : State) (old : Tally) → AreBegun hook kind seed count s old None seed count s old
-begun-none hook kind seed count s old = record { replies = []; counted = (omega arith, omega arith); rest = λ later new t. t }
 
 pub begun-more : (hook other : Hook) (kind : Kind) (seed count : ℕ) (s : State) (old : Tally) (before : Option ℕ) (number left : ℕ) (now next : State) (tally counted : Tally)
     → AreBegun hook kind seed count s old before number (suc left) now tally → other ≡ hook
