@@ -1,10 +1,10 @@
-use Rattle.std.proofs.Common.{◌≡◌, ℕ, List, [], ◌∷◌, codes, rules, SFits, sym, ap, subst, ◌∙◌}
+use Rattle.std.proofs.Common.{◌≡◌, ℕ, List, [], ◌∷◌, codes, rules, SFits, ap, subst, ◌∙◌}
 use Rattle.std.specs.Int.{w128}
 use Rattle.std.proofs.lemmas.Int.{to_z-of_z}
 use Rattle.map_defs.specs.Counts.{AreCounts}
 use Rattle.machine_defs.specs.Script.{Rule}
 use Rattle.machine_defs.specs.State.{State, empty_state}
-use Rattle.machine_defs.specs.Text.{Reply, Counts}
+use Rattle.machine_defs.specs.Text.{Counts}
 use Rattle.map_soak.proofs.ObeyedFacts.{soaked, obeys-as, squares-as}
 use Rattle.map_soak.proofs.squares.soak.Goals as goal
 
