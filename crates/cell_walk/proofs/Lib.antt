@@ -7,6 +7,7 @@ mod ListedCells
 mod OnWays
 mod RoundDarts
 mod RowSteps
+mod ShortRings
 pub mod SeenDarts
 mod SinceDarts
 mod SurveyFacts

@@ -1,31 +1,24 @@
-use Rattle.std.proofs.Common.{◌-◌, refl, inl, inr, lit<, arith}
+use Rattle.std.proofs.Common.{◌↔◌, Contains, lit<, refl, inl, inr}
 use Rattle.std.proofs.lemmas.List.Filters.{dedup_is}
 use Rattle.std.proofs.lemmas.List.Kept.{Contains-dedup_nat, Contains-from_dedup}
 use Rattle.std.proofs.lemmas.List.Sorted.{Contains-permutation, IsPermutation-sym}
 use Rattle.std.proofs.lemmas.Map.Keys.{IsStrictlyIncreasing-dedup}
 use Rattle.map_defs.specs.Rows.{links_of}
-use Rattle.cell_walk.proofs.RoundDarts.{begun-alone, begun-has, listed-has, half-has, round-found}
+use Rattle.map_defs.specs.Cells.{InOrbit, Leads}
+use Rattle.cell_walk.specs.Ways.{IsEither}
+use Rattle.cell_walk.proofs.rounds.round.Goals.{in-Some+in_ok-darts-in-Some, in-None+in_ok-darts-in-None}
 use Rattle.cell_walk.proofs.rounds.round.Goals as goal
 
-pub go_on-requires : goal.go_on-requires
-go_on-requires g c =
-    let begun = begun-alone c.in_ok-darts.darts.items c.push.new.self.items c.args.dart c.in_ok-darts.ensures.items c.in_ok-push.ensures.items in
-    let has = begun-has c.push.new.self.items c.args.dart begun in
-    (lit< tt, (c.requires.within c.args.ways.now.forth.next (inl refl), (c.requires.within c.args.ways.now.forth.after c.requires.turns.forth, (has, has))))
-
-pub go_on-requires-2 : goal.go_on-requires-2
-go_on-requires-2 g c =
-    let begun = begun-alone c.in_ok-darts.darts.items c.push.new.self.items c.args.dart c.in_ok-darts.ensures.items c.in_ok-push.ensures.items in
-    let has = half-has g.K.Kind.kind (links_of c.args.links.now.rows) c.args.ways.now.forth.next c.args.ways.now.forth.after c.args.ways.now.back.next c.args.ways.now.back.after
-    c.args.dart c.push.new.self.items c.go_on.new.darts.items begun c.in_ok-go_on.ensures in
-    let last = listed-has c.go_on.new.darts.items c.index-end.result.now (c.len.result - 1) (omega (arith, c.len.ensures, c.go_on.new.darts.ok.0, has.1)) c.index-end.ensures in
-    (lit< tt, (c.requires.within c.args.ways.now.back.next (inr refl), (c.requires.within c.args.ways.now.back.after c.requires.turns.back, (has, last))))
+pub short_ring-requires : goal.short_ring-requires
+short_ring-requires g c = (lit< tt, (c.requires.within c.args.ways.now.forth.next (inl refl), c.requires.within c.args.ways.now.back.next (inr refl)))
 
 pub returns-clause-members : goal.returns-clause-members
 returns-clause-members g c = λ y.
-    let begun = begun-alone c.in_ok-darts.darts.items c.push.new.self.items c.args.dart c.in_ok-darts.ensures.items c.in_ok-push.ensures.items in
-    let found = round-found g.K.Kind.kind (links_of c.args.links.now.rows) c.args.ways.now.forth.next c.args.ways.now.forth.after c.args.ways.now.back.next c.args.ways.now.back.after
-    c.args.dart c.push.new.self.items c.go_on.new.darts.items begun c.in_ok-go_on.ensures c.go_on-2.new.darts.items c.requires.turns c.in_ok-go_on-2.ensures y in
+    let found : Contains c.match-short_ring.darts.items y ↔ InOrbit (Leads (links_of c.args.links.now.rows) (IsEither c.args.ways.now.forth.next c.args.ways.now.back.next)) c.args.dart y =
+    elim c.match-short_ring.branch [
+      | in-Some+in_ok-darts-in-Some w ↦ rw w.darts-is (rw w.in_ok-darts-in-Some.ensures (w.in-Some.ensures y))
+      | in-None+in_ok-darts-in-None w ↦ rw w.darts-is (w.in_ok-darts-in-None.ensures y)
+    ] in
     let moved = c.sort_unstable.ensures.permutation in
     let is = dedup_is _ _ _ c.dedup.ensures.filtered in (
       λ has. found.0 (Contains-permutation _ _ y (IsPermutation-sym _ _ moved) (Contains-from_dedup _ _ y (rw is at has))),
