@@ -1,4 +1,5 @@
 mod VertexPlan
+mod EdgeDarts
 mod EdgePlan
 mod CellEnds
 mod CellPlans

@@ -13,14 +13,14 @@ use Rattle.alpha_edit.proofs.vertex.vertex_plan.Goals as goal
 pub insertion_edit-requires : goal.insertion_edit-requires
 insertion_edit-requires g c =
     let rows = c.args.links.now.rows in
-    let keys : List ℕ = c.in_ok-cell.field-0.items in
-    let live : All (λ (d : ℕ). IsLive rows d) keys = all-live rows (InCell alpha (links_of rows) 1 c.args.dart) keys c.in_ok-cell.ensures.members (edge-live g.row.DIM rows c.see_sound.ensures.sound c.args.dart c.requires.dart) in
+    let keys : List ℕ = c.in_ok-edge_darts.field-0.items in
+    let live : All (λ (d : ℕ). IsLive rows d) keys = all-live rows (InCell alpha (links_of rows) 1 c.args.dart) keys c.in_ok-edge_darts.ensures.members (edge-live g.row.DIM rows c.see_sound.ensures.sound c.args.dart c.requires.dart) in
     let dart : c.args.dart ≢ 0 = live-dart alpha g.row.DIM rows c.see_sound.ensures.sound c.args.dart c.requires.dart in
-    (lit< tt, (omega (arith, c.see_sound.ensures.low), (c.in_ok-cell.ensures.ascending, (live, (none-ascending, (none-of keys, (vertex-insertable (links_of rows) c.args.dart keys dart c.in_ok-cell.ensures.members, c.requires.laws)))))))
+    (lit< tt, (omega (arith, c.see_sound.ensures.low), (c.in_ok-edge_darts.ensures.ascending, (live, (none-ascending, (none-of keys, (vertex-insertable (links_of rows) c.args.dart keys dart c.in_ok-edge_darts.ensures.members, c.requires.laws)))))))
 
 pub returns : goal.returns
 returns g c =
     let rows = c.args.links.now.rows in
     IfOk-weaker c.insertion_edit.result _ _
-    (λ edit. inserts-same g.row.DIM rows (InCell alpha (links_of rows) 1 c.args.dart) (Contains c.in_ok-cell.field-0.items) alpha 0 NoPairs (Lists []) edit c.in_ok-cell.ensures.members no-pairs)
+    (λ edit. inserts-same g.row.DIM rows (InCell alpha (links_of rows) 1 c.args.dart) (Contains c.in_ok-edge_darts.field-0.items) alpha 0 NoPairs (Lists []) edit c.in_ok-edge_darts.ensures.members no-pairs)
     c.insertion_edit.ensures
