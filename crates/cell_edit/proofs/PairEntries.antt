@@ -1,6 +1,6 @@
 -- The changes by which the new darts of pairs are joined.
-use Rattle.std.proofs.Common.{ℕ, ◌≡◌, ◌<◌, List, length, map, get_or, Contains, refl, sym, ap, ◌∙◌, subst, inl, inr, arith}
-use Rattle.std.proofs.lemmas.List.{get_or-map, length-map}
+use Rattle.std.proofs.Common.{ℕ, ◌≡◌, ◌≢◌, ◌+◌, ◌<◌, ◌≤◌, List, [], ◌∷◌, ◌++◌, length, map, take, get_or, slice_index, Contains, refl, sym, ap, ◌∙◌, subst, inl, inr, append_assoc, arith}
+use Rattle.std.proofs.lemmas.List.{get_or-map, length-map, map-append, take_more, get_or_default}
 use Rattle.std.proofs.lemmas.List.Elements.{Contains-get_or}
 use Rattle.map_defs.specs.Links.{Links}
 use Rattle.map_defs.specs.Edits.{Change}
@@ -63,3 +63,26 @@ module _ (L : Links) (star : ℕ → ℕ) (pairs : List Triple) (up : IsAscendin
         rw (at i d z i_low, at j d z j_low)
         (before (get_or pairs i d) (get_or pairs j d) (Contains-get_or pairs i d i_low) (Contains-get_or pairs j d j_low) (up i j d low j_low));
   }
+
+-- the change of the next pair is put behind those of the pairs before it
+pub pairs-more : (star : ℕ → ℕ) (pairs : List Triple) (i : ℕ) (q : Triple) (a b c : List Change) → i < length pairs → q ≡ get_or pairs i q
+    → b ≡ a ++ pair_changes star (take i pairs) → c ≡ b ++ record { dart = star q.x; link = q.t; old = 0; new = star q.y } ∷ [] → c ≡ a ++ pair_changes star (take (i + 1) pairs)
+pairs-more star pairs i q a b c low is before grown =
+    let one : Triple → Change = λ p. record { dart = star p.x; link = p.t; old = 0; new = star p.y } in
+    let more : pair_changes star (take (i + 1) pairs) ≡ pair_changes star (take i pairs) ++ one q ∷ [] =
+    ap (map one) (take_more pairs i q low ∙ ap (λ e. take i pairs ++ e ∷ []) (sym is)) ∙ map-append one (take i pairs) (q ∷ []) in
+    grown ∙ ap (λ cs. cs ++ one q ∷ []) before ∙ append_assoc a (pair_changes star (take i pairs)) (one q ∷ []) ∙ ap (λ cs. a ++ cs) (sym more)
+
+-- a pair that comes before another does not begin behind it
+not_back : (a b : Triple) → ComesBefore a b → a.x ≤ b.x
+not_back a b (inl less) = omega arith
+not_back a b (inr same) = omega (arith, same.0)
+
+-- darts that are less than the first of a pair are the first of no later pair
+pub firsts-rise : (keys : List ℕ) (pairs : List Triple) (i : ℕ) (q : Triple) (place : ℕ) → IsAscending pairs → i < length pairs → q ≡ get_or pairs i q
+    → ((p : ℕ) → p < place → slice_index keys p < q.x) → (j : ℕ) → i + 1 ≤ j → j < length pairs → (d : Triple) (p : ℕ) → p < place → slice_index keys p ≢ (get_or pairs j d).x
+firsts-rise keys pairs i q place up low is less j after within d p before e =
+    let h : slice_index keys p < q.x = less p before in
+    let at : (get_or pairs i d).x ≡ q.x = ap (λ (r : Triple). r.x) (get_or_default pairs i d q low ∙ sym is) in
+    let on : (get_or pairs i d).x ≤ (get_or pairs j d).x = not_back (get_or pairs i d) (get_or pairs j d) (up i j d (omega arith) within) in
+    omega (arith, h, at, on, e)

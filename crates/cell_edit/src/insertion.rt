@@ -1,4 +1,4 @@
-ghost use Rattle.std.specs.Prelude.{◌≡◌, ◌≢◌, ℕ, ◌+◌, ◌-◌, ◌≤◌, ◌<◌, ◌++◌, All, map, slice_index, Contains, IfOk, OnOk, vec_len, vec_capacity};
+ghost use Rattle.std.specs.Prelude.{◌≡◌, ◌≢◌, ℕ, ◌+◌, ◌-◌, ◌≤◌, ◌<◌, ◌++◌, All, map, length, slice_index, Contains, IfOk, vec_len, vec_capacity};
 ghost use Rattle.std.specs.List.Sorted.{IsStrictlyIncreasing};
 ghost use Rattle.map_defs.specs.Kind.{inverse, IsDistant};
 ghost use Rattle.map_defs.specs.Rows.{links_of, IsLive};
@@ -9,7 +9,7 @@ ghost use Rattle.cell_edit.specs.Stars.{star_of};
 ghost use Rattle.cell_edit.specs.Inserting.{PlansInsertion};
 ghost use Rattle.cell_edit.specs.Writing.{WritesEntries, Appends, IsCopy, IsDistantCopy, IsKeyEntry, IsCarriedEntry, AreReady, ArePairsOf};
 
-use crate::room::room_for_changes;
+use crate::room::room_for_insertion;
 use crate::stars::Stars;
 use link_rows::{Change, Edit, Links, Row};
 use map_kind::{Dart, Kind};
@@ -38,8 +38,8 @@ pub fn insertion_edit<K: Kind, const DIM: usize>(
         (λ star N. IsInserted K.kind link (Contains darts.items) (Lists pairs.now) star (links_of links.now.rows) N) edit) }
 {
     let stars = Stars::new(darts, links.made());
-    let mut changes = carried_changes(alloc, links, link, &stars)?;
-    push_pairs(&stars, pairs, &mut changes)?;
+    let mut changes = carried_changes(alloc, links, link, &stars, pairs.len())?;
+    push_pairs(&stars, pairs, &mut changes);
     Ok(Edit {
         births: stars.births(),
         deaths: Vec::new(alloc),
@@ -47,21 +47,23 @@ pub fn insertion_edit<K: Kind, const DIM: usize>(
     })
 }
 
-/// The changes of an insertion at a link but for those of the pairs.
+/// The changes of an insertion at a link but for those of its pairs, for so many of which there is room behind.
 fn carried_changes<K: Kind, const DIM: usize>(
     alloc: Global,
     links: &Links<K, DIM>,
     link: usize,
     stars: &Stars,
+    pairs: usize,
 ) -> Result<Vec<Change>, AllocError>
     requires link { link < DIM }
     requires own { inverse K.kind link ≡ link }
     requires ready { AreReady K.kind links.now.rows link stars.now }
-    ensures { IfOk result (λ changes. WritesEntries (links_of links.now.rows)
+    ensures entries { IfOk result (λ changes. WritesEntries (links_of links.now.rows)
         (IsCarriedEntry K.kind (links_of links.now.rows) link (star_of stars.now) (DIM + 1) stars.now.keys) changes.items) }
+    ensures room { IfOk result (λ changes. vec_len changes + pairs ≤ vec_capacity changes) }
 {
-    let mut changes = room_for_changes(alloc, stars.darts().len(), links.dimension())?;
     let darts = stars.darts();
+    let mut changes = room_for_insertion(alloc, darts.len(), links.dimension(), pairs)?;
     for place in 0..darts.len() {
         push_dart(
             links,
@@ -169,16 +171,20 @@ fn push_copy(stars: &Stars, new: Dart, at: usize, number: u32, changes: &mut Vec
     changes.push_reserved(joining(new, at, stars.star(other)));
 }
 
-/// Appends the changes by which the new darts of pairs are joined.
-fn push_pairs(stars: &Stars, pairs: &[Triple], changes: &mut Vec<Change>) -> Result<(), AllocError>
-    requires { ArePairsOf stars.now.keys pairs.now }
-    ensures { OnOk result (changes.new.items ≡ changes.old.items
-        ++ map (λ pair. record { dart = star_of stars.now pair.x; link = pair.t; old = 0; new = star_of stars.now pair.y }) pairs.now) }
+/// Appends the changes by which the new darts of pairs are joined. There is room for them.
+#[inline(always)]
+fn push_pairs(stars: &Stars, pairs: &[Triple], changes: &mut Vec<Change>)
+    requires ascending { IsAscending pairs.now }
+    requires among { ArePairsOf stars.now.keys pairs.now }
+    requires room { vec_len changes.old + length pairs.now ≤ vec_capacity changes.old }
+    ensures { changes.new.items ≡ changes.old.items
+        ++ map (λ pair. record { dart = star_of stars.now pair.x; link = pair.t; old = 0; new = star_of stars.now pair.y }) pairs.now }
 {
+    let mut place = 0;
     for pair in pairs {
-        changes.push(joining(stars.star(pair.x), pair.t, stars.star(pair.y)))?;
+        place = stars.place_from(place, pair.x);
+        changes.push_reserved(joining(stars.star_at(place), pair.t, stars.star(pair.y)));
     }
-    Ok(())
 }
 
 /// The change by which a link of a new dart becomes a dart.

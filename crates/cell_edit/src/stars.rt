@@ -1,4 +1,4 @@
-ghost use Rattle.std.specs.Prelude.{◌≡◌, ◌≤◌, ◌<◌, All, Contains, length, slice_index};
+ghost use Rattle.std.specs.Prelude.{◌≡◌, ◌≢◌, ℕ, ◌≤◌, ◌<◌, All, Contains, length, slice_index};
 ghost use Rattle.std.specs.List.Sorted.{IsStrictlyIncreasing};
 ghost use Rattle.map_defs.specs.Rows.{made_max};
 ghost use Rattle.cell_edit.specs.Stars.{star_of};
@@ -65,6 +65,22 @@ impl Stars {
             Some(place) => Dart::new(self.made + 1 + place as u32).unwrap(),
             None => unreachable!(),
         }
+    }
+
+    /// The place of a dart that gets a new dart, which is none of those before a place. It costs the places from there on.
+    pub(crate) fn place_from(&self, place: usize, dart: Dart) -> usize
+        requires key { Contains self.now.keys dart }
+        requires after { (p : ℕ) → p < place → slice_index self.now.keys p ≢ dart }
+        ensures within { result < length self.now.keys }
+        ensures place { slice_index self.now.keys result ≡ dart }
+        ensures before { (p : ℕ) → p < result → slice_index self.now.keys p < dart }
+    {
+        for at in place..self.darts.len() {
+            if self.darts[at] == dart {
+                return at;
+            }
+        }
+        unreachable!()
     }
 
     /// The new dart of the dart at a place.

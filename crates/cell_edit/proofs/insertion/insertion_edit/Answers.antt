@@ -15,14 +15,14 @@ carried_changes-requires g c =
     rw c.new-stars.ensures
     (lit< tt, (c.requires.link, (c.requires.insertable.own, ready-of g.K.Kind.kind c.args.links.now.rows c.args.link stars c.args.pairs.now c.made.ensures.made c.requires.live c.requires.insertable)))
 
-pub push_pairs-requires : goal.push_pairs-requires
-push_pairs-requires g c = rw c.new-stars.ensures c.requires.among
+pub push_pairs-requires-clause-among : goal.push_pairs-requires-clause-among
+push_pairs-requires-clause-among g c = rw c.new-stars.ensures c.requires.among
 
 pub returns : goal.returns
 returns g c =
     let stars : Stars = record { keys = c.args.darts.items; made = c.made.result } in
-    let grown : c.push_pairs.new.changes.items ≡ c.in_ok-changes.changes.items ++ pair_changes (star_of stars) c.args.pairs.now = rw c.new-stars.ensures at c.in_ok-push_pairs.ensures in
+    let grown : c.push_pairs.new.changes.items ≡ c.in_ok-changes.changes.items ++ pair_changes (star_of stars) c.args.pairs.now = rw c.new-stars.ensures at c.push_pairs.ensures in
     rw (c.births.ensures, c.new.ensures.items, grown, c.new-stars.ensures)
     (insertion-inserts g.K.Kind.kind g.row.DIM c.args.links.now.rows c.made.ensures.begun c.made.ensures.sound c.requires.laws c.args.link c.requires.link stars
     (ready-of g.K.Kind.kind c.args.links.now.rows c.args.link stars c.args.pairs.now c.made.ensures.made c.requires.live c.requires.insertable)
-    c.requires.darts c.args.pairs.now c.requires.pairs c.requires.insertable c.in_ok-changes.changes.items (rw c.new-stars.ensures at c.in_ok-changes.ensures))
+    c.requires.darts c.args.pairs.now c.requires.pairs c.requires.insertable c.in_ok-changes.changes.items (rw c.new-stars.ensures at c.in_ok-changes.ensures.entries))
