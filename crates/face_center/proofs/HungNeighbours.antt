@@ -29,11 +29,6 @@ high-beside k h L s x (suc (suc zero)) high = absurd (omega arith)
 high-beside alpha h L s x (suc (suc (suc t))) high = refl
 high-beside beta h L s x (suc (suc (suc t))) high = refl
 
--- in a generalized map the dart before is the dart itself
-pub before-own : (k : Kind) (h : Hanging) (L : Links) (x : ℕ) → k ≡ alpha → before k h L x ≡ x
-before-own alpha h L x is = refl
-before-own beta h L x is = absurd (cc is)
-
 -- ---- they are among the darts
 module _ (k : Kind) (rows : Rows) (h : Hanging) (stars : Stars) (can : CanHang k rows h stars) (x : ℕ) (has : Contains stars.keys x) (n : ℕ) where
   abbrev L : Links

@@ -7,6 +7,7 @@ mod HungFacts
 mod HungLinks
 mod HungNeighbours
 mod HungPlaces
+mod HungPushes
 mod KindFacts
 mod Plans
 mod SameSets

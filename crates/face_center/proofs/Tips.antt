@@ -1,11 +1,23 @@
 -- The numbers of the new darts: the ends of the new edges are numbered on from their begins.
-use Rattle.std.proofs.Common.{ℕ, ◌≡◌, ◌+◌, ◌<◌, ◌≤◌, length, slice_index, get_or, Contains, sym, ap, ◌∙◌, arith}
+use Rattle.std.proofs.Common.{ℕ, zero, suc, List, ◌≡◌, ◌+◌, ◌<◌, ◌≤◌, length, slice_index, get_or, Contains, sym, ap, ◌∙◌, arith}
 use Rattle.std.proofs.lemmas.List.Elements.{Contains-get_or}
+use Rattle.std.specs.List.Sorted.{IsStrictlyIncreasing}
+use Rattle.std.proofs.lemmas.List.{get_or_default}
 use Rattle.map_defs.specs.Births.{IsNumbered}
 use Rattle.insert_laws.proofs.Numbers.{numbered_at, numbered_upto}
 use Rattle.cell_edit.specs.Stars.{Stars, star_of}
-use Rattle.cell_edit.proofs.StarNumbers.{stars-number}
+use Rattle.cell_edit.proofs.StarNumbers.{rises, stars-number}
 use Rattle.face_center.specs.Hanging.{tip_of, CanPair}
+
+-- the first of ascending darts is the least of them
+pub first-least : (xs : List ℕ) (x : ℕ) → IsStrictlyIncreasing xs → Contains xs x → (0 < length xs) × (slice_index xs 0 ≤ x)
+first-least xs x rising (zero, low, at) =
+    let one : x ≡ slice_index xs 0 = sym at ∙ get_or_default xs 0 x 0 low in
+    (low, omega arith)
+first-least xs x rising (suc p, low, at) =
+    let one : x ≡ slice_index xs (suc p) = sym at ∙ get_or_default xs (suc p) x 0 low in
+    let less : slice_index xs 0 < slice_index xs (suc p) = rises xs rising 0 (suc p) (omega arith) low in
+    (omega arith, omega arith)
 
 module _ (stars : Stars) (can : CanPair stars) where
   pub begins-number : IsNumbered (Contains stars.keys) stars.keys stars.made (star_of stars)

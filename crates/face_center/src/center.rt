@@ -1,4 +1,4 @@
-ghost use Rattle.std.specs.Prelude.{ℕ, ◌≢◌, ◌↔◌, Contains, IsTrue};
+ghost use Rattle.std.specs.Prelude.{ℕ, ◌≢◌, ◌↔◌, All, Contains, IsTrue};
 ghost use Rattle.map_defs.specs.Rows.{links_of, IsLive};
 ghost use Rattle.map_defs.specs.Laws.{Laws};
 ghost use Rattle.face_center.specs.Planning.{PlansCentre};
@@ -36,8 +36,9 @@ pub fn center_plan<K: Kind, const DIM: usize>(
     Ok(hanging_edit(alloc, links, Hanging::Face, darts)?)
 }
 
-/// Whether links 0 and 1 of none of these darts are free.
+/// Whether links 0 and 1 of none of these live darts are free.
 fn are_closed<K: Kind, const DIM: usize>(links: &Links<K, DIM>, darts: &[Dart]) -> bool
+    requires { All (IsLive links.now.rows) darts.now }
     ensures { IsTrue result ↔ ((x : ℕ) → Contains darts.now x
         → (links_of links.now.rows 0 x ≢ 0) × (links_of links.now.rows 1 x ≢ 0)) }
 {
@@ -49,11 +50,13 @@ fn are_closed<K: Kind, const DIM: usize>(links: &Links<K, DIM>, darts: &[Dart]) 
     true
 }
 
-/// Whether neither link 0 nor link 1 of a dart is free.
+/// Whether neither link 0 nor link 1 of a live dart is free.
 fn is_closed<K: Kind, const DIM: usize>(links: &Links<K, DIM>, dart: Dart) -> bool
+    requires { IsLive links.now.rows dart }
     ensures { IsTrue result ↔ ((links_of links.now.rows 0 dart ≢ 0) × (links_of links.now.rows 1 dart ≢ 0)) }
 {
     // A map has links 0 to 2 at least.
     links.see_sound();
-    links.number_at(dart, 0) != 0 && links.number_at(dart, 1) != 0
+    let row = links.live_row(dart);
+    row.entry(0) != 0 && row.entry(1) != 0
 }

@@ -1,7 +1,19 @@
 use Rattle.std.proofs.Common.{lit<, refl, sym, ◌∙◌}
 use Rattle.std.proofs.lemmas.Bool.{false≢true}
+use Rattle.map_defs.specs.Cells.{InCell}
+use Rattle.map_defs.specs.Rows.{links_of}
+use Rattle.cell_edit.proofs.Premises.{all-live}
+use Rattle.face_center.proofs.Hangable.{cell-live}
 use Rattle.face_center.proofs.Plans.{centre-can, centre-plans}
 use Rattle.face_center.proofs.center.center_plan.Goals as goal
+
+pub are_closed-requires : goal.are_closed-requires
+are_closed-requires g c = (
+  lit< tt,
+  rw c.deref.ensures.value
+      (all-live c.args.links.now.rows (InCell g.K.Kind.kind (links_of c.args.links.now.rows) 2 c.args.dart) c.in_ok-darts.darts.items c.in_ok-darts.ensures.members
+      (cell-live g.K.Kind.kind g.row.DIM c.args.links.now.rows c.see_sound.ensures.sound c.args.dart c.requires.dart)),
+)
 
 pub hanging_edit-requires : goal.hanging_edit-requires
 hanging_edit-requires g c = (

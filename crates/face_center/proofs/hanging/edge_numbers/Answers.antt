@@ -19,11 +19,11 @@ pub tip-requires : goal.tip-requires
 tip-requires c =
     let key : Contains c.args.stars.now.keys c.in-Some.dart = rw c.in-Some.ensures.same (c.requires.key (λ none. omega (arith, c.in-Some.ensures.same))) in
     let small : star_of c.args.stars.now c.in-Some.dart + length c.args.stars.now.keys ≤ 12582912 = tip-small c.args.stars.now c.requires.pair c.in-Some.dart key in
-    omega (arith, c.star-begin.ensures.star)
+    omega (arith, c.begin_of-begin.ensures)
 
 pub returns-clause-end : goal.returns-clause-end
 returns-clause-end c =
     let key : Contains c.args.stars.now.keys c.in-Some.dart = rw c.in-Some.ensures.same (c.requires.key (λ none. omega (arith, c.in-Some.ensures.same))) in
     let beyond : tip_of c.args.stars.now c.in-Some.dart ≡ star_of c.args.stars.now c.in-Some.dart + length c.args.stars.now.keys = tip-beyond c.args.stars.now c.requires.pair c.in-Some.dart key in
-    let end : c.number-2.result ≡ tip_of c.args.stars.now c.in-Some.dart = omega (arith, c.number-2.ensures.same, c.tip.ensures, c.star-begin.ensures.star) in
+    let end : c.number-2.result ≡ tip_of c.args.stars.now c.in-Some.dart = omega (arith, c.number-2.ensures.same, c.tip.ensures, c.begin_of-begin.ensures) in
     end ∙ ap (tip_of c.args.stars.now) c.in-Some.ensures.same

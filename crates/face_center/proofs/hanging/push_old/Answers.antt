@@ -1,4 +1,4 @@
-use Rattle.std.proofs.Common.{ℕ, ◌≡◌, ◌≢◌, ◌++◌, ◌∷◌, [], List, sym, ap, ◌∙◌, arith}
+use Rattle.std.proofs.Common.{ℕ, ◌≡◌, ◌≢◌, ◌++◌, ◌∷◌, [], List, sym, ◌∙◌, arith}
 use Rattle.std.proofs.lemmas.Bool.{false≢true}
 use Rattle.map_defs.specs.Edits.{Change}
 use Rattle.map_defs.specs.Rows.{links_of}
@@ -15,9 +15,9 @@ returns-then-is_generalized-clause-entries g c = λ star tip begin end.
     let start : List Change = c.args.changes.now.items in
     let ahead : ℕ = before g.K.Kind.kind c.args.hanging (links_of rows) c.args.dart in
     let some : star c.args.dart ≢ 0 = λ none. omega (arith, c.number.ensures.some, c.number.ensures.same) in
-    let old : c.entry.result ≡ links_of rows 1 ahead = c.entry.ensures ∙ c.live_row.ensures 1 ∙ ap (links_of rows 1) c.before-before.ensures in
+    let old : c.led_before.result ≡ links_of rows 1 ahead = c.led_before.ensures in
     let led : c.push_reserved.new.self.items ≡ start ++ record { dart = ahead; link = 1; old = links_of rows 1 ahead; new = star c.args.dart } ∷ [] =
-    rw (old, c.before-before.ensures, c.number.ensures.same, begin) at c.push_reserved.ensures.items in
+    rw (old, c.before-2.ensures, c.number.ensures.same, begin) at c.push_reserved.ensures.items in
     old-alone g.K.Kind.kind c.args.hanging (links_of rows) star tip c.args.dart start c.push_reserved.new.self.items
     (c.is_generalized.ensures.0 c.if-is_generalized.true) (rw led (link-pushed (links_of rows) ahead 1 (star c.args.dart) start some))
 
@@ -27,12 +27,12 @@ returns-clause-entries g c = λ star tip begin end.
     let start : List Change = c.args.changes.now.items in
     let ahead : ℕ = before g.K.Kind.kind c.args.hanging (links_of rows) c.args.dart in
     let some : star c.args.dart ≢ 0 = λ none. omega (arith, c.number.ensures.some, c.number.ensures.same) in
-    let old : c.entry.result ≡ links_of rows 1 ahead = c.entry.ensures ∙ c.live_row.ensures 1 ∙ ap (links_of rows 1) c.before-before.ensures in
+    let old : c.led_before.result ≡ links_of rows 1 ahead = c.led_before.ensures in
     let led : c.push_reserved.new.self.items ≡ start ++ record { dart = ahead; link = 1; old = links_of rows 1 ahead; new = star c.args.dart } ∷ [] =
-    rw (old, c.before-before.ensures, c.number.ensures.same, begin) at c.push_reserved.ensures.items in
+    rw (old, c.before-2.ensures, c.number.ensures.same, begin) at c.push_reserved.ensures.items in
     let first : Appends (links_of rows) (IsLinkEntry ahead 1 (star c.args.dart)) start c.push_reserved.new.self.items = rw led (link-pushed (links_of rows) ahead 1 (star c.args.dart) start some) in
     let there : tip c.args.dart ≢ 0 = λ none. omega (arith, c.number-2.ensures.some, c.number-2.ensures.same) in
-    let back : c.entry-2.result ≡ links_of rows 0 c.args.dart = c.entry-2.ensures ∙ c.requires.row 0 in
+    let back : c.entry.result ≡ links_of rows 0 c.args.dart = c.entry.ensures ∙ c.requires.row 0 in
     let then : Appends (links_of rows) (IsLinkEntry c.args.dart 0 (tip c.args.dart)) c.push_reserved.new.self.items c.push_reserved-2.new.self.items =
     rw (c.push_reserved-2.ensures.items, back, c.number-2.ensures.same, end) (link-pushed (links_of rows) c.args.dart 0 (tip c.args.dart) c.push_reserved.new.self.items there) in
     old-both g.K.Kind.kind c.args.hanging (links_of rows) star tip c.args.dart start c.push_reserved.new.self.items c.push_reserved-2.new.self.items
