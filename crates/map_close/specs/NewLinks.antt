@@ -1,5 +1,5 @@
 -- What the links of the new darts of a closing become, and the entries that are written.
-use Rattle.std.specs.Prelude.{ℕ, suc, ◌≡◌, ◌≢◌, ◌<◌, ◌⊎◌, ◌↔◌, List, Contains}
+use Rattle.std.specs.Prelude.{ℕ, suc, ◌≡◌, ◌≢◌, ◌<◌, ◌≤◌, ◌⊎◌, ◌↔◌, List, Contains}
 use Rattle.std.specs.List.Sorted.{IsStrictlyIncreasing}
 use Rattle.map_defs.specs.Kind.{Kind, inverse, IsDistant}
 use Rattle.map_defs.specs.Links.{Links}
@@ -19,6 +19,10 @@ pub record IsNewLink (k : Kind) (i : ℕ) (L : Links) (star : ℕ → ℕ) (x t 
   -- a link just below leads around the boundary
   pub around : (y : ℕ) → IsJustBelow k i t → IsAround k i t L x y → z ≡ star y
   pub next : t ≡ suc i → z ≡ 0
+
+-- the entries of the links from a to below b of a new dart, where link t becomes a y with P t y
+abbrev pub IsEntryBetween : (ℕ → ℕ → Type 0) → ℕ → ℕ → ℕ → ℕ → ℕ → ℕ → Type 0
+IsEntryBetween P a b new d t y = (d ≡ new) × (a ≤ t) × (t < b) × P t y × (y ≢ 0)
 
 -- the entries of the links below m of the new dart of x
 abbrev pub IsNewEntry : Kind → ℕ → Links → (ℕ → ℕ) → ℕ → ℕ → ℕ → ℕ → ℕ → Type 0

@@ -1,12 +1,12 @@
-ghost use Rattle.std.specs.Prelude.{◌≡◌, ℕ, ◌+◌, ◌≤◌, ◌↔◌, Contains, IfOk, OnOk};
+ghost use Rattle.std.specs.Prelude.{◌≡◌, ◌≢◌, ℕ, ◌+◌, ◌≤◌, ◌↔◌, Contains, IfOk, OnOk};
 ghost use Rattle.std.specs.List.Sorted.{IsStrictlyIncreasing};
 ghost use Rattle.map_defs.specs.Kind.{inverse};
-ghost use Rattle.map_defs.specs.Rows.{links_of, IsLive};
+ghost use Rattle.map_defs.specs.Rows.{links_of, made, IsLive};
 ghost use Rattle.map_defs.specs.Laws.{Laws};
 ghost use Rattle.map_defs.specs.Closing.{IsOpen, IsAround};
-ghost use Rattle.map_close.specs.Boundary.{ListsOpen};
+ghost use Rattle.map_close.specs.Boundary.{ListsOpen, IsRowOf};
 
-use link_rows::Links;
+use link_rows::{Links, Row};
 use map_kind::{Dart, Kind};
 use std::alloc::{AllocError, Global};
 
@@ -28,8 +28,7 @@ pub(crate) fn open_darts<K: Kind, const DIM: usize>(
     Ok(darts)
 }
 
-/// Lists a dart if it is live and free at a link. The link is looked at first: most often it is not free, and then no look at
-/// who lives is needed.
+/// Lists a dart if it is live and free at a link. Who lives is looked at first, for then the row needs no further look.
 fn take_open<K: Kind, const DIM: usize>(
     links: &Links<K, DIM>,
     link: usize,
@@ -40,54 +39,65 @@ fn take_open<K: Kind, const DIM: usize>(
     requires before { ListsOpen links.now.rows link dart darts.old.items }
     ensures { OnOk result (ListsOpen links.now.rows link (dart + 1) darts.new.items) }
 {
-    let other = links.number_at(dart, link);
-    if other != 0 {
+    // A map has links 0 to 8 at most.
+    links.see_sound();
+    if !links.is_live(dart) {
         return Ok(());
     }
-    if !links.is_live(dart) {
+    let other = links.live_row(dart).entry(link);
+    if other != 0 {
         return Ok(());
     }
     darts.push(dart)?;
     Ok(())
 }
 
-/// The number of the next dart that is free at a link, around the boundary along the link `before`: 0 where the way comes to
-/// a free link. It costs the steps of the way.
+/// The number of the next dart that is free at a link after the open dart with this row, around the boundary along the link
+/// `before`: 0 where the way comes to a free link. It costs the steps of the way.
 pub(crate) fn next_open<K: Kind, const DIM: usize>(
     links: &Links<K, DIM>,
     link: usize,
     before: usize,
-    dart: Dart,
+    row: &Row<DIM>,
 ) -> u32
     requires link { link ≤ DIM }
     requires before { before ≤ DIM }
     requires own { inverse K.kind link ≡ link }
-    requires free { links_of links.now.rows link dart ≡ 0 }
+    requires free { (x : ℕ) × IsRowOf links.now.rows x row.now × (links_of links.now.rows link x ≡ 0) }
     requires laws { Laws K.kind (links_of links.now.rows) }
-    ensures { IsAround K.kind link before (links_of links.now.rows) dart result }
+    ensures around { (x : ℕ) → IsRowOf links.now.rows x row.now → IsAround K.kind link before (links_of links.now.rows) x result }
+    ensures made { result ≤ made links.now.rows }
 {
+    // A map has links 0 to 8 at most.
+    links.see_sound();
     let back = K::inverse(before);
-    let mut at = links.number_at(dart, back);
+    let mut at = row.entry(back);
+    // On the rim of a single cell the way ends there.
+    let mut beyond = number_at(links, at, link);
+    if beyond == 0 {
+        return at;
+    }
     // The way comes to no dart twice.
     for _turn in 0..links.made() + 2 {
-        let beyond = number_at(links, at, link);
+        at = number_at(links, beyond, back);
+        beyond = number_at(links, at, link);
         if beyond == 0 {
             return at;
         }
-        at = number_at(links, beyond, back);
     }
     unreachable!()
 }
 
-/// The number at a link of the dart of this number; 0 for 0.
+/// The number at a link of the live dart of this number; 0 for 0.
 fn number_at<K: Kind, const DIM: usize>(links: &Links<K, DIM>, number: u32, link: usize) -> u32
-    requires { link ≤ DIM }
+    requires link { link ≤ DIM }
+    requires live { number ≢ 0 → IsLive links.now.rows number }
     ensures { result ≡ links_of links.now.rows link number }
 {
     // 0 is no dart.
     links.see_sound();
     match Dart::new(number) {
-        Some(dart) => links.number_at(dart, link),
+        Some(dart) => links.live_row(dart).entry(link),
         None => 0,
     }
 }

@@ -1,4 +1,4 @@
-ghost use Rattle.std.specs.Prelude.{◌≡◌, ◌≤◌, ◌<◌, All, Contains, length, IfOk};
+ghost use Rattle.std.specs.Prelude.{◌≡◌, ◌≤◌, ◌<◌, All, length, slice_index, IfOk};
 ghost use Rattle.std.specs.List.Sorted.{IsStrictlyIncreasing};
 ghost use Rattle.map_defs.specs.Rows.{made_max};
 ghost use Rattle.cell_edit.specs.Stars.{star_of};
@@ -19,6 +19,7 @@ pub(crate) struct StarTable {
 
 impl Model for StarTable {
     ghost use Rattle.std.specs.Prelude.{ℕ, ◌≡◌, ◌+◌, ◌≤◌, length, slice_index};
+    ghost use Rattle.std.specs.List.Sorted.{IsStrictlyIncreasing};
     ghost use Rattle.map_defs.specs.Rows.{made_max};
     ghost use Rattle.cell_edit.specs.Stars as stars;
 
@@ -26,7 +27,8 @@ impl Model for StarTable {
 
     ghost view = { λ table. record { keys = table.darts.items; made = table.made } };
 
-    ghost invariant = { λ table. (length table.darts.items ≤ table.made) × (table.made ≤ made_max)
+    ghost invariant = { λ table. IsStrictlyIncreasing table.darts.items
+        × (length table.darts.items ≤ table.made) × (table.made ≤ made_max) × (length table.numbers.items ≡ table.made + 1)
         × ((x : ℕ) → slice_index table.numbers.items x ≡ stars.number_from (table.made + 1) table.darts.items x) };
 }
 
@@ -63,22 +65,19 @@ impl StarTable {
         self.darts.len() as u32
     }
 
-    /// The new dart of a dart that gets one.
-    pub(crate) fn star(&self, dart: Dart) -> Dart
-        requires { Contains self.now.keys dart }
-        ensures star { result ≡ star_of self.now dart }
-        ensures above { self.now.made < result }
+    /// The new dart of the dart at a place.
+    pub(crate) fn star_at(&self, place: usize) -> Dart
+        requires { place < length self.now.keys }
+        ensures { result ≡ star_of self.now (slice_index self.now.keys place) }
     {
-        Dart::new(self.number(dart.number())).unwrap()
+        Dart::new(self.made + 1 + place as u32).unwrap()
     }
 
     /// The number of the new dart of the dart of this number; 0 where none has it, or that gets no new dart.
     pub(crate) fn number(&self, of: u32) -> u32
+        requires { of ≤ self.now.made }
         ensures { result ≡ star_of self.now of }
     {
-        match self.numbers.get(of as usize) {
-            Some(number) => *number,
-            None => 0,
-        }
+        self.numbers[of as usize]
     }
 }

@@ -1,3 +1,4 @@
+use Rattle.std.proofs.Common.{◌≡◌, ◌≢◌, slice_index}
 use Rattle.map_defs.specs.Kind.{inverse}
 use Rattle.map_defs.specs.Rows.{links_of}
 use Rattle.map_close.proofs.WalkSteps.{IsAlong}
@@ -6,4 +7,5 @@ use Rattle.map_close.proofs.boundary.next_open.Given as goal
 
 abbrev pub invariant-loop-turn : goal.invariant-loop-turn
 invariant-loop-turn g l =
-    IsAlong (IsCrossed (links_of l.links.rows) l.link) (turn g.K.Kind.kind l.link l.before (links_of l.links.rows)) (links_of l.links.rows (inverse g.K.Kind.kind l.before) l.fn.dart) l._turn l.at
+    IsAlong (IsCrossed (links_of l.links.rows) l.link) (turn g.K.Kind.kind l.link l.before (links_of l.links.rows)) (slice_index l.row (inverse g.K.Kind.kind l.before)) l._turn l.at
+    × (l.beyond ≡ links_of l.links.rows l.link l.at) × (l.beyond ≢ 0)

@@ -28,8 +28,10 @@ loop-place-preserved c =
 
 pub invariant_of-result : goal.invariant_of-result
 invariant_of-result c = (
+  c.requires.ascending,
   few_keys c.args.darts.items c.args.made c.requires.ascending c.requires.made,
   c.requires.few,
+  c.loop-place.invariant.long,
   told-all c.args.darts.items c.args.made c.requires.ascending c.requires.made c.loop-place.place c.loop-place.numbers.items
       (omega (arith, c.loop-place-test.false, c.loop-place.auto.place-end, ap length c.deref-dart-items.ensures.value))
       (subst (λ (xs : List ℕ). AreToldUpTo xs c.args.made c.loop-place.place c.loop-place.numbers.items) c.deref-dart-items.ensures.value c.loop-place.invariant),
