@@ -1,6 +1,7 @@
 //! The text of scripts: what a line tells, the reply to it, and logs.
 #![tactic(auto)]
 
+mod done_line;
 mod front;
 mod line;
 mod log;

@@ -1,5 +1,5 @@
 //! The reply to a line, and its text.
-ghost use Rattle.std.specs.Prelude.{◌≡◌, IfOk, IfSome, IsErrOf, Some, codes};
+ghost use Rattle.std.specs.Prelude.{◌≡◌, IfOk, IsErrOf, Some, codes};
 ghost use Rattle.machine_defs.specs.Text.{is_refused, reply_text, done_text, truth_text, numbers_text, cell_value_text, refusal_text};
 ghost use Rattle.map_kind.specs.Refusals.{meaning};
 ghost use Rattle.map_io.specs.Cause.{HasCause};
@@ -7,6 +7,7 @@ ghost use Rattle.text_lines.specs.Writing.{Appends, WritesText};
 ghost use Rattle.script_text.specs.Meanings.{reply_meaning};
 ghost use Rattle.script_text.specs.ReplyEnds.{reply-ends};
 
+use crate::done_line::{LONGEST, write_done};
 use map_io::{PutFault, Sink};
 use map_kind::{Dart, Done, Refusal, Value};
 use std::alloc::{AllocError, Global};
@@ -38,26 +39,16 @@ impl Reply {
         matches!(self, Reply::No(_))
     }
 
-    /// Puts the reply to a sink in one piece. A reply with numbers is first written over what stands in `text`.
+    /// Puts the reply to a sink in one piece. Any but a `Done` and a `Truth` is first written over what stands in `text`.
     pub fn put_over<S: Sink>(&self, text: &mut Vec<u8>, out: &mut S) -> Result<(), PutFault>
         ensures written { WritesText (S.written out.old) (S.written out.new) result (reply_text (reply_meaning self.now)) }
         ensures cause { HasCause (S.faults out.old) (S.faults out.new) (IsErrOf result PutFault.Failed) }
     {
-        match self.fixed_text() {
-            Some(line) => out.put(line),
-            None => put_line_over(text, out, self),
-        }
-    }
-
-    /// The text of a reply that has no numbers, unless it is a refusal.
-    fn fixed_text(&self) -> Option<&'static [u8]>
-        ensures { IfSome result (λ line. line.now ≡ reply_text (reply_meaning self.now)) }
-    {
         match self {
-            Reply::Done(Done { count: 0, .. }) => Some(b"ok\n"),
-            Reply::Truth(true) => Some(b"true\n"),
-            Reply::Truth(false) => Some(b"false\n"),
-            _ => None,
+            Reply::Done(Done { count: 0, .. }) => out.put(b"ok\n"),
+            Reply::Done(done) => put_done(out, *done),
+            Reply::Truth(answer) => out.put(truth(*answer)),
+            _ => put_line_over(text, out, self),
         }
     }
 }
@@ -68,7 +59,7 @@ impl TextLine for Reply {
     fn append_to(&self, text: &mut Vec<u8>) -> Result<(), AllocError> {
         match self {
             Reply::Done(done) => append_done(text, *done),
-            Reply::Truth(answer) => append_truth(text, *answer),
+            Reply::Truth(answer) => text.extend_from_slice(truth(*answer)),
             Reply::Cell(darts) => append_cell(text, darts.as_slice()),
             Reply::Count(counts) => append_count(text, counts.as_slice()),
             Reply::Value(value) => append_cell_value(text, *value),
@@ -91,28 +82,31 @@ pub fn reply_text(alloc: Global, reply: &Reply) -> Result<Vec<u8>, AllocError>
     Ok(text)
 }
 
-/// The reply to a changing line: `ok`, and where darts were made the first and how many.
+/// Puts the reply to a changing line to a sink in one piece. It stays a call of its own, so that a reply of `ok` alone, which is
+/// put without it, makes no room for numbers.
+#[inline(never)]
+fn put_done<S: Sink>(out: &mut S, done: Done) -> Result<(), PutFault>
+    ensures written { WritesText (S.written out.old) (S.written out.new) result (done_text done.first done.count) }
+    ensures cause { HasCause (S.faults out.old) (S.faults out.new) (IsErrOf result PutFault.Failed) }
+{
+    let mut line = [0; LONGEST];
+    let start = write_done(&mut line, done);
+    out.put(&line[start..])
+}
+
 fn append_done(text: &mut Vec<u8>, done: Done) -> Result<(), AllocError>
     ensures { Appends text.old.items text.new.items (done_text done.first done.count) result }
 {
-    if done.count == 0 {
-        return text.extend_from_slice(b"ok\n");
-    }
-    text.extend_from_slice(b"ok")?;
-    append_spaced(text, done.first)?;
-    append_spaced(text, done.count)?;
-    text.push(b'\n')?;
-    Ok(())
+    let mut line = [0; LONGEST];
+    let start = write_done(&mut line, done);
+    text.extend_from_slice(&line[start..])
 }
 
-fn append_truth(text: &mut Vec<u8>, answer: bool) -> Result<(), AllocError>
-    ensures { Appends text.old.items text.new.items (truth_text answer) result }
+/// The reply to a question of yes or no.
+fn truth(answer: bool) -> &'static [u8]
+    ensures { result.now ≡ truth_text answer }
 {
-    if answer {
-        text.extend_from_slice(b"true\n")
-    } else {
-        text.extend_from_slice(b"false\n")
-    }
+    if answer { b"true\n" } else { b"false\n" }
 }
 
 fn append_cell(text: &mut Vec<u8>, darts: &[Dart]) -> Result<(), AllocError>
