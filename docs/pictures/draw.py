@@ -243,10 +243,10 @@ ROWS = [
         ("rows", ["cell_walk", "link_rows", "dart_arena", "flat_lists", "map_kind"]),
     ]),
     ("laws", [
-        ("texts, totals", ["off_laws", "listing_laws", "total_laws"]),
+        ("texts, totals", ["off_laws", "listing_laws", "reading_laws", "total_laws"]),
         ("the machine", ["answer_laws", "trail_laws", "label_laws", "machine_laws", "loading_laws", "journal_laws"]),
-        ("maps, meshes", ["half_laws", "back_laws", "center_laws", "dual_laws", "remove_laws", "insert_laws"]),
-        ("and values", ["value_laws", "row_laws", "reading_laws", "mesh_laws", "edit_laws", "link_laws"]),
+        ("maps, meshes", ["half_laws", "back_laws", "kept_laws", "center_laws", "remove_laws", "insert_laws"]),
+        ("and values", ["value_laws", "row_laws", "dual_laws", "mesh_laws", "edit_laws", "link_laws"]),
     ]),
     ("definitions", [
         ("", ["machine_defs", "store_defs", "half_defs", "map_defs"]),
@@ -274,7 +274,7 @@ def layers():
         for name, crates in rows:
             picture.text((236, y + 21), name, 13, "#55606c", "end")
             wide = band == "definitions"
-            x, step = 250, 210 if wide else 105
+            x, step = 250, 157 if wide else 105
             for crate in crates:
                 dashed = " stroke-dasharray='4 3'" if crate in TESTS else ""
                 picture.lines.append(f"<rect x='{x}' y='{y}' width='{step - 7}' height='{42 if wide else 28}' rx='5' fill='white' "

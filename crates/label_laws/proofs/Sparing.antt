@@ -21,7 +21,8 @@ use Rattle.machine_laws.proofs.CellsTold.{cell-told}
 use Rattle.store_defs.specs.Stores.{Store}
 use Rattle.store_defs.specs.Labelings.{Labeling, id_of}
 use Rattle.label_laws.specs.Stored.{AreStored}
-use Rattle.label_laws.specs.Touching.{AreGrafted, IsUnsettled, IsBornApart, Spares}
+use Rattle.kept_laws.specs.Keeping.{KeepsCells}
+use Rattle.label_laws.specs.Touching.{AreGrafted, IsUnsettled, IsBornApart, IsJoinedApart, Spares}
 
 pub cell-own : (k : Kind) (L : Links) (i d : ℕ) → InCell k L i d d
 cell-own k L i d = here
@@ -84,23 +85,32 @@ module _ (k : Kind) (n i : ℕ) (old new : Rows) (lo : Laws k (links_of old)) (l
   kept-id : (x : ℕ) → x ≤ older → id_of g i x ≡ id_of l i x
   kept-id x low = elim (grafts.each i x) [ inl same ↦ same | inr given ↦ absurd (let high : older < x = given.1 in omega arith) ]
 
-  -- the darts of T are those that are not settled, and those born that lie apart; d lives, and its cell has none of them
-  module _ (T : ℕ → Type 0) (unsettled : (x : ℕ) → IsUnsettled k i old new g x → T x) (apart : (x : ℕ) → IsBornApart k i new older g x → T x)
-      (d : ℕ) (live : IsLive new d) (none : (x : ℕ) → InCell k (links_of new) i d x → T x → ⊥) where
+  -- the darts of a live dart's cell are live, and none of them is 0
+  module _ (d : ℕ) (live : IsLive new d) where
     live-at : (x : ℕ) → InCell k (links_of new) i d x → IsLive new x
     live-at x cell = cell_live k (IsLive old) (links_of old) (links_of new) lo laws (IsLive new) (rows_lead_to_live k new laws) i d live cell
 
     dart-at : (x : ℕ) → InCell k (links_of new) i d x → x ≢ 0
     dart-at x cell zero = false≢true (sym (ap is_some (ap (row_at new) zero ∙ sound.nothing)) ∙ live-at x cell)
 
+  -- a dart with an id has an old one with this id in its cell
+  origin : (x c : ℕ) → id_of g i x ≡ Some c → (y : ℕ) × InCell k (links_of new) i x y × (id_of l i y ≡ Some c)
+  origin x c e = elim (grafts.each i x) [
+    | inl same ↦ (x, here, sym same ∙ e)
+    | inr given ↦ (given.3, given.5, given.6 ∙ sym given.4 ∙ e)
+  ]
+
+  -- the darts of T are those that are not settled, and those born that lie apart; d lives, and its cell has none of them
+  module _ (T : ℕ → Type 0) (unsettled : (x : ℕ) → IsUnsettled k i old new g x → T x) (apart : (x : ℕ) → IsBornApart k i new older g x → T x)
+      (d : ℕ) (live : IsLive new d) (none : (x : ℕ) → InCell k (links_of new) i d x → T x → ⊥) where
     -- a step from a dart that was not born, in the new cell, leads to a dart with the same id
     old-alike : (x y : ℕ) → InCell k (links_of new) i d x → x ≤ older → Leads (links_of new) (IsCellWord k i) x y → id_of g i y ≡ id_of g i x
     old-alike x y cell low (w, word, e, there) = elim (same_or_not (through (links_of new) w x) (through (links_of old) w x)) [
       | inl same ↦ (let stood : through (links_of old) w x ≡ y = sym same ∙ e in
           kept-id y (first y (lands k old lo w x y stood there)) ∙ same-id x y (onward here (w, word, stood, there)) ∙ sym (kept-id x low))
       | inr moved ↦ ids-stable (id_of g i y) (id_of g i x) (λ differ. none x cell (unsettled x (
-        was x (live-at x cell) low,
-        live-at x cell,
+        was x (live-at d live x cell) low,
+        live-at d live x cell,
         (w, word, moved, λ settled. differ (subst (λ (z : ℕ). z ≢ 0 → id_of g i z ≡ id_of g i x) e settled.alike there)),
       )))
     ]
@@ -108,7 +118,7 @@ module _ (k : Kind) (n i : ℕ) (old new : Rows) (lo : Laws k (links_of old)) (l
     -- so does a step from a dart that was born to a lesser one that was born too
     born-alike : (x y : ℕ) → InCell k (links_of new) i d x → older < y → y < x → Leads (links_of new) (IsCellWord k i) x y → id_of g i y ≡ id_of g i x
     born-alike x y cell high less (w, word, e, there) = ids-stable (id_of g i y) (id_of g i x) (λ differ. none x cell (apart x (
-      live-at x cell,
+      live-at d live x cell,
       (
         w,
         word,
@@ -134,7 +144,7 @@ module _ (k : Kind) (n i : ℕ) (old new : Rows) (lo : Laws k (links_of old)) (l
     ]
       where
         back : Leads (links_of new) (IsCellWord k i) y x
-        back = step_back k (links_of new) laws i x y (dart-at x cell) step
+        back = step_back k (links_of new) laws i x y (dart-at d live x cell) step
 
     alike : {x : ℕ} → InOrbit (Leads (links_of new) (IsCellWord k i)) d x → id_of g i x ≡ id_of g i d
     alike here = refl
@@ -148,7 +158,7 @@ module _ (k : Kind) (n i : ℕ) (old new : Rows) (lo : Laws k (links_of old)) (l
         | inl on ↦ cell_trans k (links_of new) i d x y cell on
         | inr off ↦ absurd (none x cell (unsettled x (
           lived,
-          live-at x cell,
+          live-at d live x cell,
           (w, word, moved, λ settled. off (subst (λ (z : ℕ). z ≢ 0 → InCell k (links_of new) i x z) e settled.kept there)),
         )))
       ]
@@ -159,13 +169,6 @@ module _ (k : Kind) (n i : ℕ) (old new : Rows) (lo : Laws k (links_of old)) (l
     cell-stays x cell lived (onward {x = z} {y = y} o st) =
         let before = cell-stays x cell lived o in
         (step-stays z y before.0 before.1 st, lands k old lo st.0 z y st.2 st.3)
-
-    -- a dart with an id has an old one with this id in its cell
-    origin : (x c : ℕ) → id_of g i x ≡ Some c → (y : ℕ) × InCell k (links_of new) i x y × (id_of l i y ≡ Some c)
-    origin x c e = elim (grafts.each i x) [
-      | inl same ↦ (x, here, sym same ∙ e)
-      | inr given ↦ (given.3, given.5, given.6 ∙ sym given.4 ∙ e)
-    ]
 
     whole : (c : ℕ) → id_of g i d ≡ Some c → (x : ℕ) → id_of g i x ≡ Some c → InCell k (links_of new) i d x
     whole c e x f =
@@ -180,3 +183,66 @@ module _ (k : Kind) (n i : ℕ) (old new : Rows) (lo : Laws k (links_of old)) (l
 
   pub settled-spare : (T : ℕ → Type 0) → ((x : ℕ) → IsUnsettled k i old new g x → T x) → ((x : ℕ) → IsBornApart k i new older g x → T x) → Spares k i new g T
   settled-spare T unsettled apart d live none = has-one T unsettled apart d live none (id_of g i d) refl
+
+  -- The change keeps the cells. The darts of T are those born that joined apart; d lives, and its cell has none of them.
+  module _ (keeps : KeepsCells k i (IsLive old) (links_of old) (links_of new)) (T : ℕ → Type 0) (joined : (x : ℕ) → IsJoinedApart k i new older g x → T x)
+      (d : ℕ) (live : IsLive new d) (none : (x : ℕ) → InCell k (links_of new) i d x → T x → ⊥) where
+    lived-at : (x : ℕ) → InCell k (links_of new) i d x → x ≤ older → IsLive old x
+    lived-at x cell low = was x (live-at d live x cell) low
+
+    -- two darts of the cell that were not born have the same id
+    lived-alike : (x y : ℕ) → InCell k (links_of new) i d x → InCell k (links_of new) i d y → x ≤ older → y ≤ older → id_of g i y ≡ id_of g i x
+    lived-alike x y one other low below =
+        kept-id y below
+        ∙ same-id x y ((keeps x y (lived-at x one low) (lived-at y other below)).0 (cell_trans k (links_of new) i x d y (cell_back k (links_of new) laws i d x one) other))
+        ∙ sym (kept-id x low)
+
+    -- a step from a dart that was born to a lesser one leads to a dart with the same id
+    joined-alike : (x y : ℕ) → InCell k (links_of new) i d x → older < x → y < x → Leads (links_of new) (IsCellWord k i) x y → id_of g i y ≡ id_of g i x
+    joined-alike x y cell high less (w, word, e, there) = ids-stable (id_of g i y) (id_of g i x) (λ differ. none x cell (joined x (
+      live-at d live x cell,
+      high,
+      (
+        w,
+        word,
+        (λ zero. there (sym e ∙ zero)),
+        subst (λ (z : ℕ). z < x) (sym e) less,
+        λ same. differ (subst (λ (z : ℕ). id_of g i z ≡ id_of g i x) e same),
+      ),
+    )))
+
+    walked-alike : (x y : ℕ) → InCell k (links_of new) i d x → Leads (links_of new) (IsCellWord k i) x y → id_of g i y ≡ id_of g i x
+    walked-alike x y cell step = elim (cases_lt older x) [
+      | inl born ↦ elim (cases_lt y x) [
+        | inl less ↦ joined-alike x y cell born less step
+        | inr more ↦ elim (cases_eq x y) [
+          | inl same ↦ ap (id_of g i) (sym same)
+          | inr other ↦ sym (joined-alike y x (onward cell step) (omega (arith, born, more)) (omega (arith, more, other)) back)
+        ]
+      ]
+      | inr low ↦ elim (cases_lt older y) [
+        | inl born ↦ sym (joined-alike y x (onward cell step) born (omega (arith, low, born)) back)
+        | inr below ↦ lived-alike x y cell (onward cell step) low below
+      ]
+    ]
+      where
+        back : Leads (links_of new) (IsCellWord k i) y x
+        back = step_back k (links_of new) laws i x y (dart-at d live x cell) step
+
+    all-alike : {x : ℕ} → InOrbit (Leads (links_of new) (IsCellWord k i)) d x → id_of g i x ≡ id_of g i d
+    all-alike here = refl
+    all-alike (onward {x = x} {y = y} o st) = walked-alike x y o st ∙ all-alike o
+
+    all-joined : (c : ℕ) → id_of g i d ≡ Some c → (x : ℕ) → id_of g i x ≡ Some c → InCell k (links_of new) i d x
+    all-joined c e x f =
+        let a = origin d c e in
+        let b = origin x c f in
+        let there = (keeps a.0 b.0 (s.live i a.0 c a.2) (s.live i b.0 c b.2)).1 (s.apart i a.0 i b.0 c a.2 b.2).1 in
+        cell_trans k (links_of new) i d b.0 x (cell_trans k (links_of new) i d a.0 b.0 a.1 there) (cell_back k (links_of new) laws i x b.0 b.1)
+
+    has-one-kept : (o : Option ℕ) → id_of g i d ≡ o → ((x : ℕ) → InCell k (links_of new) i d x → id_of g i x ≡ None) ⊎ ((c : ℕ) × ((x : ℕ) → InCell k (links_of new) i d x ↔ (id_of g i x ≡ Some c)))
+    has-one-kept None e = inl (λ x cell. all-alike cell ∙ e)
+    has-one-kept (Some c) e = inr (c, λ x. ((λ cell. all-alike cell ∙ e), all-joined c e x))
+
+  pub kept-spare : KeepsCells k i (IsLive old) (links_of old) (links_of new) → (T : ℕ → Type 0) → ((x : ℕ) → IsJoinedApart k i new older g x → T x) → Spares k i new g T
+  kept-spare keeps T joined d live none = has-one-kept keeps T joined d live none (id_of g i d) refl

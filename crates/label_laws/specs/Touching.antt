@@ -40,6 +40,11 @@ abbrev pub IsBornApart : Kind → ℕ → Rows → ℕ → Labeling → ℕ → 
 IsBornApart k i rows older labels x = IsLive rows x × ((w : LinkWord) × IsCellWord k i w × (older < through (links_of rows) w x) × (through (links_of rows) w x < x)
     × (id_of labels i (through (links_of rows) w x) ≢ id_of labels i x))
 
+-- x is beyond the number `older`, and a word along which i-cells run leads it to a lesser dart with another id
+abbrev pub IsJoinedApart : Kind → ℕ → Rows → ℕ → Labeling → ℕ → Type 0
+IsJoinedApart k i rows older labels x = IsLive rows x × (older < x) × ((w : LinkWord) × IsCellWord k i w × (through (links_of rows) w x ≢ 0) × (through (links_of rows) w x < x)
+    × (id_of labels i (through (links_of rows) w x) ≢ id_of labels i x))
+
 -- The darts of T spare a dimension's other cells: each i-cell without a dart of T has no ids, or one, and is all that has it.
 abbrev pub Spares : Kind → ℕ → Rows → Labeling → (ℕ → Type 0) → Type 0
 Spares k i rows labels T = (d : ℕ) → IsLive rows d → ((x : ℕ) → InCell k (links_of rows) i d x → T x → ⊥)

@@ -1,3 +1,4 @@
+pub mod KeptCells
 pub mod Present
 pub mod SewingSteps
 pub mod InsertingSteps

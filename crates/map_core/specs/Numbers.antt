@@ -2,7 +2,7 @@
 use Rattle.std.specs.Prelude.{ℕ, ◌≡◌, ◌<◌, ◌≤◌, ◌⊎◌, Result, Ok, Err}
 use Rattle.map_kind.specs.declared.refusal.Refusal.{Refusal}
 use Rattle.map_kind.specs.declared.refusal.Refusal.TheVariants as told
-use Rattle.map_defs.specs.Kind.{Kind, beta}
+use Rattle.map_defs.specs.Kind.{Kind, alpha, beta}
 use Rattle.map_defs.specs.Rows.{Rows, IsLive}
 
 -- the live dart of a number, or no live dart has it
@@ -25,3 +25,9 @@ NamesClosingLink k n number (Err refusal) = (refusal ≡ told.BadDim) × ((n < n
 abbrev pub NamesSewingLink : Kind → ℕ → ℕ → Result ℕ Refusal → Type 0
 NamesSewingLink k n number (Ok link) = (link ≡ number) × (((n < number) ⊎ ((k ≡ beta) × (number ≡ 0))) → ⊥)
 NamesSewingLink k n number (Err refusal) = (refusal ≡ told.BadDim) × ((n < number) ⊎ ((k ≡ beta) × (number ≡ 0)))
+
+-- closing at a link keeps the i-cells: those below the link in a generalized map, and in a combinatorial map the vertices, where
+-- the link is 2
+abbrev pub IsKeptByClosing : Kind → ℕ → ℕ → Type 0
+IsKeptByClosing alpha link i = i < link
+IsKeptByClosing beta link i = (link ≡ 2) × (i ≡ 0)

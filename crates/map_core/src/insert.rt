@@ -4,6 +4,7 @@ ghost use Rattle.map_defs.specs.Rows.{links_of};
 ghost use Rattle.map_defs.specs.Laws.{Laws};
 ghost use Rattle.map_defs.specs.Edits.{Fits, after_edit};
 ghost use Rattle.machine_defs.specs.Script.{Vertex, Edge, Face};
+ghost use Rattle.valued_map.specs.Keeping.{KeepsThose};
 ghost use Rattle.map_core.specs.Calls.{Does};
 ghost use Rattle.map_core.specs.Growing.{Grows, AreLiveDarts};
 
@@ -13,12 +14,13 @@ use kind_edit::Edits;
 use link_rows::{Edit, MADE_MAX};
 use map_kind::{Dart, Done, Kind, PATH_MAX, Refusal, Refused};
 use std::alloc::Global;
+use valued_map::Kept;
 
 impl<'h, K: Edits<DIM>, H: Hook, const DIM: usize> Map<'h, K, H, DIM> {
     /// Puts a vertex on the edge of a dart. Each dart of the edge gets a new dart beyond the vertex, numbered on from those
     /// that were made in the order of the edge's darts; the answer tells them. The values of the cells are carried to the
-    /// new cells. It costs the darts of the edge, and the cells of these darts where a dimension has a rule, times a
-    /// logarithm.
+    /// new cells. It costs the darts of the edge, and the cells of these darts in the dimensions 0 and 1 where these have a rule,
+    /// times a logarithm: the faces and all cells above are kept but for the new darts in them.
     ///
     /// Refused as `NoDart` exactly where no live dart has the number, and then as `Full` exactly where more than 4,194,304
     /// darts would have been made.
@@ -29,14 +31,14 @@ impl<'h, K: Edits<DIM>, H: Hook, const DIM: usize> Map<'h, K, H, DIM> {
     {
         let dart = self.live_dart(dart)?;
         let edit = K::vertex_plan(alloc, self.links(), dart)?;
-        self.insert(alloc, &edit)
+        self.insert(alloc, &edit, Kept::FACES_AND_ABOVE)
     }
 
     /// Puts an edge into a face, from the corner of one dart to that of another. Each dart of the two corners, on all sides
     /// of the face, gets a new dart, numbered on from those that were made in the order of the corners' darts; the answer
     /// tells them. The values of the cells are carried to the new cells. It costs the darts of the two corners and those
-    /// of the face that lie between them, and the cells of the corners' darts where a dimension has a rule, times a
-    /// logarithm.
+    /// of the face that lie between them, and the cells of the corners' darts where a dimension above 0 has a rule, times a
+    /// logarithm: the vertices are kept but for the new darts in them.
     ///
     /// In a generalized map the edge parts the face where the way round it from `dart`, along link 0 and then link 1 and so on,
     /// comes to `other` along link 0. With the other dart of that corner in its place the edge is twisted, and the face stays
@@ -54,7 +56,7 @@ impl<'h, K: Edits<DIM>, H: Hook, const DIM: usize> Map<'h, K, H, DIM> {
         let dart = self.live_dart(dart)?;
         let other = self.live_dart(other)?;
         let edit = K::edge_plan(alloc, self.links(), dart, other)?;
-        self.insert(alloc, &edit)
+        self.insert(alloc, &edit, Kept::VERTICES)
     }
 
     /// Puts a face into a volume along a closed path of 1 to `PATH_MAX` darts, one at the start of each of its sides. Each dart of
@@ -80,16 +82,18 @@ impl<'h, K: Edits<DIM>, H: Hook, const DIM: usize> Map<'h, K, H, DIM> {
         }
         let darts = self.live_darts(alloc, path)?;
         let edit = K::face_plan(alloc, self.links(), &darts)?;
-        self.insert(alloc, &edit)
+        self.insert(alloc, &edit, Kept::NONE)
     }
 }
 
 impl<'h, K: Kind, H: Hook, const DIM: usize> Map<'h, K, H, DIM> {
-    /// Makes an edit that inserts, unless too many darts would have been made, and answers the darts that were born.
-    pub(crate) fn insert(&mut self, alloc: Global, edit: &Edit) -> Result<Done, Refused>
+    /// Makes an edit that inserts and keeps the cells of some dimensions, unless too many darts would have been made, and answers
+    /// the darts that were born.
+    pub(crate) fn insert(&mut self, alloc: Global, edit: &Edit, kept: Kept) -> Result<Done, Refused>
         requires ready { H.ready self.old.hook }
         requires fits { Fits K.kind DIM self.old.state.present.rows edit.now }
         requires laws { Laws K.kind (links_of (after_edit DIM edit.now self.old.state.present.rows)) }
+        requires kept { KeepsThose K.kind kept self.old.state.present.rows (after_edit DIM edit.now self.old.state.present.rows) }
         ensures hook { self.new.hook ≡ self.old.hook }
         ensures grows { Grows (H.hook self.old.hook) self.old.state edit.now result self.new.state }
     {
@@ -97,7 +101,7 @@ impl<'h, K: Kind, H: Hook, const DIM: usize> Map<'h, K, H, DIM> {
         if edit.births > MADE_MAX - made {
             return Err(Refused::Line(Refusal::Full));
         }
-        self.relink(alloc, edit)?;
+        self.relink(alloc, edit, kept)?;
         if edit.births == 0 {
             return Ok(Done::NONE);
         }

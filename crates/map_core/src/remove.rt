@@ -9,6 +9,7 @@ use attr_rules::Hook;
 use kind_edit::Edits;
 use map_kind::{Done, Refused};
 use std::alloc::Global;
+use valued_map::Kept;
 
 impl<'h, K: Edits<DIM>, H: Hook, const DIM: usize> Map<'h, K, H, DIM> {
     /// Removes a dart's cell of a dimension: its darts end, and the cells of the next dimension that met there become one.
@@ -30,7 +31,7 @@ impl<'h, K: Edits<DIM>, H: Hook, const DIM: usize> Map<'h, K, H, DIM> {
         let dim = self.dimension(dim)?;
         let dart = self.live_dart(dart)?;
         let edit = K::remove_plan(alloc, self.links(), dim, dart)?;
-        self.relink(alloc, &edit)?;
+        self.relink(alloc, &edit, Kept::NONE)?;
         Ok(Done::NONE)
     }
 
@@ -51,7 +52,7 @@ impl<'h, K: Edits<DIM>, H: Hook, const DIM: usize> Map<'h, K, H, DIM> {
         let dim = self.dimension(dim)?;
         let dart = self.live_dart(dart)?;
         let edit = K::contract_plan(alloc, self.links(), dim, dart)?;
-        self.relink(alloc, &edit)?;
+        self.relink(alloc, &edit, Kept::NONE)?;
         Ok(Done::NONE)
     }
 

@@ -11,6 +11,7 @@ use link_rows::Links;
 use map_kind::{Done, Kind, Refusal, Refused};
 use sewing::{sew_plan, sewable, unsew_plan};
 use std::alloc::Global;
+use valued_map::Kept;
 
 impl<'h, K: Kind, H: Hook, const DIM: usize> Map<'h, K, H, DIM> {
     /// Sews two darts at a link: the link of the first becomes the second, the inverse link of the second becomes the
@@ -30,7 +31,7 @@ impl<'h, K: Kind, H: Hook, const DIM: usize> Map<'h, K, H, DIM> {
         let dart = self.live_dart(dart)?;
         let other = self.live_dart(other)?;
         let edit = sew_plan(alloc, self.links(), link, dart, other)?;
-        self.relink(alloc, &edit)?;
+        self.relink(alloc, &edit, Kept::NONE)?;
         Ok(Done::NONE)
     }
 
@@ -49,7 +50,7 @@ impl<'h, K: Kind, H: Hook, const DIM: usize> Map<'h, K, H, DIM> {
         let link = sewing_link(self.links(), link)?;
         let dart = self.live_dart(dart)?;
         let edit = unsew_plan(alloc, self.links(), link, dart)?;
-        self.relink(alloc, &edit)?;
+        self.relink(alloc, &edit, Kept::NONE)?;
         Ok(Done::NONE)
     }
 

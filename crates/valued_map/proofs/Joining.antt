@@ -18,8 +18,10 @@ use Rattle.store_defs.specs.Labelings.{Labeling, id_of, IsRelabelled, KeepsIds, 
 use Rattle.store_defs.specs.Groups.{darts_in, rule_at}
 use Rattle.label_laws.specs.Maps.{IsStoredMap}
 use Rattle.label_laws.specs.Stored.{AreStored}
-use Rattle.label_laws.specs.Touching.{AreGrafted, IsBornApart, Spares}
-use Rattle.label_laws.proofs.Sparing.{settled-spare}
+use Rattle.label_laws.specs.Touching.{AreGrafted, IsBornApart, IsJoinedApart, Spares}
+use Rattle.label_laws.proofs.Sparing.{settled-spare, kept-spare}
+use Rattle.valued_map.specs.declared.kept.Kept.{Kept}
+use Rattle.valued_map.specs.Keeping.{IsKept, KeepsThose}
 use Rattle.valued_map.specs.Changing.{AreAdded, LeadsApart, IsChangedIn}
 use Rattle.valued_map.proofs.Adding.{added-then, added-told, lived, long}
 use Rattle.valued_map.proofs.Rerouting.{AreChangedBelow, word-within}
@@ -39,29 +41,42 @@ leading-within k n rows sound w x leads =
 
 -- a dart more was given an id, or not, and was looked at
 pub born-more : (k : Kind) (i : ℕ) (rows : Rows) (older : ℕ) (l m : Labeling) (number : ℕ) → ((j d : ℕ) → d ≢ number → id_of m j d ≡ id_of l j d) → (xs ys zs : List ℕ)
-    → AreAdded rows (λ x. (x < number) × IsBornApart k i rows older l x) xs ys → AreAdded rows (λ x. (x ≡ number) × LeadsApart k i rows m x) ys zs
-    → AreAdded rows (λ x. (x < number + 1) × IsBornApart k i rows older m x) xs zs
+    → AreAdded rows (λ x. (x < number) × IsJoinedApart k i rows older l x) xs ys → AreAdded rows (λ x. (x ≡ number) × LeadsApart k i rows m x) ys zs
+    → AreAdded rows (λ x. (x < number + 1) × IsJoinedApart k i rows older m x) xs zs
 born-more k i rows older l m number others xs ys zs before more =
-    added-told rows (λ x. ((x < number) × IsBornApart k i rows older l x) ⊎ ((x ≡ number) × LeadsApart k i rows m x)) (λ x. (x < number + 1) × IsBornApart k i rows older m x) xs zs told
-    (added-then rows (λ x. (x < number) × IsBornApart k i rows older l x) (λ x. (x ≡ number) × LeadsApart k i rows m x) xs ys zs before more)
+    added-told rows (λ x. ((x < number) × IsJoinedApart k i rows older l x) ⊎ ((x ≡ number) × LeadsApart k i rows m x)) (λ x. (x < number + 1) × IsJoinedApart k i rows older m x) xs zs told
+    (added-then rows (λ x. (x < number) × IsJoinedApart k i rows older l x) (λ x. (x ≡ number) × LeadsApart k i rows m x) xs ys zs before more)
   where
-    told : (x : ℕ) → (x < number + 1) × IsBornApart k i rows older m x → IsLive rows x → ((x < number) × IsBornApart k i rows older l x) ⊎ ((x ≡ number) × LeadsApart k i rows m x)
-    told x (below, (live, (v, cell, high, less, apart))) _ = elim (cases_eq x number) [
-      | inl same ↦ inr (same, (v, cell, ((λ none. let up : older < 0 = subst (λ (z : ℕ). older < z) none high in omega arith), less, apart)))
+    told : (x : ℕ) → (x < number + 1) × IsJoinedApart k i rows older m x → IsLive rows x → ((x < number) × IsJoinedApart k i rows older l x) ⊎ ((x ≡ number) × LeadsApart k i rows m x)
+    told x (below, (live, high, (v, cell, there, less, apart))) _ = elim (cases_eq x number) [
+      | inl same ↦ inr (same, (v, cell, (there, less, apart)))
       | inr other ↦ inl (
         omega arith,
         (
           live,
+          high,
           (
             v,
             cell,
-            high,
+            there,
             less,
             λ alike. apart (others i (through (links_of rows) v x) (λ same. let under : number < x = subst (λ (z : ℕ). z < x) same less in omega arith) ∙ alike ∙ sym (others i x other)),
           ),
         ),
       )
     ]
+
+-- a dart that was born and lies apart from a lesser one that was born too joined apart
+pub apart-joined : (k : Kind) (i : ℕ) (rows : Rows) (older : ℕ) (l : Labeling) (x : ℕ) → IsBornApart k i rows older l x → IsJoinedApart k i rows older l x
+apart-joined k i rows older l x (live, (v, cell, high, less, apart)) = (
+  live,
+  omega (arith, high, less),
+  (v, cell, (λ none. let up : older < 0 = subst (λ (z : ℕ). older < z) none high in omega arith), less, apart),
+)
+
+-- where no dart that was born has an id, none lies apart from another one that was born
+pub bare-alike : (k : Kind) (i : ℕ) (rows : Rows) (older : ℕ) (l : Labeling) → ((d : ℕ) → older < d → id_of l i d ≡ None) → (x : ℕ) → IsBornApart k i rows older l x → ⊥
+bare-alike k i rows older l bare x (live, (v, cell, high, less, apart)) = apart (bare (through (links_of rows) v x) high ∙ sym (bare x (omega (arith, high, less))))
 
 module _ (k : Kind) (rows : Rows) (older : ℕ) where
   pub grafts-none : (Dims : ℕ → Type 0) (l : Labeling) → AreGrafted k rows older Dims l l
@@ -118,40 +133,45 @@ module _ (k : Kind) (rows : Rows) (older : ℕ) where
       ]
 
 -- a dimension in which the ids stay has the same darts changed
-pub changed-alike : (k : Kind) (n : ℕ) (e : Edit) (rows : Rows) (rules : List (Option Rule)) (l m : Labeling) (i : ℕ) → ((d : ℕ) → id_of m i d ≡ id_of l i d)
-    → (x : ℕ) → IsChangedIn k n e rows rules m i x → IsChangedIn k n e rows rules l i x
-changed-alike k n e rows rules l m i same x (ruled, inl (old, led, w, wn, (before, after, (v, cell, moved, unsettled)))) = (
+pub changed-alike : (k : Kind) (n : ℕ) (e : Edit) (rows : Rows) (rules : List (Option Rule)) (kept : Kept) (l m : Labeling) (i : ℕ) → ((d : ℕ) → id_of m i d ≡ id_of l i d)
+    → (x : ℕ) → IsChangedIn k n e rows rules kept m i x → IsChangedIn k n e rows rules kept l i x
+changed-alike k n e rows rules kept l m i same x (ruled, inl (loose, (old, led, w, wn, (before, after, (v, cell, moved, unsettled))))) = (
   ruled,
   inl (
-    old,
-    led,
-    w,
-    wn,
+    loose,
     (
-      before,
-      after,
+      old,
+      led,
+      w,
+      wn,
       (
-        v,
-        cell,
-        moved,
-        λ s. unsettled (record {
-          alike = λ there. same (through (links_of rows) v x) ∙ s.alike there ∙ sym (same x);
-          kept = s.kept;
-        }),
+        before,
+        after,
+        (
+          v,
+          cell,
+          moved,
+          λ s. unsettled (record {
+            alike = λ there. same (through (links_of rows) v x) ∙ s.alike there ∙ sym (same x);
+            kept = s.kept;
+          }),
+        ),
       ),
     ),
   ),
 )
-changed-alike k n e rows rules l m i same x (ruled, inr (live, (v, cell, high, less, apart))) =
-    (ruled, inr (live, (v, cell, high, less, λ alike. apart (same (through (links_of rows) v x) ∙ alike ∙ sym (same x)))))
+changed-alike k n e rows rules kept l m i same x (ruled, inr (inl (live, (v, cell, high, less, apart)))) =
+    (ruled, inr (inl (live, (v, cell, high, less, λ alike. apart (same (through (links_of rows) v x) ∙ alike ∙ sym (same x))))))
+changed-alike k n e rows rules kept l m i same x (ruled, inr (inr (keeps, (live, high, (v, cell, there, less, apart))))) =
+    (ruled, inr (inr (keeps, (live, high, (v, cell, there, less, λ alike. apart (same (through (links_of rows) v x) ∙ alike ∙ sym (same x)))))))
 
 -- and so the lists of the dimensions before stay right where darts are given ids of one dimension
-pub changed-later : (k : Kind) (n : ℕ) (e : Edit) (rows : Rows) (rules : List (Option Rule)) (older : ℕ) (l m : Labeling) (dim : ℕ) (lists : List (List ℕ))
-    → AreGrafted k rows older (λ i. (i ≡ dim) × IsSome (rule_at rules i)) l m → AreChangedBelow k n e rows rules l dim lists → AreChangedBelow k n e rows rules m dim lists
-changed-later k n e rows rules older l m dim lists grafts a = record {
+pub changed-later : (k : Kind) (n : ℕ) (e : Edit) (rows : Rows) (rules : List (Option Rule)) (kept : Kept) (older : ℕ) (l m : Labeling) (dim : ℕ) (lists : List (List ℕ))
+    → AreGrafted k rows older (λ i. (i ≡ dim) × IsSome (rule_at rules i)) l m → AreChangedBelow k n e rows rules kept l dim lists → AreChangedBelow k n e rows rules kept m dim lists
+changed-later k n e rows rules kept older l m dim lists grafts a = record {
   size = a.size;
   only = a.only;
-  all = λ i x low wanted. a.all i x low (changed-alike k n e rows rules l m i (same i low) x wanted);
+  all = λ i x low wanted. a.all i x low (changed-alike k n e rows rules kept l m i (same i low) x wanted);
 }
   where
     same : (i : ℕ) → i < dim → (d : ℕ) → id_of m i d ≡ id_of l i d
@@ -189,15 +209,28 @@ module _ (k : Kind) (n : ℕ) (e : Edit) (old rows : Rows) (led : IsLed k n e ol
   pub before-made : made rows - e.births ≡ made old
   before-made = let more = long k n e old rows led in let begun = led.begun in omega (arith, more)
 
+-- a dimension is one of those whose cells are kept, or not
+pub kept-or-not : (kept : Kept) (i : ℕ) → IsKept kept i ⊎ (IsKept kept i → ⊥)
+kept-or-not kept i = elim (cases_lt i kept.from) [
+  | inl before ↦ inr (λ (from, to). omega (arith, before))
+  | inr after ↦ elim (cases_lt i kept.to) [
+    | inl within ↦ inl (omega (arith, after), within)
+    | inr beyond ↦ inr (λ (from, to). omega (arith, beyond))
+  ]
+]
+
 -- The listed darts spare the other cells.
-pub changed-spare : (k : Kind) (n : ℕ) (e : Edit) (rows : Rows) (rules : List (Option Rule)) (l g : Labeling) (lists : List (List ℕ))
+pub changed-spare : (k : Kind) (n : ℕ) (e : Edit) (rows : Rows) (rules : List (Option Rule)) (kept : Kept) (l g : Labeling) (lists : List (List ℕ))
     → AreGrafted k rows (made rows - e.births) (λ i. IsSome (rule_at rules i)) l g
-    → ((i x : ℕ) → IsChangedIn k n e rows rules g i x → Contains (darts_in lists i) x)
-    → (old : Rows) (pool : Store) → IsLed k n e old rows → IsStoredMap k n old l pool rules → Laws k (links_of rows) → (i : ℕ) → IsSome (rule_at rules i)
-    → Spares k i rows g (Contains (darts_in lists i))
-changed-spare k n e rows rules l g lists grafts all old pool led stored laws i ruled =
-    settled-spare k n i old rows stored.laws laws (led-sound k n e old rows led) l pool stored.stored (made rows - e.births) first was (λ j. IsSome (rule_at rules j)) g grafts (Contains (darts_in lists i))
-    (λ x unsettled. all i x (ruled, inl (old, led, stored.laws, laws, unsettled))) (λ x apart. all i x (ruled, inr apart))
+    → ((i x : ℕ) → IsChangedIn k n e rows rules kept g i x → Contains (darts_in lists i) x)
+    → (old : Rows) (pool : Store) → IsLed k n e old rows → IsStoredMap k n old l pool rules → KeepsThose k kept old rows → Laws k (links_of rows)
+    → (i : ℕ) → IsSome (rule_at rules i) → Spares k i rows g (Contains (darts_in lists i))
+changed-spare k n e rows rules kept l g lists grafts all old pool led stored keeps laws i ruled = elim (kept-or-not kept i) [
+  | inl here ↦ kept-spare k n i old rows stored.laws laws (led-sound k n e old rows led) l pool stored.stored (made rows - e.births) first was (λ j. IsSome (rule_at rules j)) g grafts
+      (keeps i here) (Contains (darts_in lists i)) (λ x joined. all i x (ruled, inr (inr (here, joined))))
+  | inr loose ↦ settled-spare k n i old rows stored.laws laws (led-sound k n e old rows led) l pool stored.stored (made rows - e.births) first was (λ j. IsSome (rule_at rules j)) g grafts
+      (Contains (darts_in lists i)) (λ x unsettled. all i x (ruled, inl (loose, (old, led, stored.laws, laws, unsettled)))) (λ x apart. all i x (ruled, inr (inl apart)))
+]
   where
     first : (x : ℕ) → IsLive old x → x ≤ made rows - e.births
     first x live = let at = live-within old x live in let more = long k n e old rows led in let begun = led.begun in omega (arith, more)

@@ -15,6 +15,7 @@ use Rattle.link_laws.proofs.RowFacts.{rows_dimension, rows_lead_to_live}
 use Rattle.map_defs.specs.Values.{Rule}
 use Rattle.store_defs.specs.Labelings.{Labeling}
 use Rattle.label_laws.specs.Touching.{IsSettledAlong, IsUnsettled}
+use Rattle.valued_map.specs.declared.kept.Kept.{Kept}
 use Rattle.valued_map.specs.Changing.{IsUnsettledAt, IsFollowed, IsUnsettledFrom, IsChangedIn}
 use Rattle.valued_map.proofs.DimLists.{AreListedBelow}
 use Rattle.valued_map.proofs.Heads.{among-more}
@@ -190,5 +191,5 @@ none-unsettled k n e rows i labels sound older made-is none x (old, led, w, wn, 
     none c (a.0, a.1, get_or_default e.changes a.0 c no_change a.1) (omega (arith, stays, made-is)) a.2.1 (followed-at k n e rows i labels c x a.2)
 
 -- the darts changed in each of the first dimensions, by the lists of these
-abbrev pub AreChangedBelow : Kind → ℕ → Edit → Rows → List (Option Rule) → Labeling → ℕ → List (List ℕ) → Type 0
-AreChangedBelow k n e rows rules labels = AreListedBelow (λ i. IsLive rows) (IsChangedIn k n e rows rules labels)
+abbrev pub AreChangedBelow : Kind → ℕ → Edit → Rows → List (Option Rule) → Kept → Labeling → ℕ → List (List ℕ) → Type 0
+AreChangedBelow k n e rows rules kept labels = AreListedBelow (λ i. IsLive rows) (IsChangedIn k n e rows rules kept labels)

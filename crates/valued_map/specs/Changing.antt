@@ -8,7 +8,9 @@ use Rattle.map_defs.specs.Edits.{Change, Edit, IsLed}
 use Rattle.map_defs.specs.Values.{Rule}
 use Rattle.store_defs.specs.Labelings.{Labeling, id_of}
 use Rattle.store_defs.specs.Groups.{rule_at, darts_in}
-use Rattle.label_laws.specs.Touching.{IsSettledAlong, IsUnsettled, IsBornApart}
+use Rattle.label_laws.specs.Touching.{IsSettledAlong, IsUnsettled, IsBornApart, IsJoinedApart}
+use Rattle.valued_map.specs.declared.kept.Kept.{Kept}
+use Rattle.valued_map.specs.Keeping.{IsKept}
 
 -- The darts that meet Wanted and are live were added, and no dart that is not live.
 pub record AreAdded (rows : Rows) (Wanted : ℕ → Type 0) (old new : List ℕ) : Type 0 where
@@ -62,7 +64,12 @@ IsApartFrom rows labels i Words lesser x = (id_of labels i lesser ≢ id_of labe
 abbrev pub LeadsApart : Kind → ℕ → Rows → Labeling → ℕ → Type 0
 LeadsApart k i rows labels x = (w : LinkWord) × IsCellWord k i w × IsApartAlong rows labels i w x
 
--- the dimension has a rule, and x is not settled there, or was born and lies apart
-abbrev pub IsChangedIn : Kind → ℕ → Edit → Rows → List (Option Rule) → Labeling → ℕ → ℕ → Type 0
-IsChangedIn k n e rows rules labels i x = IsSome (rule_at rules i)
-    × (IsUnsettledFrom k n e rows i labels x ⊎ IsBornApart k i rows (made rows - e.births) labels x)
+-- x is not settled, unless the cells of the dimension are kept; or it was born and lies apart; or where they are kept, it was born
+-- and joined apart
+abbrev pub IsMovedIn : Kind → ℕ → Edit → Rows → Kept → Labeling → ℕ → ℕ → Type 0
+IsMovedIn k n e rows kept labels i x = ((IsKept kept i → ⊥) × IsUnsettledFrom k n e rows i labels x)
+    ⊎ (IsBornApart k i rows (made rows - e.births) labels x ⊎ (IsKept kept i × IsJoinedApart k i rows (made rows - e.births) labels x))
+
+-- and the dimension has a rule
+abbrev pub IsChangedIn : Kind → ℕ → Edit → Rows → List (Option Rule) → Kept → Labeling → ℕ → ℕ → Type 0
+IsChangedIn k n e rows rules kept labels i x = IsSome (rule_at rules i) × IsMovedIn k n e rows kept labels i x

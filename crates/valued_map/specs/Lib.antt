@@ -7,3 +7,4 @@ pub mod Told
 pub mod SameRules
 pub mod TakingDual
 pub mod Holding
+pub mod Keeping

@@ -9,8 +9,10 @@ ghost use Rattle.store_defs.specs.Groups.{group_at, rule_at, darts_in, HasCarrie
 ghost use Rattle.label_laws.specs.Maps.{IsStoredMap};
 ghost use Rattle.label_laws.specs.Stored.{AreSmall};
 ghost use Rattle.label_laws.specs.Touching.{AreGrafted, AreAllTouched};
+ghost use Rattle.valued_map.specs.Keeping.{KeepsThose};
 
 use crate::changed::changed_darts;
+use crate::kept::Kept;
 use crate::rules::has_places;
 use attr_pool::{Labels, Pool};
 use attr_rules::Hook;
@@ -29,16 +31,17 @@ pub(crate) fn carried<K: Kind, H: Hook, const DIM: usize>(
     rules: &RuleRow,
     hook: &H,
     edit: &Edit,
+    kept: Kept,
 ) -> Result<Vec<Group>, AllocError>
     requires ready { H.ready hook.now }
     requires led { (old : Rows) × IsLed K.kind DIM edit.now old links.now.rows
-        × IsStoredMap K.kind DIM old labels.old pool.old rules.now }
+        × IsStoredMap K.kind DIM old labels.old pool.old rules.now × KeepsThose K.kind kept old links.now.rows }
     requires long { made links.now.rows ≤ labels.old.made }
     requires laws { Laws K.kind (links_of links.now.rows) }
     ensures grafted { (old : Rows) → IsLed K.kind DIM edit.now old links.now.rows
         → AreGrafted K.kind links.now.rows (made old) (λ i. IsSome (rule_at rules.now i)) labels.old labels.new }
     ensures cells { IfOk result (λ groups. (old : Rows) → IsLed K.kind DIM edit.now old links.now.rows
-        → IsStoredMap K.kind DIM old labels.old pool.old rules.now
+        → IsStoredMap K.kind DIM old labels.old pool.old rules.now → KeepsThose K.kind kept old links.now.rows
         → AreAllTouched K.kind links.now.rows rules.now labels.new groups.items) }
     ensures values { IfOk result (λ groups. (n : ℕ) → n < length groups.items
         → HasCarriedValue K.kind (links_of links.now.rows) (IsLive links.now.rows) (id_of labels.new) pool.old
@@ -50,7 +53,7 @@ pub(crate) fn carried<K: Kind, H: Hook, const DIM: usize>(
     if !has_places(rules) {
         return Ok(Vec::new(alloc));
     }
-    let changed = changed_darts(alloc, links, labels, rules, edit)?;
+    let changed = changed_darts(alloc, links, labels, rules, edit, kept)?;
     see_values(pool);
     if is_empty(&changed) {
         return Ok(Vec::new(alloc));

@@ -11,10 +11,12 @@ ghost use Rattle.label_laws.specs.Maps.{IsStoredMap};
 ghost use Rattle.label_laws.specs.Contents.{IsCarriedOn};
 ghost use Rattle.label_laws.specs.Stored.{AreSmall};
 ghost use Rattle.label_laws.specs.Touching.{AreGrafted, AreAllTouched};
+ghost use Rattle.valued_map.specs.Keeping.{KeepsThose};
 ghost use Rattle.valued_map.specs.Told.{AreOldValues, IsBegun, IsRevaluedPlace, IsStep, finished};
 
 use crate::carrying::carried;
 use crate::ids::{end_ids, relabel};
+use crate::kept::Kept;
 use crate::map::ValuedMap;
 use crate::told::{begin_step, finish_step, new_values, old_values, renewed};
 use attr_pool::{Labels, Pool};
@@ -80,19 +82,21 @@ impl<K: Kind, const DIM: usize> ValuedMap<K, DIM> {
         Ok(())
     }
 
-    /// Makes an edit and carries the values to the new cells. The step is answered where it is asked for. Where memory is
-    /// wanting, the edit is taken back.
+    /// Makes an edit, which keeps the cells of some dimensions, and carries the values to the new cells. The step is answered
+    /// where it is asked for. Where memory is wanting, the edit is taken back.
     pub fn relink<H: Hook>(
         &mut self,
         alloc: Global,
         hook: &H,
         edit: &Edit,
+        kept: Kept,
         asked: bool,
     ) -> Result<Option<Step>, AllocError>
         requires ready { H.ready hook.now }
         requires fits { Fits K.kind DIM self.old.content.rows edit.now }
         requires laws { Laws K.kind (links_of (after_edit DIM edit.now self.old.content.rows)) }
         requires few { made self.old.content.rows + edit.now.births ≤ MADE_MAX }
+        requires kept { KeepsThose K.kind kept self.old.content.rows (after_edit DIM edit.now self.old.content.rows) }
         ensures carried { OnOk result (IsCarriedOn (H.hook hook.now) self.old.content (after_edit DIM edit.now self.old.content.rows) self.new.content) }
         ensures step { IfOk result (λ step. IsStep asked self.old.content self.new.content step) }
         ensures err { OnErr result (self.new.content ≡ self.old.content) }
@@ -100,27 +104,29 @@ impl<K: Kind, const DIM: usize> ValuedMap<K, DIM> {
         ensures room { OnOk result (live_count self.old.content.rows + (made self.new.content.rows - made self.old.content.rows) ≤ self.new.places) }
     {
         if !asked {
-            self.put_links(alloc, hook, edit, asked)?;
+            self.put_links(alloc, hook, edit, kept, asked)?;
             return Ok(None);
         }
         let draft = begin_step(alloc, self.links.made(), edit, asked)?;
-        let values = self.put_links(alloc, hook, edit, asked)?;
+        let values = self.put_links(alloc, hook, edit, kept, asked)?;
         Ok(finish_step(draft, values, Vec::new(alloc)))
     }
 
-    /// Makes an edit and carries the values to the new cells. It answers the values that are others then, where they are asked
-    /// for. Where memory is wanting, the edit is taken back.
+    /// Makes an edit, which keeps the cells of some dimensions, and carries the values to the new cells. It answers the values
+    /// that are others then, where they are asked for. Where memory is wanting, the edit is taken back.
     fn put_links<H: Hook>(
         &mut self,
         alloc: Global,
         hook: &H,
         edit: &Edit,
+        kept: Kept,
         asked: bool,
     ) -> Result<Vec<ValueChange>, AllocError>
         requires ready { H.ready hook.now }
         requires fits { Fits K.kind DIM self.old.content.rows edit.now }
         requires laws { Laws K.kind (links_of (after_edit DIM edit.now self.old.content.rows)) }
         requires few { made self.old.content.rows + edit.now.births ≤ MADE_MAX }
+        requires kept { KeepsThose K.kind kept self.old.content.rows (after_edit DIM edit.now self.old.content.rows) }
         ensures carried { OnOk result (IsCarriedOn (H.hook hook.now) self.old.content (after_edit DIM edit.now self.old.content.rows) self.new.content) }
         ensures told { IfOk result (λ values. (draft : Option Difference) → IsBegun asked (made self.old.content.rows) edit.now draft
             → IsStep asked self.old.content self.new.content (finished draft values.items [])) }
@@ -142,6 +148,7 @@ impl<K: Kind, const DIM: usize> ValuedMap<K, DIM> {
             &self.rules,
             hook,
             edit,
+            kept,
             asked,
         ) {
             Ok((groups, olds)) => {
@@ -221,17 +228,18 @@ fn moved<K: Kind, H: Hook, const DIM: usize>(
     rules: &RuleRow,
     hook: &H,
     edit: &Edit,
+    kept: Kept,
     asked: bool,
 ) -> Result<(Vec<Group>, Vec<ValueChange>), AllocError>
     requires ready { H.ready hook.now }
     requires led { (old : Rows) × IsLed K.kind DIM edit.now old links.now.rows
-        × IsStoredMap K.kind DIM old labels.old pool.old rules.now }
+        × IsStoredMap K.kind DIM old labels.old pool.old rules.now × KeepsThose K.kind kept old links.now.rows }
     requires long { made links.now.rows ≤ labels.old.made }
     requires laws { Laws K.kind (links_of links.now.rows) }
     ensures grafted { (old : Rows) → IsLed K.kind DIM edit.now old links.now.rows
         → AreGrafted K.kind links.now.rows (made old) (λ i. IsSome (rule_at rules.now i)) labels.old labels.new }
     ensures cells { IfOk result (λ moved. (old : Rows) → IsLed K.kind DIM edit.now old links.now.rows
-        → IsStoredMap K.kind DIM old labels.old pool.old rules.now
+        → IsStoredMap K.kind DIM old labels.old pool.old rules.now → KeepsThose K.kind kept old links.now.rows
         → AreAllTouched K.kind links.now.rows rules.now labels.new moved.0.items) }
     ensures values { IfOk result (λ moved. (n : ℕ) → n < length moved.0.items
         → HasCarriedValue K.kind (links_of links.now.rows) (IsLive links.now.rows) (id_of labels.new) pool.old
@@ -243,7 +251,7 @@ fn moved<K: Kind, H: Hook, const DIM: usize>(
         → IsStoredMap K.kind DIM old labels.old pool.old rules.now
         → AreOldValues (IsRevaluedPlace DIM (made old) edit.now moved.0.items) labels.old pool.new moved.1.items) }
 {
-    let groups = carried(alloc, links, labels, pool, rules, hook, edit)?;
+    let groups = carried(alloc, links, labels, pool, rules, hook, edit, kept)?;
     if !asked {
         return Ok((groups, Vec::new(alloc)));
     }

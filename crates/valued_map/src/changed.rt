@@ -6,9 +6,10 @@ ghost use Rattle.map_defs.specs.Rows.{IsLive, IsSound, links_of, made};
 ghost use Rattle.map_defs.specs.Cells.{InCell};
 ghost use Rattle.store_defs.specs.Labelings.{id_of, HasPlaces};
 ghost use Rattle.store_defs.specs.Groups.{darts_in, rule_at};
-ghost use Rattle.label_laws.specs.Touching.{AreGrafted, IsBornApart};
-ghost use Rattle.valued_map.specs.Changing.{AreAdded, IsListPut, IsLowerAlong, IsApartAlong, IsApartFrom, LeadsApart, IsUnsettledFrom, IsChangedIn};
+ghost use Rattle.label_laws.specs.Touching.{AreGrafted, IsJoinedApart};
+ghost use Rattle.valued_map.specs.Changing.{AreAdded, IsListPut, IsLowerAlong, IsApartAlong, IsApartFrom, LeadsApart, IsMovedIn, IsChangedIn};
 
+use crate::kept::Kept;
 use crate::passing::may_touch;
 use crate::rules::has_rule;
 use crate::touched::{add_live, add_touched, number_along};
@@ -27,6 +28,7 @@ pub(crate) fn changed_darts<K: Kind, const DIM: usize>(
     labels: &mut Labels<DIM>,
     rules: &RuleRow,
     edit: &Edit,
+    kept: Kept,
 ) -> Result<TouchedDarts, AllocError>
     requires births { edit.now.births ≤ made links.now.rows }
     requires rules { length rules.now ≡ DIM + 1 }
@@ -36,11 +38,11 @@ pub(crate) fn changed_darts<K: Kind, const DIM: usize>(
     ensures grafted { AreGrafted K.kind links.now.rows (made links.now.rows - edit.now.births) (λ i. IsSome (rule_at rules.now i)) labels.old labels.new }
     ensures live { IfOk result (λ changed. (i x : ℕ) → Contains (darts_in changed i) x → IsLive links.now.rows x) }
     ensures all { IfOk result (λ changed. (i x : ℕ)
-        → IsChangedIn K.kind DIM edit.now links.now.rows rules.now labels.new i x → Contains (darts_in changed i) x) }
+        → IsChangedIn K.kind DIM edit.now links.now.rows rules.now kept labels.new i x → Contains (darts_in changed i) x) }
 {
     let mut by_dim = Vec::new(alloc);
     for dim in 0..links.dimension() + 1 {
-        let darts = ruled_darts(alloc, links, labels, rules, edit, dim)?;
+        let darts = ruled_darts(alloc, links, labels, rules, edit, kept, dim)?;
         if darts.is_empty() {
             continue;
         }
@@ -73,6 +75,7 @@ fn ruled_darts<K: Kind, const DIM: usize>(
     labels: &mut Labels<DIM>,
     rules: &RuleRow,
     edit: &Edit,
+    kept: Kept,
     dim: usize,
 ) -> Result<Vec<Dart>, AllocError>
     requires births { edit.now.births ≤ made links.now.rows }
@@ -83,21 +86,22 @@ fn ruled_darts<K: Kind, const DIM: usize>(
     ensures grafted { AreGrafted K.kind links.now.rows (made links.now.rows - edit.now.births) (λ i. (i ≡ dim) × IsSome (rule_at rules.now i)) labels.old labels.new }
     ensures live { IfOk result (λ changed. (x : ℕ) → Contains changed.items x → IsLive links.now.rows x) }
     ensures all { IfOk result (λ changed. (x : ℕ)
-        → IsChangedIn K.kind DIM edit.now links.now.rows rules.now labels.new dim x → Contains changed.items x) }
+        → IsChangedIn K.kind DIM edit.now links.now.rows rules.now kept labels.new dim x → Contains changed.items x) }
 {
     if !has_rule(rules, dim) {
         return Ok(Vec::new(alloc));
     }
-    changed_in(alloc, links, labels, edit, dim)
+    changed_in(alloc, links, labels, edit, kept, dim)
 }
 
-/// The darts whose cells an edit may have changed in a dimension. Where no change is of a link that words of its cells follow,
-/// no list is made.
+/// The darts whose cells an edit may have changed in a dimension. Where its cells are not kept, and no change is of a link that
+/// words of its cells follow, no list is made.
 fn changed_in<K: Kind, const DIM: usize>(
     alloc: Global,
     links: &Links<K, DIM>,
     labels: &mut Labels<DIM>,
     edit: &Edit,
+    kept: Kept,
     dim: usize,
 ) -> Result<Vec<Dart>, AllocError>
     requires births { edit.now.births ≤ made links.now.rows }
@@ -107,30 +111,29 @@ fn changed_in<K: Kind, const DIM: usize>(
     requires bare { (d : ℕ) → made links.now.rows - edit.now.births < d → id_of labels.old dim d ≡ None }
     ensures grafted { AreGrafted K.kind links.now.rows (made links.now.rows - edit.now.births) (λ i. i ≡ dim) labels.old labels.new }
     ensures live { IfOk result (λ changed. (x : ℕ) → Contains changed.items x → IsLive links.now.rows x) }
-    ensures unsettled { IfOk result (λ changed. (x : ℕ)
-        → IsUnsettledFrom K.kind DIM edit.now links.now.rows dim labels.new x → Contains changed.items x) }
-    ensures apart { IfOk result (λ changed. (x : ℕ)
-        → IsBornApart K.kind dim links.now.rows (made links.now.rows - edit.now.births) labels.new x → Contains changed.items x) }
+    ensures all { IfOk result (λ changed. (x : ℕ)
+        → IsMovedIn K.kind DIM edit.now links.now.rows kept labels.new dim x → Contains changed.items x) }
 {
     let older = links.made() - edit.births;
-    if !may_touch(links, &edit.changes, older, dim) {
+    if !kept.has(dim) && !may_touch(links, &edit.changes, older, dim) {
         return Ok(Vec::new(alloc));
     }
     if links.dimension() == 2 {
         let words = surface_words::<K>(dim);
-        return changed_along(alloc, links, labels, edit, older, dim, &words);
+        return changed_along(alloc, links, labels, edit, kept, older, dim, &words);
     }
     let words = K::words(alloc, links.dimension(), dim)?;
-    changed_along(alloc, links, labels, edit, older, dim, &words)
+    changed_along(alloc, links, labels, edit, kept, older, dim, &words)
 }
 
-/// The darts whose cells an edit may have changed in a dimension, the words of whose cells these are. The darts up to the number
-/// `older` were made before the edit.
+/// The darts whose cells an edit may have changed in a dimension, the words of whose cells these are. Where the cells are kept,
+/// these are among the darts that were born alone. The darts up to the number `older` were made before the edit.
 fn changed_along<K: Kind, const DIM: usize>(
     alloc: Global,
     links: &Links<K, DIM>,
     labels: &mut Labels<DIM>,
     edit: &Edit,
+    kept: Kept,
     older: u32,
     dim: usize,
     words: &[LinkWord],
@@ -145,13 +148,14 @@ fn changed_along<K: Kind, const DIM: usize>(
     requires words { (w : MapWord) → Contains words.now w ↔ (IsCellWord K.kind dim w × IsWithin DIM w) }
     ensures grafted { AreGrafted K.kind links.now.rows older (λ i. i ≡ dim) labels.old labels.new }
     ensures live { IfOk result (λ changed. (x : ℕ) → Contains changed.items x → IsLive links.now.rows x) }
-    ensures unsettled { IfOk result (λ changed. (x : ℕ)
-        → IsUnsettledFrom K.kind DIM edit.now links.now.rows dim labels.new x → Contains changed.items x) }
-    ensures apart { IfOk result (λ changed. (x : ℕ)
-        → IsBornApart K.kind dim links.now.rows older labels.new x → Contains changed.items x) }
+    ensures all { IfOk result (λ changed. (x : ℕ)
+        → IsMovedIn K.kind DIM edit.now links.now.rows kept labels.new dim x → Contains changed.items x) }
 {
     let mut touched = Vec::new(alloc);
     graft_born(links, labels, older, dim, words, &mut touched)?;
+    if kept.has(dim) {
+        return Ok(touched);
+    }
     add_touched(links, labels, edit, older, dim, words, &mut touched)?;
     Ok(touched)
 }
@@ -174,7 +178,7 @@ fn graft_born<K: Kind, const DIM: usize>(
     requires bare { (d : ℕ) → older < d → id_of labels.old dim d ≡ None }
     requires words { (w : MapWord) → Contains words.now w ↔ (IsCellWord K.kind dim w × IsWithin DIM w) }
     ensures grafted { AreGrafted K.kind links.now.rows older (λ i. i ≡ dim) labels.old labels.new }
-    ensures added { OnOk result (AreAdded links.now.rows (IsBornApart K.kind dim links.now.rows older labels.new) touched.old.items touched.new.items) }
+    ensures added { OnOk result (AreAdded links.now.rows (IsJoinedApart K.kind dim links.now.rows older labels.new) touched.old.items touched.new.items) }
 {
     for number in older + 1..links.made() + 1 {
         graft(links, labels, dim, words, number, touched)?;

@@ -10,6 +10,7 @@ mod change;
 mod changed;
 mod dual;
 mod ids;
+mod kept;
 mod list;
 mod load;
 mod map;
@@ -26,4 +27,5 @@ mod touched;
 mod value;
 mod way;
 
+pub use kept::Kept;
 pub use map::ValuedMap;

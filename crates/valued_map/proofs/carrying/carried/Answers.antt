@@ -17,7 +17,7 @@ pub returns-then-not-has_places-clause-grafted : goal.returns-then-not-has_place
 returns-then-not-has_places-clause-grafted g c = λ old led. grafts-none g.K.Kind.kind c.args.links.now.rows (made old) (λ i. IsSome (rule_at c.args.rules.now i)) c.args.labels.now
 
 pub returns-then-not-has_places-clause-cells : goal.returns-then-not-has_places-clause-cells
-returns-then-not-has_places-clause-cells g c = λ old led stored.
+returns-then-not-has_places-clause-cells g c = λ old led stored keeps.
     let none : c.args.rules.now ≡ [] = empty-list c.args.rules.now (λ some. let yes-there = c.has_places.ensures.1 some in cc) in
     subst (λ (gs : List Group). AreAllTouched g.K.Kind.kind c.args.links.now.rows c.args.rules.now c.args.labels.now gs) (sym c.new.ensures.items)
     (none-touched g.K.Kind.kind c.args.links.now.rows c.args.rules.now c.args.labels.now none)
@@ -64,14 +64,14 @@ returns-then-is_empty-clause-grafted g c = λ old led.
     (before-made g.K.Kind.kind g.row.DIM c.args.edit.now old c.args.links.now.rows led) c.changed_darts.ensures.grafted
 
 pub returns-then-is_empty-clause-cells : goal.returns-then-is_empty-clause-cells
-returns-then-is_empty-clause-cells g c = λ old led stored.
+returns-then-is_empty-clause-cells g c = λ old led stored keeps.
     let lists : List (List ℕ) = c.in_ok-changed.changed in
     subst (λ (gs : List Group). AreAllTouched g.K.Kind.kind c.args.links.now.rows c.args.rules.now c.changed_darts.new.labels gs) (sym c.new-then-is_empty.ensures.items) (
       darts_in lists,
       c.in_ok-changed.ensures.live,
       record { cells = λ n lt. absurd (omega arith); all = λ i t some here. absurd (c.is_empty.ensures c.if-is_empty.true i t here); ascending = λ a b _ lt. absurd (omega arith) },
-      λ i some. changed-spare g.K.Kind.kind g.row.DIM c.args.edit.now c.args.links.now.rows c.args.rules.now c.args.labels.now c.changed_darts.new.labels lists c.changed_darts.ensures.grafted c.in_ok-changed.ensures.all
-          old c.args.pool.now led stored c.requires.laws i some,
+      λ i some. changed-spare g.K.Kind.kind g.row.DIM c.args.edit.now c.args.links.now.rows c.args.rules.now c.args.kept c.args.labels.now c.changed_darts.new.labels lists c.changed_darts.ensures.grafted c.in_ok-changed.ensures.all
+          old c.args.pool.now led stored keeps c.requires.laws i some,
     )
 
 pub returns-then-is_empty-clause-small : goal.returns-then-is_empty-clause-small
@@ -97,8 +97,8 @@ carry-requires g c =
                 λ i d id live is. grafted-held g.K.Kind.kind (links_of old) (IsLive old) rows (made rows - c.args.edit.now.births) (λ j. IsSome (rule_at c.args.rules.now j)) c.args.labels.now c.changed_darts.new.labels c.args.pool.now
                     stored.stored c.changed_darts.ensures.grafted i d id is,
                 λ i ruled. spared-covered g.K.Kind.kind i rows c.changed_darts.new.labels (Contains (darts_in lists i))
-                    (changed-spare g.K.Kind.kind g.row.DIM c.args.edit.now rows c.args.rules.now c.args.labels.now c.changed_darts.new.labels lists c.changed_darts.ensures.grafted c.in_ok-changed.ensures.all
-                    old c.args.pool.now led stored c.requires.laws i ruled),
+                    (changed-spare g.K.Kind.kind g.row.DIM c.args.edit.now rows c.args.rules.now c.args.kept c.args.labels.now c.changed_darts.new.labels lists c.changed_darts.ensures.grafted c.in_ok-changed.ensures.all
+                    old c.args.pool.now led stored c.requires.led.3 c.requires.laws i ruled),
               ),
             ),
           ),
@@ -122,13 +122,13 @@ returns-clause-grafted g c = λ old led.
     (before-made g.K.Kind.kind g.row.DIM c.args.edit.now old c.args.links.now.rows led) c.changed_darts.ensures.grafted
 
 pub returns-clause-cells : goal.returns-clause-cells
-returns-clause-cells g c = λ old led stored.
+returns-clause-cells g c = λ old led stored keeps.
     let lists : List (List ℕ) = c.in_ok-changed.changed in (
       darts_in lists,
       c.in_ok-changed.ensures.live,
       c.in_ok-groups.ensures.cells,
-      λ i some. changed-spare g.K.Kind.kind g.row.DIM c.args.edit.now c.args.links.now.rows c.args.rules.now c.args.labels.now c.changed_darts.new.labels lists c.changed_darts.ensures.grafted c.in_ok-changed.ensures.all
-          old c.args.pool.now led stored c.requires.laws i some,
+      λ i some. changed-spare g.K.Kind.kind g.row.DIM c.args.edit.now c.args.links.now.rows c.args.rules.now c.args.kept c.args.labels.now c.changed_darts.new.labels lists c.changed_darts.ensures.grafted c.in_ok-changed.ensures.all
+          old c.args.pool.now led stored keeps c.requires.laws i some,
     )
 
 pub returns-then-not-has_places-clause-small : goal.returns-then-not-has_places-clause-small

@@ -1,4 +1,29 @@
+use Rattle.std.proofs.Common.{ℕ, ◌≡◌, ◌-◌, subst, inl, inr, arith}
+use Rattle.map_defs.specs.Rows.{made}
+use Rattle.label_laws.specs.Touching.{IsJoinedApart}
+use Rattle.valued_map.proofs.Joining.{apart-joined}
 use Rattle.valued_map.proofs.changed.changed_along.Goals as goal
 
-pub returns-clause-unsettled : goal.returns-clause-unsettled
-returns-clause-unsettled g c = λ x from. c.in_ok-add_touched.ensures.all x from from.4.1
+pub returns-then-has-clause-all : goal.returns-then-has-clause-all
+returns-then-has-clause-all g c = λ x moved.
+    let older-is : made c.args.links.now.rows - c.args.edit.now.births ≡ c.args.older = omega (arith, c.requires.older) in
+    let there = c.in_ok-graft_born.ensures.added.all x in elim moved [
+      | inl loose ↦ absurd (loose.0 (c.has.ensures.0 c.if-has.true))
+      | inr born ↦ elim born [
+        | inl apart ↦ there (subst (λ (o : ℕ). IsJoinedApart g.K.Kind.kind c.args.dim c.args.links.now.rows o c.graft_born.new.labels x) older-is
+            (apart-joined g.K.Kind.kind c.args.dim c.args.links.now.rows (made c.args.links.now.rows - c.args.edit.now.births) c.graft_born.new.labels x apart)) apart.0
+        | inr joined ↦ there (subst (λ (o : ℕ). IsJoinedApart g.K.Kind.kind c.args.dim c.args.links.now.rows o c.graft_born.new.labels x) older-is joined.1) joined.1.0
+      ]
+    ]
+
+pub returns-clause-all : goal.returns-clause-all
+returns-clause-all g c = λ x moved.
+    let older-is : made c.args.links.now.rows - c.args.edit.now.births ≡ c.args.older = omega (arith, c.requires.older) in
+    let there = c.in_ok-graft_born.ensures.added.all x in elim moved [
+      | inl loose ↦ c.in_ok-add_touched.ensures.all x loose.1 loose.1.4.1
+      | inr born ↦ c.in_ok-add_touched.ensures.kept x (elim born [
+        | inl apart ↦ there (subst (λ (o : ℕ). IsJoinedApart g.K.Kind.kind c.args.dim c.args.links.now.rows o c.graft_born.new.labels x) older-is
+            (apart-joined g.K.Kind.kind c.args.dim c.args.links.now.rows (made c.args.links.now.rows - c.args.edit.now.births) c.graft_born.new.labels x apart)) apart.0
+        | inr joined ↦ there (subst (λ (o : ℕ). IsJoinedApart g.K.Kind.kind c.args.dim c.args.links.now.rows o c.graft_born.new.labels x) older-is joined.1) joined.1.0
+      ])
+    ]

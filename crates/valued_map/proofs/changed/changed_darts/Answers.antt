@@ -67,8 +67,8 @@ loop-dim-preserved-then-is_empty g c =
           (λ i d. (let low : i < dim = d.0 in omega arith, d.1)) c.loop-dim.invariant.0)
           (grafts-as k rows older (λ i. (i ≡ dim) × IsSome (rule_at c.args.rules.now i)) (λ i. (i < dim + 1) × IsSome (rule_at c.args.rules.now i)) c.loop-dim.labels now
           (λ i d. (let same : i ≡ dim = d.0 in omega arith, d.1)) c.ruled_darts.ensures.grafted),
-      listed-more (λ i. IsLive rows) (IsChangedIn k g.row.DIM c.args.edit.now rows c.args.rules.now now) dim before before c.in_ok-darts.darts.items
-          (changed-later k g.row.DIM c.args.edit.now rows c.args.rules.now older c.loop-dim.labels now dim before c.ruled_darts.ensures.grafted c.loop-dim.invariant.1)
+      listed-more (λ i. IsLive rows) (IsChangedIn k g.row.DIM c.args.edit.now rows c.args.rules.now c.args.kept now) dim before before c.in_ok-darts.darts.items
+          (changed-later k g.row.DIM c.args.edit.now rows c.args.rules.now c.args.kept older c.loop-dim.labels now dim before c.ruled_darts.ensures.grafted c.loop-dim.invariant.1)
           (subst (λ (ds : List ℕ). IsListPut dim ds before before) (sym none) (put-none dim before c.loop-dim.invariant.1.size)) c.in_ok-darts.ensures.live c.in_ok-darts.ensures.all,
     )
 
@@ -86,8 +86,8 @@ loop-dim-preserved g c =
           (λ i d. (let low : i < dim = d.0 in omega arith, d.1)) c.loop-dim.invariant.0)
           (grafts-as k rows older (λ i. (i ≡ dim) × IsSome (rule_at c.args.rules.now i)) (λ i. (i < dim + 1) × IsSome (rule_at c.args.rules.now i)) c.loop-dim.labels now
           (λ i d. (let same : i ≡ dim = d.0 in omega arith, d.1)) c.ruled_darts.ensures.grafted),
-      listed-more (λ i. IsLive rows) (IsChangedIn k g.row.DIM c.args.edit.now rows c.args.rules.now now) dim before after c.in_ok-darts.darts.items
-          (changed-later k g.row.DIM c.args.edit.now rows c.args.rules.now older c.loop-dim.labels now dim before c.ruled_darts.ensures.grafted c.loop-dim.invariant.1)
+      listed-more (λ i. IsLive rows) (IsChangedIn k g.row.DIM c.args.edit.now rows c.args.rules.now c.args.kept now) dim before after c.in_ok-darts.darts.items
+          (changed-later k g.row.DIM c.args.edit.now rows c.args.rules.now c.args.kept older c.loop-dim.labels now dim before c.ruled_darts.ensures.grafted c.loop-dim.invariant.1)
           c.in_ok-put_list.ensures c.in_ok-darts.ensures.live c.in_ok-darts.ensures.all,
     )
 

@@ -1,18 +1,25 @@
-use Rattle.std.proofs.Common.{ℕ, ◌≡◌, ◌-◌, ◌↔◌, List, Contains, lit<, sym, ap, subst, ◌∙◌, arith}
+use Rattle.std.proofs.Common.{ℕ, ◌≡◌, ◌-◌, ◌↔◌, List, Contains, lit<, inl, inr, sym, ap, subst, ◌∙◌, arith}
 use Rattle.std.proofs.lemmas.Bool.{false≢true}
 use Rattle.map_defs.specs.LinkWords.{LinkWord, IsCellWord, IsWithin}
+use Rattle.map_defs.specs.Rows.{made}
 use Rattle.map_defs.specs.Edits.{Change, Edit}
 use Rattle.valued_map.proofs.Rerouting.{none-unsettled}
+use Rattle.valued_map.proofs.Joining.{bare-alike}
 use Rattle.valued_map.proofs.changed.changed_in.Goals as goal
 
-pub returns-then-not-may_touch-clause-unsettled : goal.returns-then-not-may_touch-clause-unsettled
-returns-then-not-may_touch-clause-unsettled g c = λ x from.
+pub returns-then-not-may_touch-clause-all : goal.returns-then-not-may_touch-clause-all
+returns-then-not-may_touch-clause-all g c = λ x moved.
     let births-is : c.edit.inside.births ≡ c.args.edit.now.births = ap (λ (e : Edit). e.births) c.edit.view_is in
     let older : ℕ = c.made.result - c.edit.inside.births in
     let same : c.deref.result.now ≡ c.args.edit.now.changes = c.deref.ensures.value ∙ ap (λ (e : Edit). e.changes) c.edit.view_is in
-    absurd (none-unsettled g.K.Kind.kind g.row.DIM c.args.edit.now c.args.links.now.rows c.args.dim c.args.labels.now c.made.ensures.sound older (omega (arith, c.requires.births, c.made.ensures.made, births-is))
-    (λ b here old live followed. false≢true (sym c.if-not-may_touch.true ∙ c.may_touch.ensures b (subst (λ (bs : List Change). Contains bs b) (sym same) here) old live followed))
-    x from)
+    let bare-above = c.requires.bare in
+    elim moved [
+      | inr (inl apart) ↦ absurd (bare-alike g.K.Kind.kind c.args.dim c.args.links.now.rows (made c.args.links.now.rows - c.args.edit.now.births) c.args.labels.now bare-above x apart)
+      | inr (inr joined) ↦ absurd (false≢true (sym c.if-not-has.true ∙ c.has.ensures.1 joined.0))
+      | inl loose ↦ absurd (none-unsettled g.K.Kind.kind g.row.DIM c.args.edit.now c.args.links.now.rows c.args.dim c.args.labels.now c.made.ensures.sound older (omega (arith, c.requires.births, c.made.ensures.made, births-is))
+          (λ b here old live followed. false≢true (sym c.if-not-may_touch.true ∙ c.may_touch.ensures b (subst (λ (bs : List Change). Contains bs b) (sym same) here) old live followed))
+          x loose.1)
+    ]
 
 pub changed_along-requires : goal.changed_along-requires
 changed_along-requires g c =

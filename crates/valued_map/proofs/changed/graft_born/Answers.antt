@@ -1,6 +1,6 @@
 use Rattle.std.proofs.Common.{◌≡◌, ◌+◌, ◌<◌, ◌≤◌, lit<, ◌∙◌, arith}
 use Rattle.map_defs.specs.Rows.{Rows, made}
-use Rattle.label_laws.specs.Touching.{IsBornApart}
+use Rattle.label_laws.specs.Touching.{IsJoinedApart}
 use Rattle.valued_map.proofs.Adding.{added-none, added-told}
 use Rattle.valued_map.proofs.LiveDarts.{live-made}
 use Rattle.valued_map.proofs.Joining.{grafts-none, grafts-then, born-more}
@@ -29,8 +29,8 @@ pub loop-number-init : goal.loop-number-init
 loop-number-init g c = (
   omega arith,
   grafts-none g.K.Kind.kind c.args.links.now.rows c.args.older (λ i. i ≡ c.args.dim) c.args.labels.now,
-  added-none c.args.links.now.rows (λ x. (x < c.args.older + 1) × IsBornApart g.K.Kind.kind c.args.dim c.args.links.now.rows c.args.older c.args.labels.now x) c.args.touched.now.items
-      (λ x w live. (let (below, (lives, (v, cell, high, less, apart))) = w in omega arith)),
+  added-none c.args.links.now.rows (λ x. (x < c.args.older + 1) × IsJoinedApart g.K.Kind.kind c.args.dim c.args.links.now.rows c.args.older c.args.labels.now x) c.args.touched.now.items
+      (λ x w live. (let (below, (lives, high, rest)) = w in omega (arith, below, high))),
   λ d high. c.requires.bare d (omega arith),
 )
 
@@ -58,6 +58,6 @@ pub returns-clause-added : goal.returns-clause-added
 returns-clause-added g c =
     let k = g.K.Kind.kind in
     let rows : Rows = c.args.links.now.rows in
-    added-told rows (λ x. (x < c.loop-number.number) × IsBornApart k c.args.dim rows c.args.older c.loop-number.labels x) (IsBornApart k c.args.dim rows c.args.older c.loop-number.labels)
+    added-told rows (λ x. (x < c.loop-number.number) × IsJoinedApart k c.args.dim rows c.args.older c.loop-number.labels x) (IsJoinedApart k c.args.dim rows c.args.older c.loop-number.labels)
     c.args.touched.now.items c.loop-number.touched.items
     (λ x apart live. (let low : x ≤ made rows = live-made rows x live in omega (arith, c.loop-number-test.false, c.made-number-end.ensures.made), apart)) c.loop-number.invariant.2

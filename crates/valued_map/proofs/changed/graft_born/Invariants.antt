@@ -1,11 +1,11 @@
 use Rattle.std.proofs.Common.{ℕ, ◌<◌, ◌≤◌, ◌≡◌, None}
 use Rattle.store_defs.specs.Labelings.{id_of}
-use Rattle.label_laws.specs.Touching.{AreGrafted, IsBornApart}
+use Rattle.label_laws.specs.Touching.{AreGrafted, IsJoinedApart}
 use Rattle.valued_map.specs.Changing.{AreAdded}
 use Rattle.valued_map.proofs.changed.graft_born.Given as goal
 
 abbrev pub invariant-loop-number : goal.invariant-loop-number
 invariant-loop-number g l =
     (l.older < l.number) × AreGrafted g.K.Kind.kind l.links.rows l.older (λ i. i ≡ l.dim) l.fn.labels l.labels
-    × AreAdded l.links.rows (λ x. (x < l.number) × IsBornApart g.K.Kind.kind l.dim l.links.rows l.older l.labels x) l.fn.touched.items l.touched.items
+    × AreAdded l.links.rows (λ x. (x < l.number) × IsJoinedApart g.K.Kind.kind l.dim l.links.rows l.older l.labels x) l.fn.touched.items l.touched.items
     × ((d : ℕ) → l.number ≤ d → id_of l.labels l.dim d ≡ None)

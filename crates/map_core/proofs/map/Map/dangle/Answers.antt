@@ -1,14 +1,39 @@
-use Rattle.std.proofs.Common.{ℕ, sym, ap, subst, ◌∙◌, Result, Ok, Err}
+use Rattle.std.proofs.Common.{ℕ, sym, ap, subst, ◌∙◌, Result, Ok, Err, lit<, arith}
 use Rattle.std.proofs.lemmas.Result.{err_from_is_err_and}
 use Rattle.map_kind.specs.declared.refusal.Refused.{Refused}
 use Rattle.map_kind.specs.declared.done.Done.{Done}
 use Rattle.map_defs.specs.Kind.{Kind}
-use Rattle.map_defs.specs.Rows.{Rows}
 use Rattle.machine_defs.specs.Script.{Dangle}
 use Rattle.face_center.specs.Planning.{PlansDangling}
 use Rattle.map_core.specs.Calls.{Does}
 use Rattle.map_core.proofs.HangingSteps.{dangle-does, dangle-refused}
+use Rattle.map_core.proofs.KeptCells.{Keeps, dangle-keeps}
+use Rattle.map_defs.specs.Rows.{Rows, links_of}
+use Rattle.map_defs.specs.Laws.{Laws}
 use Rattle.map_core.proofs.map.Map.dangle.Goals as goal
+
+pub insert-requires : goal.insert-requires
+insert-requires g c =
+    let k : Kind = g.K.Kind.kind in
+    let n : ℕ = g.row.DIM in
+    let rows : Rows = c.args.self.now.state.present.rows in
+    let plan : PlansDangling k n rows c.args.dart (Ok c.in_ok-edit.edit) =
+    subst (λ (r : Rows). PlansDangling k n r c.args.dart (Ok c.in_ok-edit.edit)) c.links.ensures.rows
+    (subst (λ (d : ℕ). PlansDangling k n c.links.result.now.rows d (Ok c.in_ok-edit.edit)) c.in_ok-dart.ensures.0 c.in_ok-edit.ensures) in
+    let laws : Laws k (links_of rows) = subst (λ (r : Rows). Laws k (links_of r)) c.links.ensures.rows c.links.ensures.laws in (
+      lit< tt,
+      (
+        c.requires,
+        (
+          plan.1.fits,
+          (
+            plan.1.laws,
+            λ i among. subst (Keeps k n rows c.in_ok-edit.edit) (omega (arith, among.1))
+                (dangle-keeps k n rows c.links.ensures.sound laws c.args.dart c.in_ok-dart.ensures.1 c.in_ok-edit.edit plan),
+          ),
+        ),
+      ),
+    )
 
 pub returns-in_err-edit-clause-does : goal.returns-in_err-edit-clause-does
 returns-in_err-edit-clause-does g c =

@@ -14,6 +14,7 @@ use Rattle.label_laws.specs.Stored.{AreSmall}
 use Rattle.label_laws.specs.Touching.{AreGrafted, AreAllTouched}
 use Rattle.label_laws.proofs.Making.{led, ended-within, groups-labelled, relink-stored, relink-carried}
 use Rattle.label_laws.proofs.Same.{carried-pool, content-alike}
+use Rattle.valued_map.specs.Keeping.{KeepsThose}
 use Rattle.valued_map.specs.Told.{IsStep, finished, AreOldValues, IsRevaluedPlace}
 use Rattle.valued_map.proofs.Joining.{ungrafted}
 use Rattle.label_laws.proofs.LineSteps.{stored-grown}
@@ -56,10 +57,11 @@ moved-requires g c =
     let laws = rw (← c.self.view_is) at c.requires.laws in
     let here : IsLed k n e rows c.apply.new.self.rows =
     subst (λ (r : Rows). IsLed k n e rows r) (sym is) (led k n rows e wide c.self.inside.pool rules whole fits few laws) in
+    let keeps : KeepsThose k c.args.kept rows c.apply.new.self.rows = subst (λ (r : Rows). KeepsThose k c.args.kept rows r) (sym is) (rw (← c.self.view_is) at c.requires.kept) in
     let stored = stored-grown k n rows c.self.inside.labels c.make_places.new.labels c.self.inside.pool c.self.inside.pool rules c.self.invariant c.make_places.ensures.ids c.make_places.ensures.places
     (omega (arith, grown)) refl in
     let longer : length c.apply.new.self.rows ≡ length rows + e.births = ap (λ (r : Rows). length r) is ∙ length-after n e rows in
-    (lit< tt, (lit< tt, (c.requires.ready, ((rows, here, stored), (omega (arith, longer, grown), subst (λ (r : Rows). Laws k (links_of r)) (sym is) laws)))))
+    (lit< tt, (lit< tt, (c.requires.ready, ((rows, here, stored, keeps), (omega (arith, longer, grown), subst (λ (r : Rows). Laws k (links_of r)) (sym is) laws)))))
 
 pub relabel-requires : goal.relabel-requires
 relabel-requires g c =
@@ -78,12 +80,13 @@ relabel-requires g c =
     let laws = rw (← c.self.view_is) at c.requires.laws in
     let here : IsLed k n e rows c.apply.new.self.rows =
     subst (λ (r : Rows). IsLed k n e rows r) (sym is) (led k n rows e wide c.self.inside.pool rules whole fits few laws) in
+    let keeps : KeepsThose k c.args.kept rows c.apply.new.self.rows = subst (λ (r : Rows). KeepsThose k c.args.kept rows r) (sym is) (rw (← c.self.view_is) at c.requires.kept) in
     let stored = stored-grown k n rows c.self.inside.labels c.make_places.new.labels c.self.inside.pool c.self.inside.pool rules c.self.invariant c.make_places.ensures.ids c.make_places.ensures.places
     (omega (arith, grown)) refl in
     let grafts : AreGrafted k (after_edit n e rows) (made rows) (λ i. IsSome (rule_at rules i)) c.make_places.new.labels c.moved.new.labels =
     subst (λ (r : Rows). AreGrafted k r (made rows) (λ i. IsSome (rule_at rules i)) c.make_places.new.labels c.moved.new.labels) is (c.moved.ensures.grafted rows here) in
     let touched : AreAllTouched k (after_edit n e rows) rules c.moved.new.labels c.in-Ok.groups.items =
-    subst (λ (r : Rows). AreAllTouched k r rules c.moved.new.labels c.in-Ok.groups.items) is (c.in-Ok.ensures.cells rows here stored) in
+    subst (λ (r : Rows). AreAllTouched k r rules c.moved.new.labels c.in-Ok.groups.items) is (c.in-Ok.ensures.cells rows here stored keeps) in
     let deaths : c.deref.result.now ≡ e.deaths = c.deref.ensures.value ∙ ap (λ (x : Edit). x.deaths) c.edit.view_is in
     rw (deaths, c.deref-in-Ok.ensures.value) (
       lit< tt,
@@ -116,12 +119,13 @@ invariant_of-self-in-Ok g c =
     let laws = rw (← c.self.view_is) at c.requires.laws in
     let here : IsLed k n e rows c.apply.new.self.rows =
     subst (λ (r : Rows). IsLed k n e rows r) (sym is) (led k n rows e wide c.self.inside.pool rules whole fits few laws) in
+    let keeps : KeepsThose k c.args.kept rows c.apply.new.self.rows = subst (λ (r : Rows). KeepsThose k c.args.kept rows r) (sym is) (rw (← c.self.view_is) at c.requires.kept) in
     let stored = stored-grown k n rows c.self.inside.labels c.make_places.new.labels c.self.inside.pool c.self.inside.pool rules c.self.invariant c.make_places.ensures.ids c.make_places.ensures.places
     (omega (arith, grown)) refl in
     let grafts : AreGrafted k (after_edit n e rows) (made rows) (λ i. IsSome (rule_at rules i)) c.make_places.new.labels c.moved.new.labels =
     subst (λ (r : Rows). AreGrafted k r (made rows) (λ i. IsSome (rule_at rules i)) c.make_places.new.labels c.moved.new.labels) is (c.moved.ensures.grafted rows here) in
     let touched : AreAllTouched k (after_edit n e rows) rules c.moved.new.labels c.in-Ok.groups.items =
-    subst (λ (r : Rows). AreAllTouched k r rules c.moved.new.labels c.in-Ok.groups.items) is (c.in-Ok.ensures.cells rows here stored) in
+    subst (λ (r : Rows). AreAllTouched k r rules c.moved.new.labels c.in-Ok.groups.items) is (c.in-Ok.ensures.cells rows here stored keeps) in
     let deaths : c.deref.result.now ≡ e.deaths = c.deref.ensures.value ∙ ap (λ (x : Edit). x.deaths) c.edit.view_is in
     let relabelled = rw (deaths, c.deref-in-Ok.ensures.value) at c.relabel.ensures in
     subst (λ (r : Rows). IsStoredMap k n r c.relabel.new.labels c.relabel.new.pool rules) (sym is)
@@ -171,12 +175,13 @@ returns-in-Ok-clause-carried g c =
     let laws = rw (← c.self.view_is) at c.requires.laws in
     let here : IsLed k n e rows c.apply.new.self.rows =
     subst (λ (r : Rows). IsLed k n e rows r) (sym is) (led k n rows e wide c.self.inside.pool rules whole fits few laws) in
+    let keeps : KeepsThose k c.args.kept rows c.apply.new.self.rows = subst (λ (r : Rows). KeepsThose k c.args.kept rows r) (sym is) (rw (← c.self.view_is) at c.requires.kept) in
     let stored = stored-grown k n rows c.self.inside.labels c.make_places.new.labels c.self.inside.pool c.self.inside.pool rules c.self.invariant c.make_places.ensures.ids c.make_places.ensures.places
     (omega (arith, grown)) refl in
     let grafts : AreGrafted k (after_edit n e rows) (made rows) (λ i. IsSome (rule_at rules i)) c.make_places.new.labels c.moved.new.labels =
     subst (λ (r : Rows). AreGrafted k r (made rows) (λ i. IsSome (rule_at rules i)) c.make_places.new.labels c.moved.new.labels) is (c.moved.ensures.grafted rows here) in
     let touched : AreAllTouched k (after_edit n e rows) rules c.moved.new.labels c.in-Ok.groups.items =
-    subst (λ (r : Rows). AreAllTouched k r rules c.moved.new.labels c.in-Ok.groups.items) is (c.in-Ok.ensures.cells rows here stored) in
+    subst (λ (r : Rows). AreAllTouched k r rules c.moved.new.labels c.in-Ok.groups.items) is (c.in-Ok.ensures.cells rows here stored keeps) in
     let deaths : c.deref.result.now ≡ e.deaths = c.deref.ensures.value ∙ ap (λ (x : Edit). x.deaths) c.edit.view_is in
     let relabelled = rw (deaths, c.deref-in-Ok.ensures.value) at c.relabel.ensures in
     let hook = g.H.Hook.hook c.args.hook.now in
@@ -206,12 +211,13 @@ returns-in-Ok-clause-told g c =
     let laws = rw (← c.self.view_is) at c.requires.laws in
     let here : IsLed k n e rows c.apply.new.self.rows =
     subst (λ (r : Rows). IsLed k n e rows r) (sym is) (led k n rows e wide c.self.inside.pool rules whole fits few laws) in
+    let keeps : KeepsThose k c.args.kept rows c.apply.new.self.rows = subst (λ (r : Rows). KeepsThose k c.args.kept rows r) (sym is) (rw (← c.self.view_is) at c.requires.kept) in
     let stored = stored-grown k n rows c.self.inside.labels c.make_places.new.labels c.self.inside.pool c.self.inside.pool rules c.self.invariant c.make_places.ensures.ids c.make_places.ensures.places
     (omega (arith, grown)) refl in
     let grafts : AreGrafted k (after_edit n e rows) (made rows) (λ i. IsSome (rule_at rules i)) c.make_places.new.labels c.moved.new.labels =
     subst (λ (r : Rows). AreGrafted k r (made rows) (λ i. IsSome (rule_at rules i)) c.make_places.new.labels c.moved.new.labels) is (c.moved.ensures.grafted rows here) in
     let touched : AreAllTouched k (after_edit n e rows) rules c.moved.new.labels c.in-Ok.groups.items =
-    subst (λ (r : Rows). AreAllTouched k r rules c.moved.new.labels c.in-Ok.groups.items) is (c.in-Ok.ensures.cells rows here stored) in
+    subst (λ (r : Rows). AreAllTouched k r rules c.moved.new.labels c.in-Ok.groups.items) is (c.in-Ok.ensures.cells rows here stored keeps) in
     let deaths : c.deref.result.now ≡ e.deaths = c.deref.ensures.value ∙ ap (λ (x : Edit). x.deaths) c.edit.view_is in
     let relabelled = rw (deaths, c.deref-in-Ok.ensures.value) at c.relabel.ensures in
     let values : List ValueChange = c.new_values.result.items in
