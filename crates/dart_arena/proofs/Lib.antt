@@ -7,3 +7,4 @@ pub mod Births
 pub mod Freed
 pub mod Stages
 pub mod Gathering
+pub mod RowLinks

@@ -1,13 +1,14 @@
-ghost use Rattle.std.specs.Prelude.{◌≡◌, ℕ, ◌+◌, ◌-◌, ◌^◌, ◌≤◌, ◌<◌, ◌↔◌, [], ◌∷◌, None, reverse, map, option_map, option_copied, slice_index, IsTrue, IfSome, IfNone, IsOk, OnOk, OnErr, IsErrOf};
+ghost use Rattle.std.specs.Prelude.{◌≡◌, ◌≢◌, ℕ, ◌+◌, ◌-◌, ◌^◌, ◌≤◌, ◌<◌, ◌↔◌, [], ◌∷◌, None, reverse, map, option_map, option_copied, slice_index, IsTrue, IfSome, IfNone, IsOk, OnOk, OnErr, IsErrOf};
 ghost use Rattle.map_defs.specs.Rows.{entry_of, links_of};
-ghost use Rattle.map_defs.specs.Edits.{free_row, with_births, with_entry};
+ghost use Rattle.map_defs.specs.Edits.{free_row, linked, with_births, with_entry};
+ghost use Rattle.dart_arena.specs.RowChanges.{row_changes};
 ghost use Rattle.dart_arena.specs.Stock.{made, row_at, IsLive, live_count, IsStock, born, unborn, buried, revived, IsNextLive};
 
 use crate::places::Places;
 use crate::row::Row;
 use crate::slots::{
-    entry_in, fill_rows, give_row, remove_dead, row_in, row_there, set_in_row, set_there, take_row,
-    turn_row, widen,
+    entry_in, fill_rows, give_row, put_links_in_row, remove_dead, row_in, row_there, set_in_row,
+    set_there, take_row, turn_row, widen,
 };
 use map_kind::Dart;
 use slab::Slab;
@@ -327,6 +328,18 @@ impl<const DIM: usize> Arena<DIM> {
     {
         let key = self.places.live_key(place(dart));
         set_there(&mut self.rows, key, link, to);
+    }
+
+    /// Puts those of these numbers that are not 0 at their links of a dart, if the dart is live: one that is not has no row.
+    /// The numbers stand in the order of the links, from 0 on.
+    pub fn put_links(&mut self, dart: Dart, links: &[u32])
+        requires { (link : ℕ) → slice_index links.now link ≢ 0 → link ≤ DIM }
+        ensures rows { self.new.rows ≡ linked (row_changes dart 0 links.now) self.old.rows }
+        ensures spare { self.new.spare ≡ self.old.spare }
+        ensures room { self.new.room ≡ self.old.room }
+    {
+        let key = self.places.key(place(dart));
+        put_links_in_row(&mut self.rows, key, links);
     }
 
     /// Turns each row round: entry i of each live dart becomes its entry `DIM` - i. It takes no memory, and costs a few

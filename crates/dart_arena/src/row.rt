@@ -1,5 +1,6 @@
-ghost use Rattle.std.specs.Prelude.{◌≡◌, ◌+◌, ◌≤◌, length, reverse, slice_index, slice_set};
+ghost use Rattle.std.specs.Prelude.{◌≡◌, ◌≢◌, ℕ, ◌+◌, ◌≤◌, length, reverse, slice_index, slice_set};
 ghost use Rattle.map_defs.specs.Edits.{free_row};
+ghost use Rattle.dart_arena.specs.RowChanges.{with_link, with_links};
 
 use std::marker::Model;
 
@@ -23,7 +24,7 @@ impl<const DIM: usize> Model for Row<DIM> {
 
 impl<const DIM: usize> Row<DIM> {
     /// The row of a dart without links.
-    pub(crate) fn zeros() -> Self
+    pub fn zeros() -> Self
         ensures { result ≡ free_row DIM }
     {
         Row {
@@ -43,7 +44,7 @@ impl<const DIM: usize> Row<DIM> {
     }
 
     /// How many entries there are.
-    fn width(&self) -> usize
+    pub fn width(&self) -> usize
         ensures width { result ≡ DIM + 1 }
         ensures long { length self.now ≡ DIM + 1 }
     {
@@ -63,7 +64,7 @@ impl<const DIM: usize> Row<DIM> {
     }
 
     /// Puts an entry at a link.
-    pub(crate) fn set(&mut self, link: usize, to: u32)
+    pub fn set(&mut self, link: usize, to: u32)
         requires { link ≤ DIM }
         ensures { self.new ≡ slice_set self.old link to }
     {
@@ -71,6 +72,41 @@ impl<const DIM: usize> Row<DIM> {
             self.zeroth = to;
         } else {
             self.others[link - 1] = to;
+        }
+    }
+
+    /// Puts those of these numbers that are not 0 at their links, which count from 0. So many numbers as the row is wide are
+    /// put in steps whose count is known when the program is built.
+    pub(crate) fn put_links(&mut self, links: &[u32])
+        requires { (link : ℕ) → slice_index links.now link ≢ 0 → link ≤ DIM }
+        ensures { self.new ≡ with_links 0 links.now self.old }
+    {
+        if links.len() != self.width() {
+            self.put_each(links);
+            return;
+        }
+        for link in 0..self.width() {
+            self.put_link(link, links[link]);
+        }
+    }
+
+    /// Puts those of these numbers that are not 0 at their links, which count from 0.
+    fn put_each(&mut self, links: &[u32])
+        requires { (link : ℕ) → slice_index links.now link ≢ 0 → link ≤ DIM }
+        ensures { self.new ≡ with_links 0 links.now self.old }
+    {
+        for link in 0..links.len() {
+            self.put_link(link, links[link]);
+        }
+    }
+
+    /// Puts a number at a link, unless it is 0.
+    fn put_link(&mut self, link: usize, to: u32)
+        requires { to ≢ 0 → link ≤ DIM }
+        ensures { self.new ≡ with_link link to self.old }
+    {
+        if to != 0 {
+            self.set(link, to);
         }
     }
 

@@ -1,8 +1,9 @@
 //! The rows of an arena in their slab.
-ghost use Rattle.std.specs.Prelude.{◌≡◌, ◌≢◌, ℕ, ◌+◌, ◌*◌, ◌^◌, ◌≤◌, ◌<◌, Some, None, IsSome, true, false, option_copied, length, reverse, slice_set, OnOk, OnErr};
+ghost use Rattle.std.specs.Prelude.{◌≡◌, ◌≢◌, ℕ, ◌+◌, ◌*◌, ◌^◌, ◌≤◌, ◌<◌, Some, None, IsSome, true, false, option_copied, length, reverse, slice_index, slice_set, OnOk, OnErr};
 ghost use Rattle.slab.specs.Slab.{get, slab_len, HasRoomFor};
 ghost use Rattle.map_defs.specs.Rows.{entry_of};
 ghost use Rattle.map_defs.specs.Edits.{free_row};
+ghost use Rattle.dart_arena.specs.RowChanges.{with_links};
 ghost use Rattle.dart_arena.specs.Layout.{AreFirst, IsFreed, IsTaken, IsGiven, is_in_order, keys_of, key_at, count_keys, places_capacity, row_under, rows_under, with_row};
 
 use crate::arena::MADE_MAX;
@@ -92,6 +93,17 @@ pub fn set_there<const DIM: usize>(rows: &mut Slab<Row<DIM>>, key: usize, link: 
     ensures { rows.new ≡ with_row rows.old key (λ row. slice_set row link to) }
 {
     rows[key - 1].set(link, to);
+}
+
+/// Puts those of these numbers that are not 0 at their links into the row under a key, if it is one.
+pub fn put_links_in_row<const DIM: usize>(rows: &mut Slab<Row<DIM>>, key: usize, links: &[u32])
+    requires there { key ≢ 0 → IsSome (row_under rows.old key) }
+    requires within { (link : ℕ) → slice_index links.now link ≢ 0 → link ≤ DIM }
+    ensures { rows.new ≡ with_row rows.old key (with_links 0 links.now) }
+{
+    if key != 0 {
+        rows[key - 1].put_links(links);
+    }
 }
 
 /// Turns the row under a key round, if it is one.

@@ -1,4 +1,4 @@
-use Rattle.std.proofs.Common.{length, refl, sym, arith}
+use Rattle.std.proofs.Common.{refl, sym, arith}
 use Rattle.std.proofs.lemmas.List.{append-nil}
 use Rattle.dart_arena.proofs.KeyLemmas.{keys-length}
 use Rattle.dart_arena.proofs.places.Places.push_in_order.Goals as goal
