@@ -6,7 +6,7 @@ ghost use Rattle.map_defs.specs.Edits.{after_edit, before_edit, Fits, IsLed};
 ghost use Rattle.map_defs.specs.Dual.{IsDualable, IsDual};
 ghost use Rattle.dart_arena.specs.Stock.{IsNextLive};
 
-use crate::edit::Edit;
+use crate::edit::{Edit, PlainEdit};
 use crate::{dual, steps};
 use dart_arena::{Arena, MADE_MAX, ReserveFault, Row};
 use map_kind::{Alpha, Beta, Dart, Kind};
@@ -182,12 +182,44 @@ impl<K: Kind, const DIM: usize> Links<K, DIM> {
     {
         steps::bear(&mut self.rows, edit.births);
         steps::link(&mut self.rows, &edit.changes);
+        edit.born.put_links(&mut self.rows);
         steps::bury(&mut self.rows, &edit.deaths);
     }
 
     /// Takes an edit back that led here from links that it fits, and gives those links back, with as many darts made
     /// as then. It takes no memory.
     pub fn reverse(&mut self, edit: &Edit)
+        requires led { (rows : Rows) × IsLed K.kind DIM edit.now rows self.old.rows }
+        requires room { length edit.now.deaths ≤ self.old.room + edit.now.births }
+        ensures rows { self.new.rows ≡ before_edit DIM edit.now self.old.rows }
+        ensures back { (rows : Rows) → IsLed K.kind DIM edit.now rows self.old.rows → self.new.rows ≡ rows }
+        ensures spare { self.new.spare ≡ self.old.spare + edit.now.births }
+        ensures room { self.new.room ≡ self.old.room + edit.now.births - length edit.now.deaths }
+    {
+        steps::unbear(&mut self.rows, edit.births);
+        steps::revive(&mut self.rows, &edit.deaths);
+        edit.born.free_links(&mut self.rows);
+        steps::unlink(&mut self.rows, &edit.changes);
+    }
+
+    /// Makes an edit told by changes alone, which fits. It takes no memory: room for the births was reserved.
+    pub fn apply_plain(&mut self, edit: &PlainEdit)
+        requires fits { Fits K.kind DIM self.old.rows edit.now }
+        requires spare { edit.now.births ≤ self.old.spare }
+        requires room { edit.now.births ≤ self.old.room }
+        requires few { made self.old.rows + edit.now.births ≤ MADE_MAX }
+        ensures rows { self.new.rows ≡ after_edit DIM edit.now self.old.rows }
+        ensures spare { self.new.spare ≡ self.old.spare - edit.now.births }
+        ensures room { self.new.room ≡ self.old.room - edit.now.births + length edit.now.deaths }
+    {
+        steps::bear(&mut self.rows, edit.births);
+        steps::link(&mut self.rows, &edit.changes);
+        steps::bury(&mut self.rows, &edit.deaths);
+    }
+
+    /// Takes an edit back that changes alone tell and that led here from links that it fits, and gives those links back,
+    /// with as many darts made as then. It takes no memory.
+    pub fn reverse_plain(&mut self, edit: &PlainEdit)
         requires led { (rows : Rows) × IsLed K.kind DIM edit.now rows self.old.rows }
         requires room { length edit.now.deaths ≤ self.old.room + edit.now.births }
         ensures rows { self.new.rows ≡ before_edit DIM edit.now self.old.rows }

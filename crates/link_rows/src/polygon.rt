@@ -1,14 +1,14 @@
-ghost use Rattle.std.specs.Prelude.{◌≡◌, ℕ, ◌+◌, ◌-◌, ◌*◌, ◌≤◌, ◌<◌, ◌++◌, ◌∷◌, ◌^◌, Some, [], map, IfOk, OnOk};
+ghost use Rattle.std.specs.Prelude.{◌≡◌, ℕ, ◌+◌, ◌-◌, ◌*◌, ◌≤◌, ◌<◌, ◌++◌, ◌^◌, Some, [], length, map, IfOk, OnOk};
 ghost use Rattle.map_defs.specs.Kind.{alpha};
 ghost use Rattle.map_defs.specs.Rows.{links_of, made};
 ghost use Rattle.map_defs.specs.Laws.{Laws};
 ghost use Rattle.map_defs.specs.Edits.{Fits, after_edit};
-ghost use Rattle.map_defs.specs.Polygon.{per_side, polygon_rows, side_rows, next_side, previous_side};
-ghost use Rattle.edit_laws.specs.BirthChanges.{birth_changes};
+ghost use Rattle.map_defs.specs.Polygon.{per_side, polygon_rows, row_of, side_rows, next_side, previous_side};
 
-use crate::edit::{Change, Edit};
+use crate::born::BornRows;
+use crate::edit::Edit;
 use crate::links::Links;
-use dart_arena::MADE_MAX;
+use dart_arena::{MADE_MAX, Row};
 use map_kind::{Dart, Kind};
 use std::alloc::{AllocError, Global};
 
@@ -36,67 +36,59 @@ pub fn polygon_edit<K: Kind, const DIM: usize>(
 {
     let first = links.made() + 1;
     let births = K::per_side() * sides;
-    // Each dart gets two links.
-    let mut changes = Vec::with_capacity(alloc, births as usize * 2)?;
+    let mut born = BornRows::with_room(
+        alloc,
+        Dart::new(first).unwrap(),
+        links.dimension() + 1,
+        births as usize,
+    )?;
     for side in 0..sides {
-        push_side::<K>(&mut changes, first, sides, side)?;
+        push_side::<K, DIM>(&mut born, first, sides, side)?;
     }
     Ok(Edit {
         births,
         deaths: Vec::new(alloc),
-        changes,
+        changes: Vec::new(alloc),
+        born,
     })
 }
 
-/// Appends the changes that link the darts of a polygon's side, whose darts are numbered on from `first`.
-fn push_side<K: Kind>(
-    changes: &mut Vec<Change>,
+/// Appends the rows of a polygon's side, whose darts are numbered on from `first`.
+fn push_side<K: Kind, const DIM: usize>(
+    born: &mut BornRows,
     first: u32,
     sides: u32,
     side: u32,
 ) -> Result<(), AllocError>
+    requires low { 2 ≤ DIM }
+    requires high { DIM ≤ 8 }
     requires first { 0 < first }
     requires side { side < sides }
     requires few { first + per_side K.kind * sides < 2 ^ 32 }
-    ensures { OnOk result (changes.new.items ≡ changes.old.items ++ birth_changes (first + per_side K.kind * side) (side_rows K.kind 1 first sides side)) }
+    requires width { born.old.width ≡ DIM + 1 }
+    requires begun { born.old.first ≡ first }
+    requires next { length born.old.rows ≡ per_side K.kind * side }
+    ensures { OnOk result (born.new ≡ record born.old { rows = born.old.rows ++ side_rows K.kind DIM first sides side }) }
 {
     let before = previous_side(sides, side);
     let after = next_side(sides, side);
     if K::per_side() == 1 {
-        return push_row(changes, first + side, first + before, first + after);
+        return born.push(&two_links::<DIM>(first + before, first + after));
     }
     let start = first + 2 * side;
-    let end = start + 1;
-    push_row(changes, start, end, first + 2 * before + 1)?;
-    push_row(changes, end, start, first + 2 * after)
+    born.push(&two_links::<DIM>(start + 1, first + 2 * before + 1))?;
+    born.push(&two_links::<DIM>(start, first + 2 * after))
 }
 
-/// Appends the changes that give a new dart its links 0 and 1.
-fn push_row(
-    changes: &mut Vec<Change>,
-    number: u32,
-    zeroth: u32,
-    first: u32,
-) -> Result<(), AllocError>
-    requires { 0 < number }
-    ensures { OnOk result (changes.new.items ≡ changes.old.items ++ birth_changes number ((zeroth ∷ first ∷ []) ∷ [])) }
+/// The row of a dart that is linked by links 0 and 1 alone.
+fn two_links<const DIM: usize>(zeroth: u32, first: u32) -> Row<DIM>
+    requires { 2 ≤ DIM }
+    ensures { result ≡ row_of DIM zeroth first }
 {
-    let dart = Dart::new(number).unwrap();
-    changes.push(birth_link(dart, 0, zeroth))?;
-    changes.push(birth_link(dart, 1, first))?;
-    Ok(())
-}
-
-/// The change that gives a new dart a link.
-fn birth_link(dart: Dart, link: usize, new: u32) -> Change
-    ensures { result ≡ record { dart = dart; link = link; old = 0; new = new } }
-{
-    Change {
-        dart,
-        link,
-        old: 0,
-        new,
-    }
+    let mut row = Row::zeros();
+    row.set(0, zeroth);
+    row.set(1, first);
+    row
 }
 
 /// The side before one of a face's so many sides, in a circle. Sides count from 0.

@@ -1,0 +1,229 @@
+//! The links of new darts, told by rows.
+ghost use Rattle.std.specs.Prelude.{◌≡◌, ◌≢◌, ℕ, ◌+◌, ◌≤◌, ◌<◌, ◌^◌, ◌++◌, ◌∷◌, [], length, replicate, slice_index, slice_index_or, slice_set, Contains, IsTrue, IfOk, IfSome, IsNone, OnOk};
+ghost use Rattle.std.specs.Prelude.{All};
+ghost use Rattle.map_defs.specs.Edits.{Change as LinkChange, linked, unlinked};
+ghost use Rattle.dart_arena.specs.RowChanges.{row_changes};
+ghost use Rattle.link_rows.specs.BornRows.{rows_changes};
+
+use crate::edit::{Change, LINKS_MAX};
+use dart_arena::{Arena, Row};
+use map_kind::Dart;
+use std::alloc::{AllocError, Global};
+use std::marker::Model;
+
+/// The links of new darts, which are numbered on from a first one: a row for each, with a number for each link, 0 where it
+/// is free. All rows are of one width.
+#[derive(Drop)]
+pub struct BornRows {
+    first: Dart,
+    width: usize,
+    count: usize,
+    // One row behind the other.
+    numbers: Vec<u32>,
+}
+
+impl Model for BornRows {
+    ghost use Rattle.std.specs.Prelude.{length, ◌≡◌, ◌+◌, ◌*◌, ◌^◌, ◌≤◌};
+    ghost use Rattle.link_rows.specs.BornRows.{NewRows, rows_of};
+
+    ghost Value = { NewRows };
+
+    ghost view = { λ born. record { first = born.first; width = born.width; rows = rows_of born.width born.count born.numbers.items } };
+
+    ghost invariant = { λ born.
+        (length born.numbers.items ≡ born.count * born.width) × (born.first + born.count ≤ 2 ^ 32) × (born.width ≤ 256) };
+}
+
+impl BornRows {
+    /// No rows. It takes no memory.
+    pub fn none(alloc: Global) -> Self
+        ensures { result.rows ≡ [] }
+    {
+        BornRows {
+            first: Dart::new(1).unwrap(),
+            width: 0,
+            count: 0,
+            numbers: Vec::new(alloc),
+        }
+    }
+
+    /// No rows yet of darts that are numbered on from the first, with room for so many, each so wide.
+    pub fn with_room(
+        alloc: Global,
+        first: Dart,
+        width: usize,
+        rows: usize,
+    ) -> Result<Self, AllocError>
+        requires { width ≤ LINKS_MAX }
+        ensures { IfOk result (λ born. born ≡ record { first = first; width = width; rows = [] }) }
+    {
+        Ok(BornRows {
+            first,
+            width,
+            count: 0,
+            numbers: Vec::with_capacity(alloc, rows.saturating_mul(width))?,
+        })
+    }
+
+    /// So many rows of darts that are numbered on from the first, each so wide, with all links free.
+    pub fn zeros(alloc: Global, first: Dart, width: usize, rows: usize) -> Result<Self, AllocError>
+        requires wide { width ≤ LINKS_MAX }
+        requires few { first + rows ≤ 2 ^ 32 }
+        ensures { IfOk result (λ born. born ≡ record { first = first; width = width; rows = replicate rows (replicate width 0) }) }
+    {
+        let mut numbers = Vec::new(alloc);
+        numbers.resize(rows * width, 0)?;
+        Ok(BornRows {
+            first,
+            width,
+            count: rows,
+            numbers,
+        })
+    }
+
+    /// Appends the row of the next dart.
+    pub fn push<const DIM: usize>(&mut self, row: &Row<DIM>) -> Result<(), AllocError>
+        requires width { self.old.width ≡ DIM + 1 }
+        requires few { self.old.first + length self.old.rows < 2 ^ 32 }
+        ensures { OnOk result (self.new ≡ record self.old { rows = self.old.rows ++ row.now ∷ [] }) }
+    {
+        self.numbers.reserve(row.width())?;
+        for link in 0..row.width() {
+            self.numbers.push_reserved(row.entry(link));
+        }
+        self.count += 1;
+        Ok(())
+    }
+
+    /// Puts a row in the place of another. Places count from 0.
+    pub fn put<const DIM: usize>(&mut self, place: usize, row: &Row<DIM>)
+        requires width { self.old.width ≡ DIM + 1 }
+        requires place { place < length self.old.rows }
+        ensures { self.new ≡ record self.old { rows = slice_set self.old.rows place row.now } }
+    {
+        let start = place * self.width;
+        for link in 0..row.width() {
+            self.numbers[start + link] = row.entry(link);
+        }
+    }
+
+    /// Puts a number at a link of the row at a place.
+    pub fn set(&mut self, place: usize, link: usize, to: u32)
+        requires link { link < self.old.width }
+        requires place { place < length self.old.rows }
+        ensures { self.new ≡ record self.old { rows = slice_set self.old.rows place (slice_set (slice_index_or self.old.rows place []) link to) } }
+    {
+        self.numbers[place * self.width + link] = to;
+    }
+
+    /// Whether a row may be that of a dart up to a number.
+    pub fn begin_by(&self, number: u32) -> bool
+        ensures { (c : LinkChange) → Contains (rows_changes self.now.first self.now.rows) c → c.dart ≤ number → IsTrue result }
+    {
+        self.count != 0 && self.first.number() <= number
+    }
+
+    /// Appends the changes that the rows tell.
+    pub fn append_changes(&self, changes: &mut Vec<Change>) -> Result<(), AllocError>
+        ensures { OnOk result (changes.new.items ≡ changes.old.items ++ rows_changes self.now.first self.now.rows) }
+    {
+        for place in 0..self.count {
+            append_row(self.dart_at(place), self.row_at(place), changes)?;
+        }
+        Ok(())
+    }
+
+    /// The change of a link of a dart, if there is one.
+    pub fn change_of(&self, dart: Dart, link: usize) -> Option<Change>
+        ensures some { IfSome result (λ change. Contains (rows_changes self.now.first self.now.rows) change
+            × (change.dart ≡ dart) × (change.link ≡ link)) }
+        ensures none { IsNone result → (c : LinkChange) → Contains (rows_changes self.now.first self.now.rows) c
+            → c.dart ≡ dart → c.link ≡ link → ⊥ }
+    {
+        let number = dart.number();
+        let first = self.first.number();
+        if number < first || link >= self.width {
+            return None;
+        }
+        let place = (number - first) as usize;
+        if place >= self.count {
+            return None;
+        }
+        let new = self.row_at(place)[link];
+        if new == 0 {
+            return None;
+        }
+        Some(Change::new(dart, link, 0, new))
+    }
+
+    /// Puts the links of the rows, as far as their darts are live.
+    pub(crate) fn put_links<const DIM: usize>(&self, rows: &mut Arena<DIM>)
+        requires { All (λ c. c.link ≤ DIM) (rows_changes self.now.first self.now.rows) }
+        ensures rows { rows.new.rows ≡ linked (rows_changes self.now.first self.now.rows) rows.old.rows }
+        ensures spare { rows.new.spare ≡ rows.old.spare }
+        ensures room { rows.new.room ≡ rows.old.room }
+    {
+        for place in 0..self.count {
+            rows.put_links(self.dart_at(place), self.row_at(place));
+        }
+    }
+
+    /// Frees the links of the rows, the last one first, as far as their darts are live.
+    pub(crate) fn free_links<const DIM: usize>(&self, rows: &mut Arena<DIM>)
+        requires { All (λ c. c.link ≤ DIM) (rows_changes self.now.first self.now.rows) }
+        ensures rows { rows.new.rows ≡ unlinked (rows_changes self.now.first self.now.rows) rows.old.rows }
+        ensures spare { rows.new.spare ≡ rows.old.spare }
+        ensures room { rows.new.room ≡ rows.old.room }
+    {
+        for place in (0..self.count).rev() {
+            free_row(rows, self.dart_at(place), self.row_at(place));
+        }
+    }
+
+    /// The dart of the row at a place.
+    fn dart_at(&self, place: usize) -> Dart
+        requires { place < length self.now.rows }
+        ensures { result ≡ self.now.first + place }
+    {
+        Dart::new(self.first.number() + place as u32).unwrap()
+    }
+
+    /// The numbers of the row at a place.
+    fn row_at(&self, place: usize) -> &[u32]
+        requires { place < length self.now.rows }
+        ensures row { result.now ≡ slice_index_or self.now.rows place [] }
+        ensures wide { length result.now ≡ self.now.width }
+        ensures narrow { self.now.width ≤ LINKS_MAX }
+    {
+        let start = place * self.width;
+        &self.numbers[start..start + self.width]
+    }
+}
+
+/// Appends the changes that give a new dart these links, which count from 0.
+fn append_row(dart: Dart, links: &[u32], changes: &mut Vec<Change>) -> Result<(), AllocError>
+    requires { length links.now ≤ LINKS_MAX }
+    ensures { OnOk result (changes.new.items ≡ changes.old.items ++ row_changes dart 0 links.now) }
+{
+    for link in 0..links.len() {
+        let new = links[link];
+        if new != 0 {
+            changes.push(Change::new(dart, link, 0, new))?;
+        }
+    }
+    Ok(())
+}
+
+/// Frees those of these links of a dart that are not 0, the last one first, if the dart is live.
+fn free_row<const DIM: usize>(rows: &mut Arena<DIM>, dart: Dart, links: &[u32])
+    requires { (link : ℕ) → slice_index links.now link ≢ 0 → link ≤ DIM }
+    ensures rows { rows.new.rows ≡ unlinked (row_changes dart 0 links.now) rows.old.rows }
+    ensures spare { rows.new.spare ≡ rows.old.spare }
+    ensures room { rows.new.room ≡ rows.old.room }
+{
+    for link in (0..links.len()).rev() {
+        if links[link] != 0 {
+            rows.set_entry(dart, link, 0);
+        }
+    }
+}
