@@ -9,7 +9,7 @@ ghost use Rattle.dual_map.specs.Differences.{link_changes, dart_changes, map_cha
 
 use crate::boundary::dualable;
 use crate::entries::dual_number_at;
-use link_rows::{Change, Edit, Links};
+use link_rows::{BornRows, Change, Edit, Links};
 use map_kind::{Dart, Kind, Refusal, Refused};
 use std::alloc::{AllocError, Global};
 
@@ -52,6 +52,7 @@ pub fn dual_plan<K: Kind, const DIM: usize>(
         births: 0,
         deaths: Vec::new(alloc),
         changes: dual_changes(alloc, links)?,
+        born: BornRows::none(alloc),
     })
 }
 
@@ -113,11 +114,7 @@ fn push_link<K: Kind, const DIM: usize>(
     if old == new {
         return Ok(());
     }
-    changes.push(Change {
-        dart,
-        link,
-        old,
-        new,
-    })?;
+    links.see_sound();
+    changes.push(Change::new(dart, link, old, new))?;
     Ok(())
 }

@@ -8,7 +8,7 @@ ghost use Rattle.list_text.specs.Judging.{IsSoundListing};
 ghost use Rattle.list_text.specs.Spread.{AreSpread, AreUnlisted};
 
 use crate::Listing;
-use link_rows::{Edit, LinkBuilder, Links};
+use link_rows::{LinkBuilder, Links, PlainEdit};
 use map_kind::{Dart, Kind};
 use std::alloc::{AllocError, Global};
 
@@ -29,12 +29,12 @@ pub fn listing_links<K: Kind, const DIM: usize>(
     ensures laws { IfOk result (λ links. Laws K.kind (links_of links.rows)) }
 {
     let mut links = spread_links::<K, DIM>(alloc, listing)?;
-    let edit = Edit {
+    let edit = PlainEdit {
         births: 0,
         deaths: unlisted_darts(alloc, listing)?,
         changes: Vec::new(alloc),
     };
-    links.apply(&edit);
+    links.apply_plain(&edit);
     Ok(links)
 }
 

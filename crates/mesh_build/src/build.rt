@@ -18,7 +18,7 @@ use crate::places::places_of;
 use crate::sew::{Sewn, sew_faces};
 use cell_walk::cell_lists;
 use flat_lists::Lists;
-use link_rows::{Edit, Links, MADE_MAX};
+use link_rows::{Links, MADE_MAX, PlainEdit};
 use map_kind::{Dart, Kind, Place};
 use off_text::Mesh;
 use std::alloc::Global;
@@ -26,7 +26,7 @@ use std::alloc::Global;
 /// The map of a mesh: an edit that makes it from nothing, and for each 0-cell its least dart and its point, ascending.
 #[derive(Drop)]
 pub struct Built {
-    pub edit: Edit,
+    pub edit: PlainEdit,
     pub places: Vec<Place>,
 }
 

@@ -7,7 +7,7 @@ ghost use Rattle.mesh_laws.specs.SideLinks.{entry_change, entry_changes, start_a
 ghost use Rattle.mesh_build.specs.EntriesView.{entries_view};
 
 use crate::sew::Sewn;
-use link_rows::{Change, Edit, MADE_MAX};
+use link_rows::{Change, LINKS_MAX, MADE_MAX, PlainEdit};
 use map_kind::Dart;
 use std::alloc::{AllocError, Global};
 
@@ -20,7 +20,7 @@ pub struct Entries {
 }
 
 /// The edit that makes the darts of these sides, two for each side or one in an oriented map, and their links.
-pub fn edit_of(alloc: Global, oriented: bool, sewn: &Sewn) -> Result<Edit, AllocError>
+pub fn edit_of(alloc: Global, oriented: bool, sewn: &Sewn) -> Result<PlainEdit, AllocError>
     requires sewn { IsSewn oriented (sides_view sewn.now.sides) sewn.now.partners.items }
     requires few { per_side (kind_of oriented) * length sewn.now.sides.items ≤ MADE_MAX }
     ensures { IfOk result (λ edit. edit ≡ mesh_edit (kind_of oriented) (sides_view sewn.now.sides) sewn.now.partners.items) }
@@ -34,7 +34,7 @@ pub fn edit_of(alloc: Global, oriented: bool, sewn: &Sewn) -> Result<Edit, Alloc
             dart_entries(oriented, sewn, number),
         )?;
     }
-    Ok(Edit {
+    Ok(PlainEdit {
         births,
         deaths: Vec::new(alloc),
         changes,
@@ -64,17 +64,13 @@ fn push_change(
     link: usize,
     new: u32,
 ) -> Result<(), AllocError>
+    requires { link < LINKS_MAX }
     ensures { OnOk result (changes.new.items ≡ changes.old.items ++ entry_change dart link new) }
 {
     if new == 0 {
         return Ok(());
     }
-    changes.push(Change {
-        dart,
-        link,
-        old: 0,
-        new,
-    })?;
+    changes.push(Change::new(dart, link, 0, new))?;
     Ok(())
 }
 

@@ -1,6 +1,6 @@
 use crate::rule_change::RuleChange;
 use crate::value_change::ValueChange;
-use link_rows::Edit;
+use link_rows::PlainEdit;
 use std::marker::Model;
 
 /// What one step changed: the number of its first new dart, or 0 where no dart was born; the edit of the links; and the
@@ -8,7 +8,7 @@ use std::marker::Model;
 #[derive(Drop)]
 pub struct Step {
     pub first: u32,
-    pub edit: Edit,
+    pub edit: PlainEdit,
     pub values: Vec<ValueChange>,
     pub rules: Vec<RuleChange>,
 }
