@@ -20,17 +20,22 @@ course-along k n i words (Round ways) are along = record {
 course-along k n i words Links are single = (are, single)
 course-along k n i words Words are all = are
 
--- the orbit along such ways is the cell
-pub ways-cell : (k : Kind) (n i : ℕ) (rows : Rows) (ways : Ways) → IsSound k n rows → AreCellWays k n i ways
-    → (d y : ℕ) → InOrbit (Leads (links_of rows) (IsEither ways.forth.next ways.back.next)) d y ↔ InCell k (links_of rows) i d y
-ways-cell k n i rows ways sound are d y = (
-  orbit-wider Step (Leads (links_of rows) (IsCellWord k i)) (λ u v s. (s.0, ((are.same s.0).1 s.1).0, s.2, s.3)) d y,
+-- the orbit along just the words of the cell is the cell
+pub either-cell : (k : Kind) (n i : ℕ) (rows : Rows) (p q : LinkWord) → IsSound k n rows → ((w : LinkWord) → (IsCellWord k i w × IsWithin n w) ↔ IsEither p q w)
+    → (d y : ℕ) → InOrbit (Leads (links_of rows) (IsEither p q)) d y ↔ InCell k (links_of rows) i d y
+either-cell k n i rows p q sound same d y = (
+  orbit-wider Step (Leads (links_of rows) (IsCellWord k i)) (λ u v s. (s.0, ((same s.0).1 s.1).0, s.2, s.3)) d y,
   orbit-wider (Leads (links_of rows) (IsCellWord k i)) Step
-      (λ u v s. (s.0, (are.same s.0).0 (s.1, IsWithin-leads k n rows sound s.0 u (λ none. s.3 (sym s.2 ∙ none))), s.2, s.3)) d y,
+      (λ u v s. (s.0, (same s.0).0 (s.1, IsWithin-leads k n rows sound s.0 u (λ none. s.3 (sym s.2 ∙ none))), s.2, s.3)) d y,
 )
   where
     Step : ℕ → ℕ → Type 0
-    Step = Leads (links_of rows) (IsEither ways.forth.next ways.back.next)
+    Step = Leads (links_of rows) (IsEither p q)
+
+-- the orbit along such ways is the cell
+pub ways-cell : (k : Kind) (n i : ℕ) (rows : Rows) (ways : Ways) → IsSound k n rows → AreCellWays k n i ways
+    → (d y : ℕ) → InOrbit (Leads (links_of rows) (IsEither ways.forth.next ways.back.next)) d y ↔ InCell k (links_of rows) i d y
+ways-cell k n i rows ways sound are = either-cell k n i rows ways.forth.next ways.back.next sound are.same
 
 -- the words of such ways are among the links of the map
 pub ways-within : (k : Kind) (n i : ℕ) (ways : Ways) → AreCellWays k n i ways → (w : LinkWord) → IsEither ways.forth.next ways.back.next w → IsWithin n w

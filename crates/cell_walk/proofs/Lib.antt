@@ -2,6 +2,7 @@ mod CellDarts
 mod CellRounds
 mod ComponentDarts
 mod Counting
+mod EdgeDarts
 pub mod FoundDarts
 mod ListedCells
 mod OnWays

@@ -9,7 +9,7 @@ use Rattle.link_laws.proofs.Orbits.{orbit_trans, orbit_back}
 use Rattle.cell_walk.specs.Surveys.{TurnsBack, IsLeast, IsSurveyed}
 
 -- one more number at the end of an ascending list
-increasing-push : (xs : List ℕ) (y : ℕ) → IsStrictlyIncreasing xs → ((x : ℕ) → Contains xs x → x < y) → IsStrictlyIncreasing (xs ++ y ∷ [])
+pub increasing-push : (xs : List ℕ) (y : ℕ) → IsStrictlyIncreasing xs → ((x : ℕ) → Contains xs x → x < y) → IsStrictlyIncreasing (xs ++ y ∷ [])
 increasing-push xs y up below k low = go (cases_lt (k + 1) (length xs))
   where
     go : (k + 1 < length xs) ⊎ (length xs ≤ k + 1) → slice_index (xs ++ y ∷ []) k < slice_index (xs ++ y ∷ []) (k + 1)

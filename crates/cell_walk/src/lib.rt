@@ -2,6 +2,7 @@
 #![tactic(auto)]
 
 mod around;
+mod edges;
 mod found;
 mod marks;
 mod one_cell;

@@ -12,6 +12,7 @@ use link_rows::Links;
 use map_kind::{Dart, Kind, LinkWord};
 
 /// Marks the path or the ring of a live dart, around which two links take turns both ways.
+#[inline(always)]
 pub(crate) fn mark_turns<K: Kind, const DIM: usize>(
     links: &Links<K, DIM>,
     forth: (usize, usize),
@@ -34,6 +35,7 @@ pub(crate) fn mark_turns<K: Kind, const DIM: usize>(
 }
 
 /// Marks the path or the ring of a live dart, along which one word leads on and another one back.
+#[inline(always)]
 pub(crate) fn mark_again<K: Kind, const DIM: usize>(
     links: &Links<K, DIM>,
     forth: LinkWord,
@@ -56,6 +58,7 @@ pub(crate) fn mark_again<K: Kind, const DIM: usize>(
 }
 
 /// Marks the darts to which two links in turn lead from a marked dart, `one` first, until they lead nowhere or to a dart that was marked.
+#[inline(always)]
 fn mark_links<K: Kind, const DIM: usize>(
     links: &Links<K, DIM>,
     one: usize,
@@ -82,6 +85,7 @@ fn mark_links<K: Kind, const DIM: usize>(
 }
 
 /// Marks the darts to which a word leads again and again from a marked dart, until it leads nowhere or to a dart that was marked.
+#[inline(always)]
 fn mark_word<K: Kind, const DIM: usize>(
     links: &Links<K, DIM>,
     word: LinkWord,

@@ -12,6 +12,7 @@ ghost use Rattle.cell_walk.specs.Sweeps.{IsSweep};
 ghost use Rattle.cell_walk.specs.CellLists.{AreCellsOf, AreOrbitsOf};
 ghost use Rattle.cell_walk.specs.Ways.{IsCourse};
 
+use crate::edges::surface_edges;
 use crate::found::Found;
 use crate::marks::clear_marks;
 use crate::orbits::walk;
@@ -84,6 +85,12 @@ fn cells_with<K: Kind, const DIM: usize>(
         → Contains cells.items d ↔ (IsLive links.now.rows d × NamesCell K.kind (links_of links.now.rows) dim d)) }
     ensures ascending { IfOk result (λ cells. IsStrictlyIncreasing cells.items) }
 {
+    // Where the laws hold, an edge of a surface has four darts at most.
+    if links.dimension() == 2 && dim == 1 {
+        if let Some(edges) = surface_edges(alloc, links)? {
+            return Ok(edges);
+        }
+    }
     let words = K::words(alloc, links.dimension(), dim)?;
     least_darts(alloc, links, &words, marks, queue)
 }
@@ -161,6 +168,7 @@ fn least_darts<K: Kind, const DIM: usize>(
     clear_marks(marks, links.made())?;
     let sweep = sweep_along::<K>(words);
     make_room(&sweep, queue, links.made())?;
+    let marks = marks.as_mut_slice();
     let mut least = Vec::new(alloc);
     for number in 1..links.made() + 1 {
         let dart = Dart::new(number).unwrap();

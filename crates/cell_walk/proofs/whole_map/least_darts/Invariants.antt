@@ -6,5 +6,5 @@ use Rattle.cell_walk.proofs.whole_map.least_darts.Given as goal
 
 abbrev pub invariant-loop-number : goal.invariant-loop-number
 invariant-loop-number g l =
-    (length l.links.rows ≤ length l.marks.items)
-    × AreSurveyed (Leads (links_of l.links.rows) (Contains l.words)) (IsLive l.links.rows) l.number l.marks.items l.least.items
+    (length l.links.rows ≤ length l.marks)
+    × AreSurveyed (Leads (links_of l.links.rows) (Contains l.words)) (IsLive l.links.rows) l.number l.marks l.least.items
