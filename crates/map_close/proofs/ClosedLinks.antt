@@ -1,8 +1,7 @@
 -- The links after an edit that closes a map: it is an insertion of the new darts, and so keeps the laws.
-use Rattle.std.proofs.Common.{ℕ, suc, ◌≡◌, ◌≢◌, ◌+◌, ◌≤◌, ◌↔◌, List, length, Contains, refl, sym, ap, ◌∙◌, subst, inl, inr, arith}
-use Rattle.std.specs.List.Sorted.{IsStrictlyIncreasing}
+use Rattle.std.proofs.Common.{ℕ, suc, ◌≡◌, ◌≢◌, ◌+◌, ◌≤◌, List, length, Contains, refl, sym, ap, ◌∙◌, subst, inl, inr, arith}
 use Rattle.std.proofs.lemmas.Bool.{cases_lt}
-use Rattle.map_defs.specs.Kind.{Kind, alpha, beta, inverse}
+use Rattle.map_defs.specs.Kind.{Kind, alpha, beta}
 use Rattle.map_defs.specs.Links.{Links, IsTurned}
 use Rattle.map_defs.specs.Laws.{Laws}
 use Rattle.map_defs.specs.Rows.{Rows, links_of, made, IsLive, IsSound}
@@ -23,14 +22,6 @@ use Rattle.map_close.specs.Planning.{PlansClosing}
 use Rattle.cell_edit.proofs.EntryEdit.{growing, written, left, entries-fit}
 use Rattle.map_close.proofs.NewLinkFacts.{before-below, own-link, far-link, around-link, next-link, link-one, link-high}
 use Rattle.map_close.proofs.OpenFacts.{key-live, key-made, numbered, star-none, star-fresh, star-above, rounds, old-lives, star-lives}
-
--- open darts and their new darts, which are numbered on from those that were made
-abbrev pub stars_of : Rows → List ℕ → Stars
-stars_of rows keys = record { keys = keys; made = made rows }
-
-pub can-close : (k : Kind) (rows : Rows) (i : ℕ) (keys : List ℕ) → ((x : ℕ) → Contains keys x ↔ IsOpen (IsLive rows) i (links_of rows) x) → IsStrictlyIncreasing keys
-    → inverse k i ≡ i → Laws k (links_of rows) → CanClose k rows i (stars_of rows keys)
-can-close k rows i keys members ascending own laws = record { made = refl; members = members; ascending = ascending; own = own; laws = laws }
 
 turned-after : (k : Kind) (N : Links) → Laws k N → k ≡ beta → IsTurned N
 turned-after alpha N laws is = absurd (cc (is))

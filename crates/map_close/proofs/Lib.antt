@@ -1,5 +1,5 @@
 mod ClosedLinks
-mod ClosingEntries
+mod ClosingRows
 mod NewLinkFacts
 mod OpenFacts
 mod OpenList

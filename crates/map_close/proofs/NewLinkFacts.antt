@@ -1,5 +1,5 @@
 -- What a link of a new dart becomes: it is one of four, and it is told which.
-use Rattle.std.proofs.Common.{ℕ, zero, suc, ◌≡◌, ◌+◌, ◌<◌, ◌≤◌, refl, sym, ap, ◌∙◌, inl, inr, arith}
+use Rattle.std.proofs.Common.{ℕ, zero, suc, ◌≡◌, ◌≢◌, ◌+◌, ◌<◌, ◌≤◌, refl, sym, ap, ◌∙◌, arith}
 use Rattle.map_defs.specs.Kind.{Kind, alpha, beta, inverse, IsDistant}
 use Rattle.map_defs.specs.Links.{Links, HasDimension}
 use Rattle.map_defs.specs.Insertion.{IsJustBelow}
@@ -26,42 +26,15 @@ before-below beta (suc zero) t own e = absurd (omega arith)
 before-below beta (suc (suc i)) zero own e = absurd (omega arith)
 before-below beta (suc (suc i)) (suc t) own e = omega arith
 
--- link 0 is distant from none but links above it
-pub far-some : (k : Kind) (i : ℕ) → IsDistant k i 0 → 1 ≤ i
-unfolding IsDistant
-far-some alpha i (inl h) = absurd (omega arith)
-far-some alpha i (inr h) = omega arith
-far-some beta zero (inl h) = absurd (omega arith)
-far-some beta zero (inr h) = absurd (omega arith)
-far-some beta (suc i) h = omega arith
-
--- where link 0 is distant, so are all links below the one before
-pub lower-far : (k : Kind) (i t : ℕ) → inverse k i ≡ i → IsDistant k i 0 → t + 1 < i → IsDistant k i t
-unfolding IsDistant
-lower-far alpha i t own away low = inr (omega arith)
-lower-far beta zero t own away low = absurd (omega arith)
-lower-far beta (suc i) zero own away low = away
-lower-far beta (suc i) (suc t) own away low = inr (omega arith)
-
--- where it is not, all lower links are just below
-pub lower-near : (k : Kind) (i t : ℕ) → inverse k i ≡ i → (IsDistant k i 0 → ⊥) → t < i → IsJustBelow k i t
-unfolding IsDistant
-lower-near alpha zero t own near low = absurd (omega arith)
-lower-near alpha (suc zero) t own near low = omega arith
-lower-near alpha (suc (suc i)) t own near low = absurd (near (inr (omega arith)))
-lower-near beta zero t own near low = absurd (omega arith)
-lower-near beta (suc zero) t own near low = absurd (omega arith)
-lower-near beta (suc (suc zero)) zero own near low = omega arith
-lower-near beta (suc (suc zero)) (suc t) own near low = omega arith
-lower-near beta (suc (suc (suc i))) t own near low = absurd (near (inr (omega arith)))
-
--- the links from the second above on are distant
-pub higher-far : (k : Kind) (i t : ℕ) → inverse k i ≡ i → i + 2 ≤ t → IsDistant k i t
-unfolding IsDistant
-higher-far alpha i t own high = inl (omega arith)
-higher-far beta zero t own high = absurd (omega arith)
-higher-far beta (suc i) zero own high = absurd (omega arith)
-higher-far beta (suc i) (suc t) own high = inl (omega arith)
+-- a link that is not the link itself, nor the next one, nor distant from it is just below
+pub else-below : (k : Kind) (i t : ℕ) → inverse k i ≡ i → t ≢ i → t ≢ i + 1 → (IsDistant k i t → ⊥) → IsJustBelow k i t
+else-below k i t own other beyond near = cases (link_cases k i t own)
+  where
+    cases : IsBeside k i t → IsJustBelow k i t
+    cases (same e) = absurd (other (omega (arith, e)))
+    cases (next e) = absurd (beyond (omega (arith, e)))
+    cases (below b) = b
+    cases (far f) = absurd (near f)
 
 module _ (k : Kind) (i : ℕ) (own : inverse k i ≡ i) (L : Links) (star : ℕ → ℕ) (x : ℕ) where
   -- the next link as it is named elsewhere

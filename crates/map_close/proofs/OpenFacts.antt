@@ -1,22 +1,22 @@
 -- The open darts at which a map is closed, and their new darts.
-use Rattle.std.proofs.Common.{ℕ, ◌≡◌, ◌+◌, ◌<◌, ◌≤◌, length, get_or, Contains, is_some, ap, ◌∙◌, inl, inr, arith}
-use Rattle.std.specs.Prelude.{All}
+use Rattle.std.proofs.Common.{ℕ, ◌≡◌, ◌≢◌, ◌+◌, ◌<◌, ◌≤◌, length, get_or, Contains, is_some, ap, ◌∙◌, inl, inr, arith}
 use Rattle.std.proofs.lemmas.List.Elements.{Contains-get_or}
 use Rattle.map_defs.specs.Kind.{Kind}
 use Rattle.map_defs.specs.Rows.{Rows, links_of, made, IsLive, IsSound}
 use Rattle.map_defs.specs.Births.{IsNumbered, IsFresh}
 use Rattle.map_defs.specs.Edits.{with_births}
-use Rattle.map_defs.specs.Closing.{IsAround}
+use Rattle.map_defs.specs.Closing.{IsOpen, IsAround}
 use Rattle.link_laws.proofs.Basics.{same_or_not}
 use Rattle.link_laws.proofs.RowFacts.{rows_made}
 use Rattle.edit_laws.proofs.RowWrites.{births-old, births-new, live-within}
 use Rattle.insert_laws.proofs.Numbers.{numbered_above, numbered_upto, numbered_fresh}
 use Rattle.cell_edit.specs.Stars.{Stars, star_of}
-use Rattle.cell_edit.proofs.StarNumbers.{stars-number}
+use Rattle.cell_edit.proofs.StarNumbers.{stars-number, few_keys}
 use Rattle.cell_edit.proofs.Beyond.{live-made}
-use Rattle.cell_edit.proofs.Premises.{live-dart}
+use Rattle.cell_edit.proofs.Premises.{live-dart, all-live, all-made}
 use Rattle.map_close.specs.NewLinks.{CanClose}
 use Rattle.map_close.proofs.Rounds.{around-found}
+use Rattle.map_close.proofs.StarNumbers.{star-key}
 
 -- a link leads to a dart that was made, or to 0
 pub linked-made : (k : Kind) (n : ℕ) (rows : Rows) → IsSound k n rows → (t x : ℕ) → links_of rows t x ≤ made rows
@@ -38,8 +38,8 @@ module _ (k : Kind) (n : ℕ) (rows : Rows) (sound : IsSound k n rows) (i : ℕ)
   pub key-made : (x : ℕ) → K x → x ≤ stars.made
   key-made x has = let low : x ≤ made rows = live-made rows x (key-live x has) in omega (arith, can.made)
 
-  pub keys-made : All (λ (d : ℕ). d ≤ stars.made) stars.keys
-  keys-made p z h = key-made (get_or stars.keys p z) (Contains-get_or stars.keys p z h)
+  pub keys-few : length stars.keys ≤ made rows
+  keys-few = few_keys stars.keys (made rows) can.ascending (all-made k n rows sound stars.keys (all-live rows (IsOpen (IsLive rows) i (links_of rows)) stars.keys can.members (λ x h. h.0)))
 
   pub numbered : IsNumbered K stars.keys stars.made (star_of stars)
   numbered = stars-number stars can.ascending (λ p z h. live-dart k n rows sound (get_or stars.keys p z) (key-live (get_or stars.keys p z) (Contains-get_or stars.keys p z h)))
@@ -53,6 +53,13 @@ module _ (k : Kind) (n : ℕ) (rows : Rows) (sound : IsSound k n rows) (i : ℕ)
 
   pub star-above : (x : ℕ) → K x → stars.made < star_of stars x
   star-above = numbered_above K stars.keys stars.made (star_of stars) numbered
+
+  -- a live dart without a new dart is not free, and one that has a new dart is
+  pub star-crossed : (x : ℕ) → IsLive rows x → star_of stars x ≡ 0 → links_of rows i x ≢ 0
+  star-crossed x live none free = let above = star-above x ((can.members x).1 (live, free)) in omega (arith, none)
+
+  pub star-free : (x : ℕ) → star_of stars x ≢ 0 → links_of rows i x ≡ 0
+  star-free x some = key-free x (star-key stars x some)
 
   -- the way around a boundary ends
   pub rounds : (x : ℕ) → K x → (t : ℕ) → (y : ℕ) × IsAround k i t (links_of rows) x y

@@ -25,6 +25,12 @@ module _ (rows : Rows) (i : ℕ) where
   abbrev Open : ℕ → Type 0
   Open = IsOpen (IsLive rows) i (links_of rows)
 
+  pub lists-none : (d : ℕ) → ((x : ℕ) → x < d → Open x → ⊥) → ListsOpen rows i d []
+  lists-none d none = record {
+    members = λ x. (λ has. absurd (omega (arith, has.1)), λ at. absurd (none x at.0 at.1));
+    ascending = λ k low. absurd (omega arith);
+  }
+
   pub lists-skip : (d : ℕ) (xs : List ℕ) → (Open d → ⊥) → ListsOpen rows i d xs → ListsOpen rows i (d + 1) xs
   lists-skip d xs not lists = record {
     members = λ x. (λ has. let at = (lists.members x).0 has in (omega (arith, at.0), at.1), λ at. (lists.members x).1 (below x at (cases_lt x d)));

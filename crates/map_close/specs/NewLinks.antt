@@ -1,13 +1,15 @@
 -- What the links of the new darts of a closing become, and the entries that are written.
-use Rattle.std.specs.Prelude.{ℕ, suc, ◌≡◌, ◌≢◌, ◌<◌, ◌≤◌, ◌⊎◌, ◌↔◌, List, Contains}
+use Rattle.std.specs.Prelude.{ℕ, suc, ◌≡◌, ◌≢◌, ◌+◌, ◌<◌, ◌≤◌, ◌⊎◌, ◌↔◌, List, [], map, take, length, slice_index, slice_index_or, Contains}
 use Rattle.std.specs.List.Sorted.{IsStrictlyIncreasing}
 use Rattle.map_defs.specs.Kind.{Kind, inverse, IsDistant}
 use Rattle.map_defs.specs.Links.{Links}
 use Rattle.map_defs.specs.Laws.{Laws}
+use Rattle.map_defs.specs.Edits.{Change}
 use Rattle.map_defs.specs.Insertion.{IsJustBelow}
 use Rattle.map_defs.specs.Rows.{Rows, links_of, made, IsLive}
 use Rattle.map_defs.specs.Closing.{IsOpen, IsAround}
-use Rattle.cell_edit.specs.Stars.{Stars}
+use Rattle.link_rows.specs.BornRows.{NewRows}
+use Rattle.cell_edit.specs.Stars.{Stars, star_of}
 use Rattle.cell_edit.specs.Writing.{IsLinkEntry}
 
 -- Link t of the new dart of x becomes z in a closing at link i, where 0 is for a link that stays free.
@@ -20,9 +22,9 @@ pub record IsNewLink (k : Kind) (i : ℕ) (L : Links) (star : ℕ → ℕ) (x t 
   pub around : (y : ℕ) → IsJustBelow k i t → IsAround k i t L x y → z ≡ star y
   pub next : t ≡ suc i → z ≡ 0
 
--- the entries of the links from a to below b of a new dart, where link t becomes a y with P t y
-abbrev pub IsEntryBetween : (ℕ → ℕ → Type 0) → ℕ → ℕ → ℕ → ℕ → ℕ → ℕ → Type 0
-IsEntryBetween P a b new d t y = (d ≡ new) × (a ≤ t) × (t < b) × P t y × (y ≢ 0)
+-- the row of the new dart of x, in a map of dimension n
+abbrev pub IsNewRow : Kind → ℕ → ℕ → Links → (ℕ → ℕ) → ℕ → List ℕ → Type 0
+IsNewRow k n i L star x row = (length row ≡ n + 1) × ((t : ℕ) → t ≤ n → IsNewLink k i L star x t (slice_index row t))
 
 -- the entries of the links below m of the new dart of x
 abbrev pub IsNewEntry : Kind → ℕ → Links → (ℕ → ℕ) → ℕ → ℕ → ℕ → ℕ → ℕ → Type 0
@@ -43,3 +45,19 @@ pub record CanClose (k : Kind) (rows : Rows) (i : ℕ) (stars : Stars) : Type 0 
   pub ascending : IsStrictlyIncreasing stars.keys
   pub own : inverse k i ≡ i
   pub laws : Laws k (links_of rows)
+
+-- the changes by which link i of each of these darts becomes its new dart
+abbrev pub joinings : ℕ → (ℕ → ℕ) → List ℕ → List Change
+joinings i star keys = map (λ x. record { dart = x; link = i; old = 0; new = star x }) keys
+
+-- The open darts below d are joined to their new darts, in a map of dimension n, and the rows of these are told.
+pub record IsClosedBelow (k : Kind) (n : ℕ) (rows : Rows) (i : ℕ) (stars : Stars) (d : ℕ) (changes : List Change) (born : NewRows)
+    : Type 0 where
+  pub first : born.first ≡ stars.made + 1
+  pub width : born.width ≡ n + 1
+  pub few : length born.rows ≤ length stars.keys
+  pub below : (p : ℕ) → p < length born.rows → slice_index stars.keys p < d
+  pub from : (p : ℕ) → length born.rows ≤ p → p < length stars.keys → d ≤ slice_index stars.keys p
+  pub joined : changes ≡ joinings i (star_of stars) (take (length born.rows) stars.keys)
+  pub tells : (p : ℕ) → p < length born.rows
+      → IsNewRow k n i (links_of rows) (star_of stars) (slice_index stars.keys p) (slice_index_or born.rows p [])

@@ -15,8 +15,7 @@ use std::alloc::{AllocError, Global};
 /// boundary; the links that are distant run as they run at the old darts, and the next link is free at the new darts.
 ///
 /// It is always possible: only memory can lack. It costs a step for each dart that was made, and the walks around the
-/// boundary and its darts, for each link of the map. Besides the edit it takes 4 bytes for each dart that was made, and
-/// a list of those that are free at the link.
+/// boundary and its darts, for each link of the map. Besides the edit it takes 4 bytes for each dart that was made.
 pub fn close_plan<const DIM: usize>(
     alloc: Global,
     links: &Links<Alpha, DIM>,

@@ -1,76 +1,80 @@
-ghost use Rattle.std.specs.Prelude.{◌≡◌, ◌≤◌, ◌<◌, All, length, slice_index, IfOk};
-ghost use Rattle.std.specs.List.Sorted.{IsStrictlyIncreasing};
-ghost use Rattle.map_defs.specs.Rows.{made_max};
+ghost use Rattle.std.specs.Prelude.{◌≡◌, ◌≢◌, ◌+◌, ◌≤◌, ◌<◌, length, vec_len, vec_capacity, IfOk};
+ghost use Rattle.map_defs.specs.Kind.{inverse};
+ghost use Rattle.map_defs.specs.Rows.{links_of, made, made_max};
+ghost use Rattle.map_defs.specs.Laws.{Laws};
 ghost use Rattle.cell_edit.specs.Stars.{star_of};
+ghost use Rattle.map_close.specs.Boundary.{IsToldBelow};
+ghost use Rattle.map_close.specs.NewLinks.{CanClose};
 
-use map_kind::Dart;
+use link_rows::Links;
+use map_kind::{Dart, Kind};
 use std::alloc::{AllocError, Global};
 use std::marker::Model;
 
-/// The darts of a closing, ascending, each of which gets a new dart: the new darts are numbered on from those that were made,
-/// in the order of the darts. A new dart is looked up in one step, by a table over all darts that were made.
+/// The new darts of the darts of a closing: they are numbered on from those that were made, in the order of the darts. A
+/// table over all darts that were made tells the new dart of each in one step.
 #[derive(Drop)]
 pub(crate) struct StarTable {
-    darts: Vec<Dart>,
     made: u32,
+    births: u32,
     // At the place of each dart's number that of its new dart, and 0 at all other places.
     numbers: Vec<u32>,
 }
 
 impl Model for StarTable {
     ghost use Rattle.std.specs.Prelude.{ℕ, ◌≡◌, ◌+◌, ◌≤◌, length, slice_index};
-    ghost use Rattle.std.specs.List.Sorted.{IsStrictlyIncreasing};
     ghost use Rattle.map_defs.specs.Rows.{made_max};
+    ghost use Rattle.map_close.specs.Boundary.{keys_from};
     ghost use Rattle.cell_edit.specs.Stars as stars;
 
     ghost Value = { stars.Stars };
 
-    ghost view = { λ table. record { keys = table.darts.items; made = table.made } };
+    ghost view = { λ table. record { keys = keys_from 0 table.numbers.items; made = table.made } };
 
-    ghost invariant = { λ table. IsStrictlyIncreasing table.darts.items
-        × (length table.darts.items ≤ table.made) × (table.made ≤ made_max) × (length table.numbers.items ≡ table.made + 1)
-        × ((x : ℕ) → slice_index table.numbers.items x ≡ stars.number_from (table.made + 1) table.darts.items x) };
+    ghost invariant = { λ table. (table.made ≤ made_max) × (table.births ≤ table.made)
+        × (table.births ≡ length (keys_from 0 table.numbers.items)) × (length table.numbers.items ≡ table.made + 1)
+        × ((x : ℕ) → slice_index table.numbers.items x ≡ stars.number_from (table.made + 1) (keys_from 0 table.numbers.items) x) };
 }
 
 impl StarTable {
-    /// New darts for these darts, which are among the darts 1 to `made`.
-    pub(crate) fn new(alloc: Global, darts: Vec<Dart>, made: u32) -> Result<Self, AllocError>
-        requires ascending { IsStrictlyIncreasing darts.items }
-        requires made { All (λ d. (0 < d) × (d ≤ made)) darts.items }
-        requires few { made ≤ made_max }
-        ensures { IfOk result (λ stars. stars ≡ record { keys = darts.items; made = made }) }
+    /// New darts for the live darts that are free at a link.
+    pub(crate) fn of_open_darts<K: Kind, const DIM: usize>(
+        alloc: Global,
+        links: &Links<K, DIM>,
+        link: usize,
+    ) -> Result<Self, AllocError>
+        requires link { link ≤ DIM }
+        requires own { inverse K.kind link ≡ link }
+        requires laws { Laws K.kind (links_of links.now.rows) }
+        ensures { IfOk result (CanClose K.kind links.now.rows link) }
     {
-        let mut numbers = vec![in alloc; 0u32; made as usize + 1]?;
-        for (place, dart) in darts.iter().enumerate() {
-            numbers[dart.number() as usize] = made + 1 + place as u32;
+        let made = links.made();
+        let mut numbers = Vec::with_capacity(alloc, made as usize + 1)?;
+        // 0 is no dart.
+        numbers.push_reserved(0);
+        let mut next = made + 1;
+        for number in 1..made + 1 {
+            next = push_star(links, link, Dart::new(number).unwrap(), next, &mut numbers);
         }
         Ok(StarTable {
-            darts,
             made,
+            births: next - made - 1,
             numbers,
         })
-    }
-
-    /// The darts that get new darts, ascending.
-    pub(crate) fn darts(&self) -> &[Dart]
-        ensures { result.now ≡ self.now.keys }
-    {
-        &self.darts
     }
 
     /// How many new darts there are.
     pub(crate) fn births(&self) -> u32
         ensures { result ≡ length self.now.keys }
     {
-        self.darts.len() as u32
+        self.births
     }
 
-    /// The new dart of the dart at a place.
-    pub(crate) fn star_at(&self, place: usize) -> Dart
-        requires { place < length self.now.keys }
-        ensures { result ≡ star_of self.now (slice_index self.now.keys place) }
+    /// The first new dart, if there are any.
+    pub(crate) fn first(&self) -> Dart
+        ensures { result ≡ self.now.made + 1 }
     {
-        Dart::new(self.made + 1 + place as u32).unwrap()
+        Dart::new(self.made + 1).unwrap()
     }
 
     /// The number of the new dart of the dart of this number; 0 where none has it, or that gets no new dart.
@@ -80,4 +84,30 @@ impl StarTable {
     {
         self.numbers[of as usize]
     }
+}
+
+/// Appends the number of the new dart of a dart: `next` if the dart is live and free at a link, and 0 if not. Answers the
+/// number of the next new dart. Who lives is looked at first, for then the row needs no further look.
+fn push_star<K: Kind, const DIM: usize>(
+    links: &Links<K, DIM>,
+    link: usize,
+    dart: Dart,
+    next: u32,
+    numbers: &mut Vec<u32>,
+) -> u32
+    requires link { link ≤ DIM }
+    requires dart { dart ≤ made links.now.rows }
+    requires room { vec_len numbers.old < vec_capacity numbers.old }
+    requires before { IsToldBelow links.now.rows link dart next numbers.old.items }
+    ensures capacity { vec_capacity numbers.new ≡ vec_capacity numbers.old }
+    ensures told { IsToldBelow links.now.rows link (dart + 1) result numbers.new.items }
+{
+    // A map has links 0 to 8 at most.
+    links.see_sound();
+    if !links.is_live(dart) || links.live_row(dart).entry(link) != 0 {
+        numbers.push_reserved(0);
+        return next;
+    }
+    numbers.push_reserved(next);
+    next + 1
 }

@@ -1,27 +1,20 @@
-use Rattle.std.proofs.Common.{lit<}
-use Rattle.map_defs.specs.Rows.{links_of, IsLive}
-use Rattle.map_defs.specs.Closing.{IsOpen}
-use Rattle.cell_edit.proofs.Premises.{all-live, all-made}
-use Rattle.map_close.proofs.ClosedLinks.{stars_of, can-close, closing-plans}
+use Rattle.std.proofs.Common.{◌<◌, subst, arith}
+use Rattle.cell_edit.specs.Stars.{Stars}
+use Rattle.map_close.specs.NewLinks.{IsClosedBelow}
+use Rattle.map_close.proofs.ClosedLinks.{closing-plans}
+use Rattle.map_close.proofs.ClosingRows.{closed-ends}
 use Rattle.map_close.proofs.closing.closing_edit.Goals as goal
-
-pub new-requires-clause-made : goal.new-requires-clause-made
-new-requires-clause-made g c =
-    let rows = c.args.links.now.rows in
-    rw c.made.ensures.made
-    (all-made g.K.Kind.kind g.row.DIM rows c.made.ensures.sound c.in_ok-darts.darts.items
-    (all-live rows (IsOpen (IsLive rows) c.args.link (links_of rows)) c.in_ok-darts.darts.items c.in_ok-darts.ensures.members (λ x h. h.0)))
-
-pub closing_changes-requires : goal.closing_changes-requires
-closing_changes-requires g c =
-    rw (c.in_ok-stars.ensures, c.made.ensures.made)
-    (lit< tt, (c.requires.link, can-close g.K.Kind.kind c.args.links.now.rows c.args.link c.in_ok-darts.darts.items c.in_ok-darts.ensures.members c.in_ok-darts.ensures.ascending c.requires.own c.requires.laws))
 
 pub returns : goal.returns
 returns g c =
+    let k = g.K.Kind.kind in
     let rows = c.args.links.now.rows in
-    let keys = c.in_ok-darts.darts.items in
-    let can = can-close g.K.Kind.kind rows c.args.link keys c.in_ok-darts.ensures.members c.in_ok-darts.ensures.ascending c.requires.own c.requires.laws in
-    rw (c.births.ensures, c.new-2.ensures.items, c.in_ok-stars.ensures)
-    (closing-plans g.K.Kind.kind g.row.DIM rows c.made.ensures.sound c.made.ensures.low c.args.link c.requires.link (stars_of rows keys) can
-    c.in_ok-changes.changes.items (rw (c.in_ok-stars.ensures, c.made.ensures.made) at c.in_ok-changes.ensures))
+    let sound = c.made-number-end.ensures.sound in
+    let stars : Stars = c.in_ok-stars.stars in
+    let can = c.in_ok-stars.ensures in
+    let past : stars.made < c.loop-number.number = omega (arith, can.made, c.made-number-end.ensures.made, c.loop-number-test.false) in
+    let closed : IsClosedBelow k g.row.DIM rows c.args.link stars c.loop-number.number c.loop-number.changes.items c.loop-number.born =
+    subst (λ (s : Stars). IsClosedBelow k g.row.DIM rows c.args.link s c.loop-number.number c.loop-number.changes.items c.loop-number.born) c.stars.view_is c.loop-number.invariant.0 in
+    rw (c.births-births.ensures, c.new-2.ensures.items)
+    (closing-plans k g.row.DIM rows sound c.made-number-end.ensures.low c.args.link c.requires.link stars can _
+    (closed-ends k g.row.DIM rows sound c.args.link stars can c.loop-number.number c.loop-number.changes.items c.loop-number.born closed past))
