@@ -104,6 +104,7 @@ module _ (rows : Rows) (w : Laws beta (links_of rows)) (d e : ℕ) (can : AreBet
   edge-turns count is rising ascending = record {
     grow = record { made = is; live = corners-live; rising = rising };
     ascending = ascending;
+    corners = members;
     turn = pair-turn (links_of rows) w d e can apart pairs same keys members;
     one = pair-one (links_of rows) w d e can apart pairs same;
   }

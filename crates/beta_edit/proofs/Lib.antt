@@ -1,3 +1,4 @@
+mod AddedRows
 mod CellEnds
 mod CellTold
 mod CutEdit
@@ -10,10 +11,10 @@ mod EdgePlan
 mod EdgeTurns
 mod GrowthFacts
 mod HighEnds
+mod OldEntries
 mod SameCells
 mod SplitEdit
 mod SplitEntries
 mod StaysApart
 mod VertexPlan
 mod VertexRuns
-mod WayPlaces

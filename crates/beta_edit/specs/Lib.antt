@@ -1,6 +1,6 @@
 pub mod Crossing
 pub mod Cutting
 pub mod Drawing
+pub mod Entries
 pub mod Growing
 pub mod Splitting
-pub mod Ways

@@ -1,4 +1,4 @@
-ghost use Rattle.std.specs.Prelude.{◌+◌, ◌≤◌, Contains, IfOk, OnOk};
+ghost use Rattle.std.specs.Prelude.{◌≡◌, ◌+◌, ◌*◌, ◌≤◌, [], Contains, IfOk, OnOk, vec_capacity};
 ghost use Rattle.map_defs.specs.Kind.{beta};
 ghost use Rattle.map_defs.specs.Rows.{links_of};
 ghost use Rattle.map_defs.specs.Laws.{Laws};
@@ -8,9 +8,8 @@ ghost use Rattle.beta_edit.specs.Crossing.{drawn_step};
 ghost use Rattle.beta_edit.specs.Drawing.{IsDrawn, CanBeDrawn, IsDrawnEntry, IsDartEntry, IsCellEntry};
 
 use crate::crossing::walk_end_from_within;
-use crate::writing::room_for_ways;
 use cell_edit::is_among;
-use link_rows::{Change, Edit, Links};
+use link_rows::{BornRows, Change, Edit, Links};
 use map_kind::{Beta, Dart, Kind};
 use std::alloc::{AllocError, Global};
 
@@ -36,6 +35,7 @@ pub(crate) fn drawn_edit<const DIM: usize>(
         births: 0,
         deaths: darts,
         changes,
+        born: BornRows::none(alloc),
     })
 }
 
@@ -56,6 +56,16 @@ fn drawn_changes<const DIM: usize>(
         push_dart(links, beside, darts, *dart, &mut changes)?;
     }
     Ok(changes)
+}
+
+/// No changes yet, with room for two of each link of so many darts of a map of dimension `dim`: of the link, and of the one
+/// that leads back along it.
+fn room_for_ways(alloc: Global, darts: usize, dim: usize) -> Result<Vec<Change>, AllocError>
+    requires { dim ≤ 8 }
+    ensures items { IfOk result (λ changes. changes.items ≡ []) }
+    ensures room { IfOk result (λ changes. darts * (2 * dim + 2) ≤ vec_capacity changes) }
+{
+    Vec::with_capacity(alloc, darts.saturating_mul(2 * dim + 2))
 }
 
 /// Appends the changes of one dart that ends: those of its links, and those of the links that lead to it.
@@ -95,15 +105,12 @@ fn push_link<const DIM: usize>(
     ensures { OnOk result (Appends (links_of links.now.rows)
         (IsDrawnEntry (links_of links.now.rows) beside darts.now dart link) changes.old.items changes.new.items) }
 {
+    // A map has links 0 to 8 at most.
+    links.see_sound();
     let Some(other) = links.link(dart, link) else {
         return Ok(());
     };
-    changes.push(Change {
-        dart,
-        link,
-        old: other.number(),
-        new: 0,
-    })?;
+    changes.push(Change::new(dart, link, other.number(), 0))?;
     if is_among(darts, other) {
         return Ok(());
     }
@@ -112,11 +119,6 @@ fn push_link<const DIM: usize>(
         // Each walk from a remaining dart ends.
         unreachable!()
     };
-    changes.push(Change {
-        dart: other,
-        link: back,
-        old: dart.number(),
-        new: end,
-    })?;
+    changes.push(Change::new(other, back, dart.number(), end))?;
     Ok(())
 }

@@ -6,7 +6,7 @@ ghost use Rattle.map_defs.specs.Insertion.{BetaEdgePairs, AreBetaEdgePaired};
 ghost use Rattle.sewing.specs.Triples.{Lists, IsAscending};
 ghost use Rattle.cell_edit.specs.Planning.{PlansEdge};
 
-use crate::cut::cut_changes;
+use crate::cut::cut_edit;
 use cell_edit::{Stars, are_in_one_beta_corner, are_on_one_side, copying_links, corners};
 use link_rows::{Edit, Links};
 use map_kind::{Beta, Dart, Refusal, Refused};
@@ -46,12 +46,7 @@ pub fn edge_plan<const DIM: usize>(
     match edge_pairs(alloc, links, one, other) {
         Ok(pairs) => {
             let stars = Stars::new(corners(alloc, &pairs)?, links.made());
-            let changes = cut_changes(alloc, links, &stars, &pairs)?;
-            Ok(Edit {
-                births: stars.births(),
-                deaths: Vec::new(alloc),
-                changes,
-            })
+            Ok(cut_edit(alloc, links, &stars, &pairs)?)
         }
         Err(PairFault::Unpaired) => Err(Refused::Line(Refusal::Unpaired)),
         Err(PairFault::NoMemory) => Err(Refused::NoMemory),

@@ -14,7 +14,6 @@ mod edge;
 mod flat;
 mod removal;
 mod vertex;
-mod writing;
 
 pub use cell_edit::face_plan;
 pub use contraction::{contract_plan, contractible};

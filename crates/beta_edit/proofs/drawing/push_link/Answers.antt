@@ -18,7 +18,7 @@ pub returns-then-is_among : goal.returns-then-is_among
 returns-then-is_among g c =
     let linked : links_of c.args.links.now.rows c.args.link c.args.dart ≢ 0 = λ none. false≢true (sym (c.in-Some.ensures.free.1 none)) in
     link-inner (links_of c.args.links.now.rows) c.args.beside c.args.darts.now c.args.dart c.args.link c.in-Some.other c.args.changes.now.items c.push.new.self.items
-    c.in-Some.ensures.linked linked (c.is_among.ensures.0 c.if-is_among.true) (rw c.number.ensures.same at c.in_ok-push.ensures.items)
+    c.in-Some.ensures.linked linked (c.is_among.ensures.0 c.if-is_among.true) (rw (c.new.ensures, c.number.ensures.same) at c.in_ok-push.ensures.items)
 
 pub walk_end_from_within-requires : goal.walk_end_from_within-requires
 walk_end_from_within-requires g c =
@@ -39,4 +39,4 @@ returns g c =
     link-outer (links_of c.args.links.now.rows) c.args.beside c.args.darts.now c.args.dart c.args.link c.in-Some.other c.in-Some-walk_end_from_within.end c.args.changes.now.items c.push.new.self.items c.push-2.new.self.items
     c.in-Some.ensures.linked linked c.requires.dart (λ has. false≢true (sym c.if-is_among.false ∙ c.is_among.ensures.1 has))
     (link-back (links_of c.args.links.now.rows) c.requires.laws c.args.link c.args.dart c.in-Some.other c.in-Some.ensures.linked linked)
-    (rw c.inverse-back.ensures at c.in-Some-walk_end_from_within.ensures.end) (rw c.number.ensures.same at c.in_ok-push.ensures.items) (rw (c.number-2.ensures.same, c.inverse-back.ensures) at c.in_ok-push-2.ensures.items)
+    (rw c.inverse-back.ensures at c.in-Some-walk_end_from_within.ensures.end) (rw (c.new.ensures, c.number.ensures.same) at c.in_ok-push.ensures.items) (rw (c.new-2.ensures, c.number-2.ensures.same, c.inverse-back.ensures) at c.in_ok-push-2.ensures.items)

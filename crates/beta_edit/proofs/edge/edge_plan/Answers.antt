@@ -19,8 +19,8 @@ new-stars-requires-clause-made g c =
     (corners-live rows c.requires.laws c.args.one c.args.other c.in-Ok.ensures.paired apart c.in-Ok.pairs.items c.in-Ok.ensures.members c.in_ok-corners-in-Ok.field-0.items
     (rw c.deref.ensures.value at c.in_ok-corners-in-Ok.ensures.members)))
 
-pub cut_changes-requires : goal.cut_changes-requires
-cut_changes-requires g c =
+pub cut_edit-requires : goal.cut_edit-requires
+cut_edit-requires g c =
     let rows = c.args.links.now.rows in
     let apart : InBetaCorner (links_of rows) c.args.one c.args.other → ⊥ = λ same. false≢true (sym c.if-branch.false ∙ c.in_ok-are_in_one_beta_corner.ensures.1 same) in
     rw (c.deref-in-Ok.ensures.value, c.new-stars.ensures) (
@@ -32,8 +32,8 @@ cut_changes-requires g c =
       ),
     )
 
-pub returns-in_ok-changes-in-Ok : goal.returns-in_ok-changes-in-Ok
-returns-in_ok-changes-in-Ok g c =
+pub returns-in_ok-cut_edit-in-Ok : goal.returns-in_ok-cut_edit-in-Ok
+returns-in_ok-cut_edit-in-Ok g c =
     let rows = c.args.links.now.rows in
     let one : ℕ = c.args.one in
     let other : ℕ = c.args.other in
@@ -47,13 +47,12 @@ returns-in_ok-changes-in-Ok g c =
       c.in_ok-are_on_one_side.ensures.0 c.if-not-branch.false,
       apart,
       paired,
-      rw (c.births.ensures, c.new.ensures.items, c.new-stars.ensures)
-          (edit-cuts g.row.DIM rows c.made.ensures.sound c.made.ensures.low c.requires.laws stars pairs
+      edit-cuts g.row.DIM rows c.made.ensures.sound c.made.ensures.low c.requires.laws stars pairs
           (edge-turns rows c.requires.laws one other paired apart pairs same keys members c.made.result c.made.ensures.made c.in_ok-corners-in-Ok.ensures.ascending c.in-Ok.ensures.ascending)
           (BetaEdgeLeads (links_of rows) one other) (edge_turning (links_of rows) c.requires.laws one other paired apart)
           (λ x y z p q. paired.good.one (links_of rows 0 x) y z 1 p.1 q.1)
           (corner-members (links_of rows) c.requires.laws one other paired apart pairs same keys members)
           (pair-leads (links_of rows) c.requires.laws one other paired apart pairs same)
           (leads-pair (links_of rows) c.requires.laws one other paired apart pairs same)
-          c.in_ok-changes-in-Ok.changes.items (rw (c.deref-in-Ok.ensures.value, c.new-stars.ensures) at c.in_ok-changes-in-Ok.ensures)),
+          c.in_ok-cut_edit-in-Ok.field-0 (rw (c.deref-in-Ok.ensures.value, c.new-stars.ensures) at c.in_ok-cut_edit-in-Ok.ensures),
     )

@@ -1,9 +1,0 @@
-use Rattle.std.proofs.Common.{◌+◌, take}
-use Rattle.map_defs.specs.Rows.{links_of}
-use Rattle.cell_edit.specs.Stars.{star_of}
-use Rattle.cell_edit.specs.Writing.{WritesEntries}
-use Rattle.beta_edit.specs.Splitting.{AreSplitEntries}
-use Rattle.beta_edit.proofs.vertex.split_changes.Given as goal
-
-abbrev pub invariant-loop-dart : goal.invariant-loop-dart
-invariant-loop-dart g l = WritesEntries (links_of l.links.rows) (AreSplitEntries (links_of l.links.rows) (star_of l.stars) (g.row.DIM + 1) (take l.dart-index l.stars.keys)) l.changes.items
