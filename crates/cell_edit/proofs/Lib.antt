@@ -1,5 +1,6 @@
 pub mod StarNumbers
 pub mod Writings
+pub mod RowEntries
 mod DartEntries
 mod CopyEntries
 pub mod ChangeRoom

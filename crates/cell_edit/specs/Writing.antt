@@ -1,5 +1,5 @@
 -- Lists of changes, by the entries that they write.
-use Rattle.std.specs.Prelude.{ℕ, ◌≡◌, ◌≢◌, ◌+◌, ◌≤◌, ◌<◌, ◌⊎◌, ◌↔◌, ◌==◌, if◌then◌else◌, List, ◌++◌, slice_index, All, Contains}
+use Rattle.std.specs.Prelude.{ℕ, ◌≡◌, ◌≢◌, ◌+◌, ◌≤◌, ◌<◌, ◌⊎◌, ◌↔◌, ◌==◌, if◌then◌else◌, List, [], ◌++◌, length, slice_index, slice_index_or, All, Contains}
 use Rattle.std.specs.List.{AllPairs}
 use Rattle.map_defs.specs.Kind.{Kind, inverse, place, IsDistant}
 use Rattle.map_defs.specs.Links.{Links}
@@ -51,6 +51,10 @@ IsKeyEntry k L i star m x d t y = ((d ≡ x) × (t ≡ i) × (y ≡ star x)) ⊎
 -- the entries of all keys
 abbrev pub IsCarriedEntry : Kind → Links → ℕ → (ℕ → ℕ) → ℕ → List ℕ → ℕ → ℕ → ℕ → Type 0
 IsCarriedEntry k L i star m keys d t y = (x : ℕ) × Contains keys x × IsKeyEntry k L i star m x d t y
+
+-- the entries of the rows of new darts that are numbered on from the first
+abbrev pub IsRowEntry : ℕ → List (List ℕ) → ℕ → ℕ → ℕ → Type 0
+IsRowEntry first rows d t y = (p : ℕ) × (p < length rows) × (d ≡ first + p) × (y ≡ slice_index (slice_index_or rows p []) t) × (y ≢ 0)
 
 -- the links along which the new darts lie lead from these darts to these darts
 abbrev pub AreCarried : Kind → Links → ℕ → List ℕ → Type 0

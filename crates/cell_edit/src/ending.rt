@@ -8,7 +8,7 @@ ghost use Rattle.cell_edit.specs.Removing.{PlansEnding};
 
 use crate::crossing::{first_outside_from_within, is_among};
 use crate::room::room_for_changes;
-use link_rows::{Change, Edit, Links, Row};
+use link_rows::{BornRows, Change, Edit, Links, Row};
 use map_kind::{Dart, Kind, is_generalized};
 use std::alloc::{AllocError, Global};
 
@@ -36,6 +36,7 @@ pub fn ending_edit<K: Kind, const DIM: usize>(
         births: 0,
         deaths: darts,
         changes,
+        born: BornRows::none(alloc),
     })
 }
 
@@ -106,12 +107,7 @@ fn push_links<K: Kind, const DIM: usize>(
         if old == 0 {
             continue;
         }
-        changes.push_reserved(Change {
-            dart,
-            link,
-            old,
-            new: 0,
-        });
+        changes.push_reserved(Change::new(dart, link, old, 0));
     }
 }
 
@@ -146,12 +142,12 @@ fn push_bridge<K: Kind, const DIM: usize>(
         return;
     }
     let end = first_outside_from_within(links, row, link, beside, darts, dart);
-    changes.push_reserved(Change {
-        dart: remaining,
+    changes.push_reserved(Change::new(
+        remaining,
         link,
-        old: dart.number(),
-        new: landing::<K>(remaining, end),
-    });
+        dart.number(),
+        landing::<K>(remaining, end),
+    ));
 }
 
 /// The new link of a dart whose walk ends at the dart of a number: in a generalized map 0, for free, where that is the dart

@@ -1,4 +1,4 @@
-ghost use Rattle.std.specs.Prelude.{◌≡◌, ◌≢◌, ℕ, ◌≤◌, ◌<◌, All, Contains, length, slice_index};
+ghost use Rattle.std.specs.Prelude.{◌≡◌, ◌≢◌, ℕ, ◌+◌, ◌^◌, ◌≤◌, ◌<◌, All, Contains, length, slice_index};
 ghost use Rattle.std.specs.List.Sorted.{IsStrictlyIncreasing};
 ghost use Rattle.map_defs.specs.Rows.{made_max};
 ghost use Rattle.cell_edit.specs.Stars.{star_of};
@@ -53,6 +53,14 @@ impl Stars {
         ensures { result ≡ length self.now.keys }
     {
         self.darts.len() as u32
+    }
+
+    /// The dart from which the new darts are numbered on.
+    pub fn first(&self) -> Dart
+        ensures first { result ≡ self.now.made + 1 }
+        ensures few { result + length self.now.keys ≤ 2 ^ 32 }
+    {
+        Dart::new(self.made + 1).unwrap()
     }
 
     /// The new dart of a dart that gets one.

@@ -1,14 +1,15 @@
 ghost use Rattle.std.specs.Prelude.{ℕ, ◌≡◌, ◌+◌, ◌≤◌, ◌<◌, vec_len, vec_capacity};
 ghost use Rattle.cell_edit.specs.Writing.{IsLinkEntry, Appends};
 
-use link_rows::Change;
+use link_rows::{Change, LINKS_MAX};
 use map_kind::Dart;
 
 /// Appends the change by which a link of a dart that is free becomes the dart of this number; none where the number is 0.
 /// There is room for it.
 #[inline(always)]
 pub fn push_link(dart: Dart, link: usize, number: u32, changes: &mut Vec<Change>)
-    requires { vec_len changes.old < vec_capacity changes.old }
+    requires link { link < LINKS_MAX }
+    requires room { vec_len changes.old < vec_capacity changes.old }
     ensures capacity { vec_capacity changes.new ≡ vec_capacity changes.old }
     ensures few { vec_len changes.new ≤ vec_len changes.old + 1 }
     ensures entry { (L : ℕ → ℕ → ℕ) → L link dart ≡ 0
@@ -17,10 +18,5 @@ pub fn push_link(dart: Dart, link: usize, number: u32, changes: &mut Vec<Change>
     if number == 0 {
         return;
     }
-    changes.push_reserved(Change {
-        dart,
-        link,
-        old: 0,
-        new: number,
-    });
+    changes.push_reserved(Change::new(dart, link, 0, number));
 }

@@ -7,7 +7,7 @@ ghost use Rattle.face_center.specs.Hanging.{tip_of, before, star_link, tip_link,
 
 use crate::writing::{push_joined, room_for_edges};
 use cell_edit::{Stars, push_link};
-use link_rows::{Change, Edit, Links, Row};
+use link_rows::{BornRows, Change, Edit, Links, Row};
 use map_kind::{Dart, Kind, is_generalized};
 use std::alloc::{AllocError, Global};
 
@@ -45,6 +45,7 @@ pub(crate) fn hanging_edit<K: Kind, const DIM: usize>(
         births: 2 * stars.births(),
         deaths: Vec::new(alloc),
         changes,
+        born: BornRows::none(alloc),
     })
 }
 
@@ -122,21 +123,16 @@ fn push_old<K: Kind, const DIM: usize>(
 {
     // A map has links 0 to 2 at least, and to 8 at most.
     links.see_sound();
-    changes.push_reserved(Change {
-        dart: before(links, row, hanging, dart),
-        link: 1,
-        old: led_before(links, row, hanging, dart),
-        new: edge.begin.number(),
-    });
+    changes.push_reserved(Change::new(
+        before(links, row, hanging, dart),
+        1,
+        led_before(links, row, hanging, dart),
+        edge.begin.number(),
+    ));
     if is_generalized::<K>() {
         return;
     }
-    changes.push_reserved(Change {
-        dart,
-        link: 0,
-        old: row.entry(0),
-        new: edge.end.number(),
-    });
+    changes.push_reserved(Change::new(dart, 0, row.entry(0), edge.end.number()));
 }
 
 /// Appends the changes of the two new darts of a dart with this row. There is room for them.

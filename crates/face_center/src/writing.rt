@@ -1,7 +1,7 @@
 ghost use Rattle.std.specs.Prelude.{ℕ, ◌≡◌, ◌+◌, ◌*◌, ◌≤◌, ◌<◌, [], IfOk, vec_len, vec_capacity};
 ghost use Rattle.cell_edit.specs.Writing.{IsLinkEntry, Appends};
 
-use link_rows::Change;
+use link_rows::{Change, LINKS_MAX};
 use map_kind::Dart;
 use std::alloc::{AllocError, Global};
 
@@ -21,16 +21,12 @@ pub(crate) fn room_for_edges(
 
 /// Appends the change by which a link of a dart that is free becomes another dart. There is room for it.
 pub(crate) fn push_joined(dart: Dart, link: usize, other: Dart, changes: &mut Vec<Change>)
-    requires { vec_len changes.old < vec_capacity changes.old }
+    requires link { link < LINKS_MAX }
+    requires room { vec_len changes.old < vec_capacity changes.old }
     ensures capacity { vec_capacity changes.new ≡ vec_capacity changes.old }
     ensures few { vec_len changes.new ≤ vec_len changes.old + 1 }
     ensures entry { (L : ℕ → ℕ → ℕ) → L link dart ≡ 0
         → Appends L (IsLinkEntry dart link other) changes.old.items changes.new.items }
 {
-    changes.push_reserved(Change {
-        dart,
-        link,
-        old: 0,
-        new: other.number(),
-    });
+    changes.push_reserved(Change::new(dart, link, 0, other.number()));
 }

@@ -37,4 +37,4 @@ returns-clause-entries g c =
     bridge-push g.K.Kind.kind (links_of c.args.links.now.rows) c.args.link c.args.beside c.args.darts.now c.args.dart c.in-Some.remaining c.first_outside_from_within-end.result c.landing.result c.args.changes.now.items c.push_reserved.new.self.items
     is some (λ has. false≢true (sym c.if-is_among.false ∙ c.is_among.ensures.1 has))
     (beyond-back g.K.Kind.kind (links_of c.args.links.now.rows) c.requires.laws c.args.link c.args.dart c.in-Some.remaining c.requires.can.own is some)
-    c.first_outside_from_within-end.ensures c.landing.ensures (rw c.number.ensures.same at c.push_reserved.ensures.items)
+    c.first_outside_from_within-end.ensures c.landing.ensures (rw (c.new-2.ensures, c.number.ensures.same) at c.push_reserved.ensures.items)

@@ -18,7 +18,7 @@ pub loop-link-preserved : goal.loop-link-preserved
 loop-link-preserved g c =
     let is : c.entry-old.result ≡ links_of c.args.links.now.rows c.loop-link.link c.args.dart = c.entry-old.ensures ∙ c.requires.row c.loop-link.link in
     let grown : c.push_reserved.new.self.items ≡ c.loop-link.changes.items ++ record { dart = c.args.dart; link = c.loop-link.link; old = links_of c.args.links.now.rows c.loop-link.link c.args.dart; new = 0 } ∷ [] =
-    rw is at c.push_reserved.ensures.items in (
+    rw (c.new.ensures, is) at c.push_reserved.ensures.items in (
       ends-push (links_of c.args.links.now.rows) c.args.dart c.loop-link.link c.args.changes.now.items c.loop-link.changes.items c.push_reserved.new.self.items
           (λ none. c.if-old-eq0.false (is ∙ none)) c.loop-link.invariant.0 grown,
       c.push_reserved.ensures.capacity ∙ c.loop-link.invariant.1,

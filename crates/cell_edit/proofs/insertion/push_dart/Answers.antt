@@ -34,6 +34,7 @@ push_copy-requires g c =
     let room : vec_len c.push_reserved-2.new.self < vec_capacity c.push_reserved-2.new.self =
     omega (arith, c.push_reserved.ensures.len, c.push_reserved.ensures.capacity, c.push_distant.ensures.few, c.push_distant.ensures.capacity, c.push_reserved-2.ensures.len, c.push_reserved-2.ensures.capacity, c.requires.room, c.requires.link) in
     record {
+      link = omega (arith, c.requires.link, c.see_sound.ensures.high);
       key = key;
       nothing = c.requires.ready.nothing;
       room = room;
@@ -65,7 +66,7 @@ returns-clause-entries g c =
     let free : (t : ℕ) → links_of rows t (star_of stars c.args.dart) ≡ 0 = λ t. unmade-free rows t (star_of stars c.args.dart) (omega (arith, c.requires.ready.made, above)) in
     let is : c.entry-old.result ≡ links_of rows c.args.link c.args.dart = c.entry-old.ensures ∙ c.live_row-row.ensures c.args.link in
     let start : List Change = c.args.changes.now.items ++ record { dart = c.args.dart; link = c.args.link; old = links_of rows c.args.link c.args.dart; new = star_of stars c.args.dart } ∷ [] in
-    let begun : c.push_reserved.new.self.items ≡ start = rw (is, c.number.ensures.same, c.requires.new) at c.push_reserved.ensures.items in
+    let begun : c.push_reserved.new.self.items ≡ start = rw (c.new.ensures, is, c.number.ensures.same, c.requires.new) at c.push_reserved.ensures.items in
     let first : Appends (links_of rows) (IsDistantCopy g.K.Kind.kind c.args.link row (star_of stars) 0 c.args.link (star_of stars c.args.dart)) start c.push_distant.new.changes.items =
     (rw (c.requires.new, begun) at c.push_distant.ensures.copies (links_of rows)) free in
     let own : c.push_reserved-2.new.self.items ≡ c.push_distant.new.changes.items ++ record { dart = star_of stars c.args.dart; link = c.args.link; old = 0; new = c.args.dart } ∷ [] =
