@@ -6,7 +6,7 @@ ghost use Rattle.map_core.specs.Calls.{Does};
 
 use crate::map::Map;
 use attr_rules::Hook;
-use link_rows::{Edit, Links, SIDES_MAX, polygon_edit};
+use link_rows::{BornRows, Edit, Links, SIDES_MAX, polygon_edit};
 use map_kind::{Dart, Done, Kind, Refusal, Refused};
 use std::alloc::Global;
 
@@ -48,6 +48,7 @@ impl<'h, K: Kind, H: Hook, const DIM: usize> Map<'h, K, H, DIM> {
             births: 1,
             deaths: Vec::new(alloc),
             changes: Vec::new(alloc),
+            born: BornRows::none(alloc),
         };
         self.bear(alloc, &edit)?;
         Ok(Done { first, count: 1 })

@@ -1,5 +1,5 @@
 //! Closing the map, hanging an edge at a corner, and putting a vertex in the middle of a face.
-ghost use Rattle.std.specs.Prelude.{◌≡◌, ℕ};
+ghost use Rattle.std.specs.Prelude.{◌≡◌, ◌↔◌, ℕ};
 ghost use Rattle.machine_defs.specs.Script.{Close, Dangle, Center};
 ghost use Rattle.valued_map.specs.Keeping.{IsKept};
 ghost use Rattle.map_core.specs.Calls.{Does};
@@ -89,7 +89,7 @@ fn closing_link<K: Kind, const DIM: usize>(
 /// The dimensions whose cells are kept where a map is closed at a link: all below the link in a generalized map, and in a
 /// combinatorial map that of the vertices where the link is 2.
 fn kept_by_closing<K: Kind>(link: usize) -> Kept
-    ensures { (i : ℕ) → IsKept result i → IsKeptByClosing K.kind link i }
+    ensures { (i : ℕ) → IsKept result i ↔ IsKeptByClosing K.kind link i }
 {
     if is_generalized::<K>() {
         return Kept { from: 0, to: link };

@@ -14,7 +14,7 @@ use crate::map::Map;
 use attr_rules::Hook;
 use cell_walk::cells_of;
 use flat_lists::Lists;
-use link_rows::{Edit, Links, MADE_MAX};
+use link_rows::{Links, MADE_MAX, PlainEdit};
 use map_kind::{Dart, Done, Kind, Place};
 use std::alloc::{AllocError, Global};
 use undo_journal::Journal;
@@ -23,7 +23,12 @@ impl<'h, K: Kind, H: Hook, const DIM: usize> Map<'h, K, H, DIM> {
     /// Makes a map from nothing by an edit, gives dimension 0 the rule `first copy` and each 0-cell its value: `places` has
     /// the least dart of each, ascending. The answer tells the darts that were made. It is no step of the machine: with the
     /// map of a mesh it gives the state that a script starts from. It costs the size of the edit times a logarithm.
-    pub fn load(&mut self, alloc: Global, edit: &Edit, places: &[Place]) -> Result<Done, AllocError>
+    pub fn load(
+        &mut self,
+        alloc: Global,
+        edit: &PlainEdit,
+        places: &[Place],
+    ) -> Result<Done, AllocError>
         requires new { self.old.state ≡ empty_state K.kind DIM }
         requires fits { Fits K.kind DIM (None ∷ []) edit.now }
         requires few { edit.now.births ≤ MADE_MAX }
@@ -80,7 +85,7 @@ impl<'h, K: Kind, H: Hook, const DIM: usize> Map<'h, K, H, DIM> {
 /// The links that an edit makes from nothing.
 fn links_after<K: Kind, const DIM: usize>(
     alloc: Global,
-    edit: &Edit,
+    edit: &PlainEdit,
 ) -> Result<Links<K, DIM>, AllocError>
     requires low { 2 ≤ DIM }
     requires high { DIM ≤ 8 }
@@ -92,7 +97,7 @@ fn links_after<K: Kind, const DIM: usize>(
     if links.reserve(edit.births).is_err() {
         return Err(AllocError);
     }
-    links.apply(edit);
+    links.apply_plain(edit);
     Ok(links)
 }
 

@@ -1,26 +1,35 @@
 -- Which darts an edit touches in a dimension, by its changes.
-use Rattle.std.proofs.Common.{ℕ, ◌≡◌, ◌≢◌, ◌⊎◌, ◌+◌, ◌<◌, ◌≤◌, inl, inr, refl, sym, ap, subst, ◌∙◌, List, length, get_or, take, Option, Some, None, Contains, arith}
-use Rattle.std.specs.Prelude.{IfSome}
-use Rattle.std.proofs.lemmas.Bool.{cases_eq, cases_lt}
+use Rattle.std.proofs.Common.{ℕ, Bool, false, ◌≡◌, ◌++◌, ◌≢◌, ◌⊎◌, ◌+◌, ◌<◌, ◌≤◌, inl, inr, refl, sym, ap, subst, ◌∙◌, List, length, get_or, Option, Some, None, Contains, arith}
+use Rattle.std.specs.Prelude.{IfSome, IsTrue, All}
+use Rattle.std.proofs.lemmas.Bool.{cases_lt, false≢true}
 use Rattle.std.proofs.lemmas.List.{get_or_default}
+use Rattle.std.proofs.lemmas.List.Elements.{All-contains, Contains-append_cases}
 use Rattle.map_defs.specs.Kind.{Kind, inverse}
 use Rattle.map_defs.specs.Links.{Links, HasDimension}
 use Rattle.map_defs.specs.LinkWords.{LinkWord, through, through_second, IsCellWord, IsWithin}
 use Rattle.map_defs.specs.Laws.{Laws}
 use Rattle.map_defs.specs.Rows.{Rows, IsLive, IsSound, links_of, made}
-use Rattle.map_defs.specs.Edits.{Change, Edit, IsLed}
+use Rattle.map_defs.specs.Edits.{Change, Edit, IsLed, after_edit}
 use Rattle.edit_laws.proofs.RowWrites.{live-within}
 use Rattle.edit_laws.proofs.EditLinks.{links-at}
+use Rattle.journal_laws.proofs.EditOrder.{Names, named-or-not}
 use Rattle.link_laws.proofs.RowFacts.{rows_dimension, rows_lead_to_live}
 use Rattle.map_defs.specs.Values.{Rule}
 use Rattle.store_defs.specs.Labelings.{Labeling}
 use Rattle.label_laws.specs.Touching.{IsSettledAlong, IsUnsettled}
 use Rattle.valued_map.specs.declared.kept.Kept.{Kept}
-use Rattle.valued_map.specs.Changing.{IsUnsettledAt, IsFollowed, IsUnsettledFrom, IsChangedIn}
+use Rattle.valued_map.specs.Changing.{IsUnsettledOf, IsFollowed, IsUnsettledFrom, IsChangedIn}
 use Rattle.valued_map.proofs.DimLists.{AreListedBelow}
-use Rattle.valued_map.proofs.Heads.{among-more}
 use Rattle.valued_map.proofs.LiveDarts.{zero-dead}
-use Rattle.valued_map.proofs.Adding.{no_change, change_at, find-link, same-else, long}
+use Rattle.valued_map.proofs.Adding.{same-else, long}
+
+-- where no row is of a dart up to a number, the changes of these darts are among those that no row tells
+pub older-among : (cs told : List Change) (older : ℕ) (begun : Bool) → begun ≡ false → ((c : Change) → Contains told c → c.dart ≤ older → IsTrue begun)
+    → (c : Change) → Contains (cs ++ told) c → c.dart ≤ older → Contains cs c
+older-among cs told older begun later begins c here low = elim (Contains-append_cases cs told c here) [
+  | inl among ↦ among
+  | inr row ↦ absurd (false≢true (sym later ∙ begins c row low))
+]
 
 -- no change is one of this link of the dart
 abbrev pub IsUnchanged : List Change → ℕ → ℕ → Type 0
@@ -57,28 +66,6 @@ came-before k n e old new led sound d link live x at was older made-is above =
     lived : IsLive old x
     lived = subst (IsLive old) back (led.sound.live (inverse k link) d (λ none. let zero : x ≡ 0 = sym back ∙ none in omega (arith, zero)))
 
--- the change is of a dart that lived before and lives on, and leaves x unsettled along a word of the i-cells
-abbrev pub IsUnsettledOf : Kind → ℕ → Edit → Rows → ℕ → Labeling → Change → ℕ → Type 0
-IsUnsettledOf k n e rows i labels c x = (c.dart + e.births ≤ made rows) × IsLive rows c.dart × ((w : LinkWord) × (IsCellWord k i w × IsWithin n w) × IsUnsettledAt k n e rows i labels w c x)
-
--- one of the first `below` changes does
-abbrev pub AreUnsettledBelow : Kind → ℕ → Edit → Rows → ℕ → Labeling → ℕ → ℕ → Type 0
-AreUnsettledBelow k n e rows i labels below x = (j : ℕ) × (j < below) × IsUnsettledOf k n e rows i labels (change_at e.changes j) x
-
-pub unsettled-more : (k : Kind) (n : ℕ) (e : Edit) (rows : Rows) (i : ℕ) (labels : Labeling) (j x : ℕ) → AreUnsettledBelow k n e rows i labels (j + 1) x
-    → AreUnsettledBelow k n e rows i labels j x ⊎ IsUnsettledOf k n e rows i labels (change_at e.changes j) x
-unsettled-more k n e rows i labels j x (h, lt, rest) = elim (cases_eq h j) [
-  | inl same ↦ inr (subst (λ (m : ℕ). IsUnsettledOf k n e rows i labels (change_at e.changes m) x) same rest)
-  | inr other ↦ inl (h, omega arith, rest)
-]
-
--- the changes that a walk has come to, and one more
-pub unchanged-more : (cs : List Change) (k d i : ℕ) (c : Change) → k < length cs → c ≡ get_or cs k c → (c.dart ≡ d → c.link ≡ i → ⊥) → IsUnchanged (take k cs) d i → IsUnchanged (take (k + 1) cs) d i
-unchanged-more cs k d i c lt is other none b here dart link = elim (among-more cs k c b lt is here) [
-  | inl before ↦ none b before dart link
-  | inr same ↦ other (ap (λ (x : Change). x.dart) same ∙ dart) (ap (λ (x : Change). x.link) same ∙ link)
-]
-
 -- a word with a link above the dimension leads nowhere
 pub word-within : (n : ℕ) (L N : Links) → HasDimension n L → HasDimension n N → ((t : ℕ) → L t 0 ≡ 0) → ((t : ℕ) → N t 0 ≡ 0) → (v : LinkWord) (x : ℕ)
     → (through N v x ≢ through L v x) → IsWithin n v
@@ -110,14 +97,16 @@ module _ (k : Kind) (n : ℕ) (e : Edit) (old new : Rows) (led : IsLed k n e old
   N = links_of new
 
   abbrev Goal : ℕ → Type 0
-  Goal x = AreUnsettledBelow k n e new i labels (length e.changes) x
+  Goal x = (c : Change) × Contains e.changes c × IsUnsettledOf k n e new i labels c x
 
   -- a change tells the link before and after
-  old-at : (j : ℕ) → j < length e.changes → L (change_at e.changes j).link (change_at e.changes j).dart ≡ (change_at e.changes j).old
-  old-at j lt = led.fits.stands j no_change lt
+  old-at : (c : Change) → Contains e.changes c → L c.link c.dart ≡ c.old
+  old-at c held = All-contains (λ (c : Change). L c.link c.dart ≡ c.old) e.changes c led.fits.stands held
 
-  new-at : (j : ℕ) → j < length e.changes → N (change_at e.changes j).link (change_at e.changes j).dart ≡ (change_at e.changes j).new
-  new-at j lt = ap (λ (r : Rows). links_of r (change_at e.changes j).link (change_at e.changes j).dart) (sym led.after) ∙ links-at k n old e led.sound led.fits j no_change lt
+  new-at : (c : Change) → Contains e.changes c → N c.link c.dart ≡ c.new
+  new-at c held =
+      ap (λ (r : Rows). links_of r c.link c.dart) (sym led.after)
+      ∙ All-contains (λ (c : Change). links_of (after_edit n e old) c.link c.dart ≡ c.new) e.changes c (links-at k n old e led.sound led.fits) held
 
   stays : (x : ℕ) → IsLive old x → x + e.births ≤ made new
   stays x live = let within : x < length old = live-within old x live in let more : length new ≡ length old + e.births = long k n e old new led in omega (arith, more)
@@ -128,19 +117,23 @@ module _ (k : Kind) (n : ℕ) (e : Edit) (old new : Rows) (led : IsLed k n e old
     inside = word-within n L N (rows_dimension n old led.sound.wide) (rows_dimension n new sound.wide) w.nil wn.nil v x apart
 
     -- the first link of the word changed
-    by-first : (j : ℕ) → j < length e.changes → (change_at e.changes j).dart ≡ x → (change_at e.changes j).link ≡ v.first → Goal x
-    by-first j lt dart link = (j, lt, (subst (λ d. d + e.births ≤ made new) (sym dart) (stays x before), subst (IsLive new) (sym dart) after, (v, (cell, inside), inl (old, led, (sym link, sym dart, was, is, apart, unsettled)))))
+    by-first : Names e.changes v.first x → Goal x
+    by-first (c, held, dart, link) = (
+      c,
+      held,
+      (subst (λ d. d + e.births ≤ made new) (sym dart) (stays x before), subst (IsLive new) (sym dart) after, (v, (cell, inside), inl (old, led, (sym link, sym dart, was, is, apart, unsettled)))),
+    )
       where
-        was : L v.first x ≡ (change_at e.changes j).old
-        was = ap (L v.first) (sym dart) ∙ ap (λ t. L t (change_at e.changes j).dart) (sym link) ∙ old-at j lt
+        was : L v.first x ≡ c.old
+        was = ap (L v.first) (sym dart) ∙ ap (λ t. L t c.dart) (sym link) ∙ old-at c held
 
-        is : N v.first x ≡ (change_at e.changes j).new
-        is = ap (N v.first) (sym dart) ∙ ap (λ t. N t (change_at e.changes j).dart) (sym link) ∙ new-at j lt
+        is : N v.first x ≡ c.new
+        is = ap (N v.first) (sym dart) ∙ ap (λ t. N t c.dart) (sym link) ∙ new-at c held
 
     -- it did not, so the second did
     by-second : N v.first x ≡ L v.first x → (s : Option ℕ) → v.second ≡ s → Goal x
     by-second same None none = absurd (apart (ap (λ (t : Option ℕ). through_second N t (N v.first x)) none ∙ same ∙ sym (ap (λ (t : Option ℕ). through_second L t (L v.first x)) none)))
-    by-second same (Some s) some = go (find-link e.changes (N v.first x) s)
+    by-second same (Some s) some = go (named-or-not e.changes s (N v.first x))
       where
         beyond : N s (N v.first x) ≢ L s (N v.first x)
         beyond e2 = apart (ap (λ (t : Option ℕ). through_second N t (N v.first x)) some ∙ e2 ∙ ap (L s) same ∙ sym (ap (λ (t : Option ℕ). through_second L t (L v.first x)) some))
@@ -154,27 +147,36 @@ module _ (k : Kind) (n : ℕ) (e : Edit) (old new : Rows) (led : IsLed k n e old
         lived-there : IsLive old (N v.first x)
         lived-there = subst (IsLive old) (sym same) (rows_lead_to_live k old w v.first x (λ z. there (same ∙ z)))
 
-        go : ((j : ℕ) × (j < length e.changes) × ((change_at e.changes j).dart ≡ N v.first x) × ((change_at e.changes j).link ≡ s)) ⊎ ((j : ℕ) (z : Change) → j < length e.changes → N v.first x ≡ (get_or e.changes j z).dart → s ≡ (get_or e.changes j z).link → ⊥) → Goal x
+        go : Names e.changes s (N v.first x) ⊎ All (λ (c : Change). N v.first x ≡ c.dart → s ≡ c.link → ⊥) e.changes → Goal x
         go (inr none) = absurd (beyond (same-else k n e old new led s (N v.first x) none))
-        go (inl (j, lt, dart, link)) = (
-          j,
-          lt,
+        go (inl (c, held, dart, link)) = (
+          c,
+          held,
           (
             subst (λ d. d + e.births ≤ made new) (sym dart) (stays (N v.first x) lived-there),
             subst (IsLive new) (sym dart) live-there,
-            (v, (cell, inside), inr (old, led, (some ∙ ap Some (sym link), sym dart, sym same ∙ sym dart, old-at j lt, new-at j lt, unsettled))),
+            (v, (cell, inside), inr (old, led, (some ∙ ap Some (sym link), sym dart, sym same ∙ sym dart, old-at c held, new-at c held, unsettled))),
           ),
         )
 
     unsettled-by : Goal x
-    unsettled-by = go (find-link e.changes x v.first)
+    unsettled-by = go (named-or-not e.changes v.first x)
       where
-        go : ((j : ℕ) × (j < length e.changes) × ((change_at e.changes j).dart ≡ x) × ((change_at e.changes j).link ≡ v.first)) ⊎ ((j : ℕ) (z : Change) → j < length e.changes → x ≡ (get_or e.changes j z).dart → v.first ≡ (get_or e.changes j z).link → ⊥) → Goal x
-        go (inl (j, lt, dart, link)) = by-first j lt dart link
+        go : Names e.changes v.first x ⊎ All (λ (c : Change). x ≡ c.dart → v.first ≡ c.link → ⊥) e.changes → Goal x
+        go (inl named) = by-first named
         go (inr none) = by-second (same-else k n e old new led v.first x none) v.second refl
 
   pub unsettled-by-change : (x : ℕ) → IsUnsettled k i old new labels x → Goal x
   unsettled-by-change x (before, after, (v, cell, apart, unsettled)) = unsettled-by x before after v cell apart unsettled
+
+-- each dart that is not settled is left so by one of some changes, among which are those of all darts that were made before
+pub unsettled-among : (k : Kind) (n : ℕ) (e : Edit) (rows : Rows) (i : ℕ) (labels : Labeling) (older : ℕ) → older + e.births ≡ made rows → IsSound k n rows → (cs : List Change)
+    → ((c : Change) → Contains e.changes c → c.dart ≤ older → Contains cs c) → (x : ℕ) → IsUnsettledFrom k n e rows i labels x
+    → (c : Change) × Contains cs c × IsUnsettledOf k n e rows i labels c x
+unsettled-among k n e rows i labels older made-is sound cs held x (old, led, w, wn, unsettled) = on (unsettled-by-change k n e old rows led sound w wn i labels x unsettled)
+  where
+    on : (c : Change) × Contains e.changes c × IsUnsettledOf k n e rows i labels c x → (c : Change) × Contains cs c × IsUnsettledOf k n e rows i labels c x
+    on (c, here, at) = (c, held c here (let stays : c.dart + e.births ≤ made rows = at.0 in omega (arith, stays, made-is)), at)
 
 -- a change that leaves a dart unsettled is of a link that a word of the cells follows
 followed-at : (k : Kind) (n : ℕ) (e : Edit) (rows : Rows) (i : ℕ) (labels : Labeling) (c : Change) (x : ℕ) → IsUnsettledOf k n e rows i labels c x → IsFollowed k i c.link
@@ -184,11 +186,10 @@ followed-at k n e rows i labels c x (stays, live, (w, cell, inr (old, led, (link
 -- where no change of an older dart that is live is of such a link, each dart is settled
 pub none-unsettled : (k : Kind) (n : ℕ) (e : Edit) (rows : Rows) (i : ℕ) (labels : Labeling) → IsSound k n rows → (older : ℕ) → older + e.births ≡ made rows
     → ((c : Change) → Contains e.changes c → c.dart ≤ older → IsLive rows c.dart → IsFollowed k i c.link → ⊥) → (x : ℕ) → IsUnsettledFrom k n e rows i labels x → ⊥
-none-unsettled k n e rows i labels sound older made-is none x (old, led, w, wn, unsettled) =
-    let a : AreUnsettledBelow k n e rows i labels (length e.changes) x = unsettled-by-change k n e old rows led sound w wn i labels x unsettled in
-    let c : Change = change_at e.changes a.0 in
-    let stays : c.dart + e.births ≤ made rows = a.2.0 in
-    none c (a.0, a.1, get_or_default e.changes a.0 c no_change a.1) (omega (arith, stays, made-is)) a.2.1 (followed-at k n e rows i labels c x a.2)
+none-unsettled k n e rows i labels sound older made-is none x (old, led, w, wn, unsettled) = on (unsettled-by-change k n e old rows led sound w wn i labels x unsettled)
+  where
+    on : (c : Change) × Contains e.changes c × IsUnsettledOf k n e rows i labels c x → ⊥
+    on (c, held, at) = none c held (let stays : c.dart + e.births ≤ made rows = at.0 in omega (arith, stays, made-is)) at.1 (followed-at k n e rows i labels c x at)
 
 -- the darts changed in each of the first dimensions, by the lists of these
 abbrev pub AreChangedBelow : Kind → ℕ → Edit → Rows → List (Option Rule) → Kept → Labeling → ℕ → List (List ℕ) → Type 0

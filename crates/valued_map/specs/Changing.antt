@@ -1,7 +1,7 @@
 -- How a line changes a map.
 use Rattle.std.specs.Prelude.{ℕ, ◌≡◌, ◌≢◌, ◌+◌, ◌-◌, ◌≤◌, ◌<◌, ◌⊎◌, List, length, Option, Some, Contains, IsSome}
 use Rattle.map_defs.specs.Kind.{Kind}
-use Rattle.map_defs.specs.LinkWords.{LinkWord, through, IsCellWord}
+use Rattle.map_defs.specs.LinkWords.{LinkWord, through, IsCellWord, IsWithin}
 use Rattle.map_defs.specs.Rows.{Rows, IsLive, links_of, made}
 use Rattle.map_defs.specs.Laws.{Laws}
 use Rattle.map_defs.specs.Edits.{Change, Edit, IsLed}
@@ -39,6 +39,10 @@ IsThenUnsettled k n e rows i labels w c x = (old : Rows) × IsLed k n e old rows
 
 abbrev pub IsUnsettledAt : Kind → ℕ → Edit → Rows → ℕ → Labeling → LinkWord → Change → ℕ → Type 0
 IsUnsettledAt k n e rows i labels w c x = IsFirstUnsettled k n e rows i labels w c x ⊎ IsThenUnsettled k n e rows i labels w c x
+
+-- The change is of a dart that lived before and lives on, and may leave x unsettled along a word of the i-cells.
+abbrev pub IsUnsettledOf : Kind → ℕ → Edit → Rows → ℕ → Labeling → Change → ℕ → Type 0
+IsUnsettledOf k n e rows i labels c x = (c.dart + e.births ≤ made rows) × IsLive rows c.dart × ((w : LinkWord) × (IsCellWord k i w × IsWithin n w) × IsUnsettledAt k n e rows i labels w c x)
 
 -- some word along which i-cells run follows the link
 abbrev pub IsFollowed : Kind → ℕ → ℕ → Type 0

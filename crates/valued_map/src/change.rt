@@ -21,7 +21,7 @@ use crate::map::ValuedMap;
 use crate::told::{begin_step, finish_step, new_values, old_values, renewed};
 use attr_pool::{Labels, Pool};
 use attr_rules::Hook;
-use link_rows::{Edit, Links, MADE_MAX};
+use link_rows::{BornRows, Edit, Links, MADE_MAX};
 use map_kind::{Dart, Kind};
 use std::alloc::{AllocError, Global};
 use transport::{Group, RuleRow};
@@ -182,6 +182,7 @@ impl<K: Kind, const DIM: usize> ValuedMap<K, DIM> {
             births: 0,
             deaths: vec![in alloc; dart]?,
             changes: Vec::new(alloc),
+            born: BornRows::none(alloc),
         };
         let made = self.links.made();
         let draft = begin_step(alloc, made, &edit, asked)?;

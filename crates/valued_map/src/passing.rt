@@ -4,21 +4,25 @@ ghost use Rattle.map_defs.specs.Rows.{IsLive};
 ghost use Rattle.map_defs.specs.Edits.{Change as LinkChange};
 ghost use Rattle.valued_map.specs.Changing.{IsFollowed};
 
-use link_rows::{Change, Links};
+use link_rows::{Change, Edit, Links};
 use map_kind::{Kind, is_generalized};
 
-/// Whether some change of links may reroute a dart in a dimension: one of a live dart that was made before the edit, the
-/// darts up to the number `older`, and of a link that some word of the dimension's cells follows.
+/// Whether some change of an edit may reroute a dart in a dimension: one of a live dart that was made before the edit, the
+/// darts up to the number `older`, and of a link that some word of the dimension's cells follows. The rows of new darts are
+/// not looked through: where some might be of darts up to that number, it says that they may.
 pub(crate) fn may_touch<K: Kind, const DIM: usize>(
     links: &Links<K, DIM>,
-    changes: &[Change],
+    edit: &Edit,
     older: u32,
     dim: usize,
 ) -> bool
-    ensures { (c : LinkChange) → Contains changes.now c → c.dart ≤ older → IsLive links.now.rows c.dart
+    ensures { (c : LinkChange) → Contains edit.now.changes c → c.dart ≤ older → IsLive links.now.rows c.dart
         → IsFollowed K.kind dim c.link → IsTrue result }
 {
-    for change in changes {
+    if edit.born.begin_by(older) {
+        return true;
+    }
+    for change in &edit.changes {
         if may_reroute(links, older, dim, *change) {
             return true;
         }
@@ -36,7 +40,7 @@ fn may_reroute<K: Kind, const DIM: usize>(
     ensures { change.dart ≤ older → IsLive links.now.rows change.dart → IsFollowed K.kind dim change.link → IsTrue result }
 {
     change.dart.number() <= older
-        && is_followed::<K>(dim, change.link)
+        && is_followed::<K>(dim, change.link())
         && links.is_live(change.dart)
 }
 

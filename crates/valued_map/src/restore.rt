@@ -168,7 +168,7 @@ fn links_back<K: Kind, const DIM: usize>(links: &mut Links<K, DIM>, steps: &[Ste
 {
     for index in (0..steps.len()).rev() {
         let step = &steps[index];
-        links.reverse(&step.edit);
+        links.reverse_plain(&step.edit);
     }
 }
 
@@ -183,7 +183,7 @@ fn links_forward<K: Kind, const DIM: usize>(links: &mut Links<K, DIM>, steps: &[
     ensures spare { made links.new.rows + links.new.spare ≡ made links.old.rows + links.old.spare }
 {
     for step in steps {
-        links.apply(&step.edit);
+        links.apply_plain(&step.edit);
     }
 }
 

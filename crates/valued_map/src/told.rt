@@ -13,7 +13,7 @@ ghost use Rattle.valued_map.specs.Told.{IsBegun, finished, first_number, IsSorte
 use crate::ids::stored_value;
 use attr_pool::{Labels, Pool};
 use cell_walk::cell;
-use link_rows::{Change, Edit, Links, MADE_MAX};
+use link_rows::{BornRows, Change, Edit, Links, MADE_MAX, PlainEdit};
 use map_kind::{Dart, Kind, Value};
 use std::alloc::{AllocError, Global};
 use transport::Group;
@@ -77,19 +77,21 @@ pub(crate) fn no_edit(alloc: Global) -> Edit
         births: 0,
         deaths: Vec::new(alloc),
         changes: Vec::new(alloc),
+        born: BornRows::none(alloc),
     }
 }
 
 /// The edit as a log has it. It costs the size of the edit times a logarithm.
-fn sorted_edit(alloc: Global, edit: &Edit) -> Result<Edit, AllocError>
+fn sorted_edit(alloc: Global, edit: &Edit) -> Result<PlainEdit, AllocError>
     requires once { AllPairs (λ b c. b.dart ≡ c.dart → b.link ≡ c.link → ⊥) edit.now.changes }
     requires ends { AllPairs (λ c d. c ≢ d) edit.now.deaths }
     ensures { IfOk result (λ sorted. IsSorted edit.now sorted) }
 {
-    Ok(Edit {
+    let changes = edit.all_changes(alloc)?;
+    Ok(PlainEdit {
         births: edit.births,
         deaths: ascending(alloc, &edit.deaths)?,
-        changes: changes_in_order(alloc, &edit.changes)?,
+        changes: changes_in_order(changes),
     })
 }
 
@@ -104,16 +106,16 @@ fn ascending(alloc: Global, darts: &[Dart]) -> Result<Vec<Dart>, AllocError>
     Ok(ascending)
 }
 
-/// The changes that change something, in the order of a log.
-fn changes_in_order(alloc: Global, changes: &[Change]) -> Result<Vec<Change>, AllocError>
-    requires { AllPairs (λ b c. b.dart ≡ c.dart → b.link ≡ c.link → ⊥) changes.now }
-    ensures members { IfOk result (λ kept. (c : LinkChange) → Contains kept.items c ↔ (Contains changes.now c × (c.old ≢ c.new))) }
-    ensures ordered { IfOk result (λ kept. AllPairs IsLinkBefore kept.items) }
+/// Those of the changes that change something, in the order of a log. It takes no memory.
+fn changes_in_order(changes: Vec<Change>) -> Vec<Change>
+    requires { AllPairs (λ b c. b.dart ≡ c.dart → b.link ≡ c.link → ⊥) changes.items }
+    ensures members { (c : LinkChange) → Contains result.items c ↔ (Contains changes.items c × (c.old ≢ c.new)) }
+    ensures ordered { AllPairs IsLinkBefore result.items }
 {
-    let mut kept = Vec::from_slice(alloc, changes)?;
+    let mut kept = changes;
     kept.retain(|change| change.old != change.new);
-    kept.sort_unstable_by_key(|change| (change.dart, change.link));
-    Ok(kept)
+    kept.sort_unstable_by_key(|change| (change.dart, change.link()));
+    kept
 }
 
 /// The darts that an edit ends, and those that it bore after so many.

@@ -3,7 +3,7 @@ ghost use Rattle.std.specs.Prelude.{◌≡◌, ◌≢◌, ℕ, ◌+◌, ◌≤�
 ghost use Rattle.map_defs.specs.LinkWords.{LinkWord as MapWord, through, through_second, IsCellWord, IsWithin};
 ghost use Rattle.map_defs.specs.Rows.{Rows, IsLive, IsSound, links_of, made};
 ghost use Rattle.map_defs.specs.Edits.{Change as LinkChange, IsLed};
-ghost use Rattle.valued_map.specs.Changing.{AreAdded, IsUnsettledFrom, IsFirstUnsettled, IsThenUnsettled, IsUnsettledAt};
+ghost use Rattle.valued_map.specs.Changing.{AreAdded, IsUnsettledFrom, IsUnsettledOf, IsFirstUnsettled, IsThenUnsettled, IsUnsettledAt};
 
 use crate::settled::is_settled;
 use attr_pool::Labels;
@@ -34,7 +34,36 @@ pub(crate) fn add_touched<K: Kind, const DIM: usize>(
     ensures { OnOk result (AreAdded links.now.rows (IsUnsettledFrom K.kind DIM edit.now links.now.rows dim labels.now)
         touched.old.items touched.new.items) }
 {
-    for change in &edit.changes {
+    if edit.born.begin_by(older) {
+        let changes = edit.all_changes(*touched.allocator())?;
+        return add_at_changes(links, labels, edit, older, dim, words, &changes, touched);
+    }
+    // The rows of new darts tell nothing of other darts.
+    let changes = &edit.changes;
+    add_at_changes(links, labels, edit, older, dim, words, changes, touched)
+}
+
+/// Adds the darts that are not settled along some words for some changes of links. The darts up to the number `older` were made
+/// before the edit.
+#[inline(always)]
+fn add_at_changes<K: Kind, const DIM: usize>(
+    links: &Links<K, DIM>,
+    labels: &Labels<DIM>,
+    edit: &Edit,
+    older: u32,
+    dim: usize,
+    words: &[LinkWord],
+    changes: &[Change],
+    touched: &mut Vec<Dart>,
+) -> Result<(), AllocError>
+    requires low { 2 ≤ DIM }
+    requires sound { IsSound K.kind DIM links.now.rows }
+    requires older { older + edit.now.births ≡ made links.now.rows }
+    requires words { (w : MapWord) → Contains words.now w ↔ (IsCellWord K.kind dim w × IsWithin DIM w) }
+    ensures { OnOk result (AreAdded links.now.rows (λ x. (c : LinkChange) × Contains changes.now c
+        × IsUnsettledOf K.kind DIM edit.now links.now.rows dim labels.now c x) touched.old.items touched.new.items) }
+{
+    for change in changes {
         add_at_change(links, labels, edit, older, dim, words, *change, touched)?;
     }
     Ok(())
@@ -140,7 +169,7 @@ fn add_at_first<K: Kind, const DIM: usize>(
     ensures { OnOk result (AreAdded links.now.rows (IsFirstUnsettled K.kind DIM edit.now links.now.rows dim labels.now word change)
         touched.old.items touched.new.items) }
 {
-    if word.first != change.link {
+    if word.first != change.link() {
         return Ok(());
     }
     let Some(before) = led_to(links, edit, word.second, change.old) else {
@@ -181,7 +210,7 @@ fn add_at_second<K: Kind, const DIM: usize>(
     ensures { OnOk result (AreAdded links.now.rows (IsThenUnsettled K.kind DIM edit.now links.now.rows dim labels.now word change)
         touched.old.items touched.new.items) }
 {
-    if word.second != Some(change.link) {
+    if word.second != Some(change.link()) {
         return Ok(());
     }
     let Some(dart) = links.link(change.dart, K::inverse(word.first)) else {
@@ -325,23 +354,10 @@ fn number_before<K: Kind, const DIM: usize>(
     let Some(dart) = Dart::new(number) else {
         return 0;
     };
-    match change_of(&edit.changes, dart, link) {
+    match edit.change_of(dart, link) {
         Some(change) => change.old,
         None => links.number_at(dart, link),
     }
-}
-
-/// The change of a link of a dart, if there is one.
-fn change_of(changes: &[Change], dart: Dart, link: usize) -> Option<Change>
-    ensures some { IfSome result (λ c. Contains changes.now c × (c.dart ≡ dart) × (c.link ≡ link)) }
-    ensures none { IsNone result → (c : LinkChange) → Contains changes.now c → c.dart ≡ dart → c.link ≡ link → ⊥ }
-{
-    for change in changes {
-        if change.dart == dart && change.link == link {
-            return Some(*change);
-        }
-    }
-    None
 }
 
 /// Adds the dart of a number, if it is live.

@@ -2,7 +2,7 @@ use Rattle.std.proofs.Common.{ℕ, ◌≡◌, ◌-◌, ◌↔◌, List, Contains
 use Rattle.std.proofs.lemmas.Bool.{false≢true}
 use Rattle.map_defs.specs.LinkWords.{LinkWord, IsCellWord, IsWithin}
 use Rattle.map_defs.specs.Rows.{made}
-use Rattle.map_defs.specs.Edits.{Change, Edit}
+use Rattle.map_defs.specs.Edits.{Edit}
 use Rattle.valued_map.proofs.Rerouting.{none-unsettled}
 use Rattle.valued_map.proofs.Joining.{bare-alike}
 use Rattle.valued_map.proofs.changed.changed_in.Goals as goal
@@ -11,13 +11,12 @@ pub returns-then-not-may_touch-clause-all : goal.returns-then-not-may_touch-clau
 returns-then-not-may_touch-clause-all g c = λ x moved.
     let births-is : c.edit.inside.births ≡ c.args.edit.now.births = ap (λ (e : Edit). e.births) c.edit.view_is in
     let older : ℕ = c.made.result - c.edit.inside.births in
-    let same : c.deref.result.now ≡ c.args.edit.now.changes = c.deref.ensures.value ∙ ap (λ (e : Edit). e.changes) c.edit.view_is in
     let bare-above = c.requires.bare in
     elim moved [
       | inr (inl apart) ↦ absurd (bare-alike g.K.Kind.kind c.args.dim c.args.links.now.rows (made c.args.links.now.rows - c.args.edit.now.births) c.args.labels.now bare-above x apart)
       | inr (inr joined) ↦ absurd (false≢true (sym c.if-not-has.true ∙ c.has.ensures.1 joined.0))
       | inl loose ↦ absurd (none-unsettled g.K.Kind.kind g.row.DIM c.args.edit.now c.args.links.now.rows c.args.dim c.args.labels.now c.made.ensures.sound older (omega (arith, c.requires.births, c.made.ensures.made, births-is))
-          (λ b here old live followed. false≢true (sym c.if-not-may_touch.true ∙ c.may_touch.ensures b (subst (λ (bs : List Change). Contains bs b) (sym same) here) old live followed))
+          (λ b here old live followed. false≢true (sym c.if-not-may_touch.true ∙ c.may_touch.ensures b here old live followed))
           x loose.1)
     ]
 
@@ -73,7 +72,7 @@ changed_along-requires-2 g c =
                     c.requires.placed,
                     (
                       λ d high. c.requires.bare d (omega (arith, c.made.ensures.made, births-is)),
-                      λ w. subst (λ (ws : List LinkWord). Contains ws w ↔ (IsCellWord g.K.Kind.kind c.args.dim w × IsWithin g.row.DIM w)) (sym c.deref-2.ensures.value)
+                      λ w. subst (λ (ws : List LinkWord). Contains ws w ↔ (IsCellWord g.K.Kind.kind c.args.dim w × IsWithin g.row.DIM w)) (sym c.deref.ensures.value)
                           (subst (λ (d : ℕ). Contains c.in_ok-words.words.items w ↔ (IsCellWord g.K.Kind.kind c.args.dim w × IsWithin d w)) c.dimension-2.ensures.dimension (c.in_ok-words.ensures w)),
                     ),
                   ),

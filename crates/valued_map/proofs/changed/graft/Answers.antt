@@ -1,4 +1,4 @@
-use Rattle.std.proofs.Common.{ℕ, ◌≡◌, ◌<◌, ◌+◌, List, Contains, Result, Ok, Err, drop, take_all, inl, inr, lit<, refl, sym, ap, subst, ◌∙◌, ⊎_elim, arith}
+use Rattle.std.proofs.Common.{ℕ, ◌≡◌, ◌<◌, ◌+◌, List, Contains, drop, take_all, inl, inr, lit<, refl, sym, ap, subst, ◌∙◌, ⊎_elim, arith}
 use Rattle.std.proofs.lemmas.List.{take_rest}
 use Rattle.std.specs.Prelude.{OnOk}
 use Rattle.map_defs.specs.Kind.{Kind}
@@ -8,14 +8,10 @@ use Rattle.map_defs.specs.Cells.{here, onward}
 use Rattle.store_defs.specs.Labelings.{Labeling, id_of}
 use Rattle.label_laws.specs.Touching.{AreGrafted}
 use Rattle.valued_map.specs.Changing.{AreAdded, LeadsApart, IsApartFrom, IsLowerAlong, IsApartAlong}
-use Rattle.valued_map.proofs.Adding.{added-none, added-told}
+use Rattle.valued_map.proofs.Adding.{added-none, added-told, on-ok}
 use Rattle.valued_map.proofs.Heads.{among-more, among-parts, among-behind}
 use Rattle.valued_map.proofs.Joining.{leading-within, grafts-none}
 use Rattle.valued_map.proofs.changed.graft.Goals as goal
-
-on-ok : {E P Q : Type 0} (r : Result (Unit {0}) E) → (P → Q) → OnOk r P → OnOk r Q
-on-ok (Ok u) f h = f h
-on-ok (Err e) f h = h
 
 pub row-requires : goal.row-requires
 row-requires g c = (lit< tt, omega (arith, c.see_sound.ensures.high))

@@ -1,14 +1,9 @@
-use Rattle.std.proofs.Common.{ℕ, ◌≡◌, ◌≢◌, ◌<◌, Contains, Result, Ok, Err, None, inl, inr, lit<, sym, ◌∙◌, arith}
-use Rattle.std.specs.Prelude.{OnOk}
+use Rattle.std.proofs.Common.{ℕ, ◌≡◌, ◌≢◌, ◌<◌, Contains, None, inl, inr, lit<, sym, ◌∙◌, arith}
 use Rattle.map_defs.specs.Rows.{Rows}
 use Rattle.store_defs.specs.Labelings.{Labeling, id_of}
 use Rattle.valued_map.specs.Changing.{IsApartFrom}
-use Rattle.valued_map.proofs.Adding.{added-told}
+use Rattle.valued_map.proofs.Adding.{added-told, on-ok}
 use Rattle.valued_map.proofs.changed.join.Goals as goal
-
-on-ok : {E P Q : Type 0} (r : Result (Unit {0}) E) → (P → Q) → OnOk r P → OnOk r Q
-on-ok (Ok u) f h = f h
-on-ok (Err e) f h = h
 
 pub returns-in_default-clause-added : goal.returns-in_default-clause-added
 returns-in_default-clause-added g c =

@@ -1,14 +1,9 @@
-use Rattle.std.proofs.Common.{Result, Ok, Err, ◌≡◌, ◌≢◌, Some}
-use Rattle.std.specs.Prelude.{OnOk}
+use Rattle.std.proofs.Common.{◌≡◌, ◌≢◌, Some}
 use Rattle.map_defs.specs.LinkWords.{LinkWord}
 use Rattle.map_defs.specs.Rows.{Rows, links_of}
 use Rattle.map_defs.specs.Edits.{Change}
-use Rattle.valued_map.proofs.Adding.{added-then}
+use Rattle.valued_map.proofs.Adding.{added-then, on-ok}
 use Rattle.valued_map.proofs.near.add_near_along.Goals as goal
-
-on-ok : {E P Q : Type 0} (r : Result (Unit {0}) E) → (P → Q) → OnOk r P → OnOk r Q
-on-ok (Ok u) f h = f h
-on-ok (Err e) f h = h
 
 pub returns : goal.returns
 returns g c =

@@ -1,13 +1,14 @@
-use Rattle.std.proofs.Common.{◌≤◌, List, Contains, sym, ◌∙◌, subst, take_all, ⊎_elim}
+use Rattle.std.proofs.Common.{◌≤◌, List, Contains, sym, ap, ◌∙◌, subst, take_all, ⊎_elim}
 use Rattle.std.proofs.lemmas.Bool.{false≢true}
 use Rattle.map_defs.specs.Rows.{IsLive}
-use Rattle.map_defs.specs.Edits.{Change}
+use Rattle.map_defs.specs.Edits.{Change, Edit}
 use Rattle.valued_map.specs.Changing.{IsFollowed}
 use Rattle.valued_map.proofs.Heads.{among-more, among-none}
+use Rattle.valued_map.proofs.Rerouting.{older-among}
 use Rattle.valued_map.proofs.passing.may_touch.Goals as goal
 
 pub loop-change-init : goal.loop-change-init
-loop-change-init g c = λ b here older live followed. among-none c.args.changes.now b here
+loop-change-init g c = λ b here older live followed. among-none c.deref-change-items.result.now b here
 
 pub loop-change-preserved : goal.loop-change-preserved
 loop-change-preserved g c = λ b here older live followed.
@@ -16,8 +17,10 @@ loop-change-preserved g c = λ b here older live followed.
     (subst (λ (x : Change). x.dart ≤ c.args.older) (sym same) older)
     (subst (λ (x : Change). IsLive c.args.links.now.rows x.dart) (sym same) live)
     (subst (λ (x : Change). IsFollowed g.K.Kind.kind c.args.dim x.link) (sym same) followed)))
-    (among-more c.args.changes.now c.loop-change.change-index c.change-item.result b c.loop-change-test.true c.change-item.is here)
+    (among-more c.deref-change-items.result.now c.loop-change.change-index c.change-item.result b c.loop-change-test.true c.change-item.is here)
 
 pub returns : goal.returns
 returns g c = λ b here older live followed.
-    absurd (c.loop-change.invariant b (subst (λ (bs : List Change). Contains bs b) (sym (take_all c.loop-change.change-index c.args.changes.now c.loop-change-test.false)) here) older live followed)
+    let told = older-among _ _ c.args.older c.begin_by.result c.if-begin_by.false c.begin_by.ensures b
+    (subst (λ (bs : List Change). Contains bs b) (sym (ap (λ (e : Edit). e.changes) c.edit.view_is)) here) older in
+    absurd (c.loop-change.invariant b (subst (λ (bs : List Change). Contains bs b) (sym (take_all c.loop-change.change-index c.deref-change-items.result.now c.loop-change-test.false ∙ c.deref-change-items.ensures.value)) told) older live followed)

@@ -7,4 +7,4 @@ use Rattle.valued_map.proofs.passing.may_touch.Given as goal
 -- none of the changes that were looked at may reroute a dart
 abbrev pub invariant-loop-change : goal.invariant-loop-change
 invariant-loop-change g l =
-    (c : Change) → Contains (take l.change-index l.changes) c → c.dart ≤ l.older → IsLive l.links.rows c.dart → IsFollowed g.K.Kind.kind l.dim c.link → ⊥
+    (c : Change) → Contains (take l.change-index l.change-items) c → c.dart ≤ l.older → IsLive l.links.rows c.dart → IsFollowed g.K.Kind.kind l.dim c.link → ⊥

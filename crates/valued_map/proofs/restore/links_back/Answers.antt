@@ -7,8 +7,8 @@ use Rattle.valued_map.specs.Undoing.{no_step, step_at, rows_before}
 use Rattle.valued_map.proofs.Reversing.{led-at, room-back, live-back, made-on}
 use Rattle.valued_map.proofs.restore.links_back.Goals as goal
 
-pub reverse-requires : goal.reverse-requires
-reverse-requires g c =
+pub reverse_plain-requires : goal.reverse_plain-requires
+reverse_plain-requires g c =
     let xs : List Difference = c.args.steps.now in
     let j : ℕ = c.loop-index.index - 1 in
     let one : j + 1 ≡ c.loop-index.index = omega arith in
@@ -45,15 +45,15 @@ loop-index-preserved g c =
     let led' = subst (λ (e : Edit). IsLed g.K.Kind.kind g.row.DIM e (rows_before g.row.DIM (drop j xs) c.args.links.now.rows) c.loop-index.links.rows) (sym edit)
     (subst (λ (r : Rows). IsLed g.K.Kind.kind g.row.DIM (step_at xs j).edit (rows_before g.row.DIM (drop j xs) c.args.links.now.rows) r) (sym rows) led) in
     let sum = ap (λ (r : Rows). live_count r + c.loop-index.links.room) (sym rows) ∙ c.loop-index.invariant.1 in
-    let back = c.reverse.ensures.back (rows_before g.row.DIM (drop j xs) c.args.links.now.rows) led' in
-    let room = c.reverse.ensures.room ∙ ap (λ (e : Edit). c.loop-index.links.room + e.births - length e.deaths) edit in
-    let spare = c.reverse.ensures.spare ∙ ap (λ (e : Edit). c.loop-index.links.spare + e.births) edit in
+    let back = c.reverse_plain.ensures.back (rows_before g.row.DIM (drop j xs) c.args.links.now.rows) led' in
+    let room = c.reverse_plain.ensures.room ∙ ap (λ (e : Edit). c.loop-index.links.room + e.births - length e.deaths) edit in
+    let spare = c.reverse_plain.ensures.spare ∙ ap (λ (e : Edit). c.loop-index.links.spare + e.births) edit in
     let more = made-on g.K.Kind.kind g.row.DIM c.args.links.now.rows xs _ c.requires j within in
     let many = ap made rows in
     let fewer = ap made back in
     let sums = c.loop-index.invariant.2 in (
       back,
-      ap (λ (r : Rows). live_count r + c.reverse.new.self.room) back ∙ ap (λ (m : ℕ). live_count (rows_before g.row.DIM (drop j xs) c.args.links.now.rows) + m) room
+      ap (λ (r : Rows). live_count r + c.reverse_plain.new.self.room) back ∙ ap (λ (m : ℕ). live_count (rows_before g.row.DIM (drop j xs) c.args.links.now.rows) + m) room
           ∙ live-back g.K.Kind.kind g.row.DIM c.args.links.now.rows xs _ c.requires j within c.loop-index.links.room sum,
       omega (arith, spare, more, many, fewer, sums),
     )

@@ -7,8 +7,8 @@ use Rattle.valued_map.specs.Undoing.{AreEditsTo, no_step, step_at, rows_before}
 use Rattle.valued_map.proofs.Reversing.{led-at, room-on, live-on, made-on, made-grows}
 use Rattle.valued_map.proofs.restore.links_forward.Goals as goal
 
-pub apply-requires : goal.apply-requires
-apply-requires g c =
+pub apply_plain-requires : goal.apply_plain-requires
+apply_plain-requires g c =
     let xs : List Difference = c.args.steps.now in
     let k : ℕ = c.loop-step.step-index in
     let now : Rows = c.requires.0 in
@@ -40,8 +40,8 @@ loop-step-preserved g c =
     let item = c.step-item.is ∙ get_or_default xs k c.step-item.result no_step c.loop-step-test.true in
     let edit = ap (λ (d : Difference). d.edit) (c.step.view_is ∙ item) in
     let on : (now : Rows) → c.args.links.now.rows ≡ rows_before g.row.DIM xs now
-    → AreEditsTo g.K.Kind.kind g.row.DIM now xs (live_count c.args.links.now.rows + c.args.links.now.room) → c.apply.new.self.rows ≡ rows_before g.row.DIM (drop (k + 1) xs) now = λ now is are.
-    c.apply.ensures.rows
+    → AreEditsTo g.K.Kind.kind g.row.DIM now xs (live_count c.args.links.now.rows + c.args.links.now.room) → c.apply_plain.new.self.rows ≡ rows_before g.row.DIM (drop (k + 1) xs) now = λ now is are.
+    c.apply_plain.ensures.rows
     ∙ ap (λ (e : Edit). after_edit g.row.DIM e c.loop-step.links.rows) edit
     ∙ ap (after_edit g.row.DIM (step_at xs k).edit) (c.loop-step.invariant.0 now is are)
     ∙ (led-at g.K.Kind.kind g.row.DIM now xs _ are k c.loop-step-test.true).after in
@@ -49,8 +49,8 @@ loop-step-preserved g c =
     let rows : c.loop-step.links.rows ≡ rows_before g.row.DIM (drop k xs) now = c.loop-step.invariant.0 now c.requires.1 c.requires.2 in
     let next = on now c.requires.1 c.requires.2 in
     let sum = ap (λ (r : Rows). live_count r + c.loop-step.links.room) (sym rows) ∙ c.loop-step.invariant.1 in
-    let room = c.apply.ensures.room ∙ ap (λ (e : Edit). c.loop-step.links.room - e.births + length e.deaths) edit in
-    let spare = c.apply.ensures.spare ∙ ap (λ (e : Edit). c.loop-step.links.spare - e.births) edit in
+    let room = c.apply_plain.ensures.room ∙ ap (λ (e : Edit). c.loop-step.links.room - e.births + length e.deaths) edit in
+    let spare = c.apply_plain.ensures.spare ∙ ap (λ (e : Edit). c.loop-step.links.spare - e.births) edit in
     let more = made-on g.K.Kind.kind g.row.DIM now xs _ c.requires.2 k c.loop-step-test.true in
     let grows = made-grows g.K.Kind.kind g.row.DIM now xs _ c.requires.2 (length xs - (k + 1)) (k + 1) (omega (arith, c.loop-step-test.true)) in
     let many = ap made rows in
@@ -58,7 +58,7 @@ loop-step-preserved g c =
     let most = c.requires.3 in
     let sums = c.loop-step.invariant.2 in (
       on,
-      ap (λ (r : Rows). live_count r + c.apply.new.self.room) next ∙ ap (λ (m : ℕ). live_count (rows_before g.row.DIM (drop (k + 1) xs) now) + m) room
+      ap (λ (r : Rows). live_count r + c.apply_plain.new.self.room) next ∙ ap (λ (m : ℕ). live_count (rows_before g.row.DIM (drop (k + 1) xs) now) + m) room
           ∙ live-on g.K.Kind.kind g.row.DIM now xs _ c.requires.2 k c.loop-step-test.true c.loop-step.links.room sum,
       omega (arith, spare, more, grows, many, later, most, sums),
     )

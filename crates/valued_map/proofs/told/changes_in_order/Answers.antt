@@ -1,4 +1,4 @@
-use Rattle.std.proofs.Common.{◌≡◌, ◌≢◌, ◌+◌, List, AllPairs, Contains, rules, arith, subst, sym}
+use Rattle.std.proofs.Common.{◌≢◌, ◌+◌, ◌≡◌, AllPairs, rules, arith, sym}
 use Rattle.std.proofs.lemmas.List.Sorted.{Contains-permutation, IsPermutation-sym, answers_always}
 use Rattle.map_defs.specs.Edits.{Change}
 use Rattle.machine_defs.specs.Difference.{IsLinkBefore}
@@ -11,17 +11,15 @@ pub returns-clause-members : goal.returns-clause-members
 returns-clause-members c =
     let moved = c.sort_unstable_by_key.ensures.permutation in
     let kept = retained-are _ (λ (x : Change). x.old ≢ x.new) _ (λ x b g k. search rules) _ _ c.retain.ensures.filtered in
-    let from = c.in_ok-kept.ensures.items in
     λ x. (
-      λ h. (let there = (kept x).0 (Contains-permutation _ _ x (IsPermutation-sym _ _ moved) h) in (subst (λ (xs : List Change). Contains xs x) from there.0, there.1)),
-      λ h. Contains-permutation _ _ x moved ((kept x).1 (subst (λ (xs : List Change). Contains xs x) (sym from) h.0, h.1)),
+      λ h. (kept x).0 (Contains-permutation _ _ x (IsPermutation-sym _ _ moved) h),
+      λ h. Contains-permutation _ _ x moved ((kept x).1 h),
     )
 
 pub returns-clause-ordered : goal.returns-clause-ordered
 returns-clause-ordered c =
     let Apart : Change → Change → Type 0 = λ x y. x.dart ≡ y.dart → x.link ≡ y.link → ⊥ in
-    let once = subst (λ (xs : List Change). AllPairs Apart xs) (sym c.in_ok-kept.ensures.items) c.requires in
-    let kept : AllPairs Apart c.retain.new.self.items = retained-ordered _ Apart _ _ _ c.retain.ensures.filtered once in
+    let kept : AllPairs Apart c.retain.new.self.items = retained-ordered _ Apart _ _ _ c.retain.ensures.filtered c.requires in
     let apart : AllPairs Apart c.sort_unstable_by_key.new.self.items =
     AllPairs-permutation Apart (λ x y h dart link. h (sym dart) (sym link)) _ _ c.sort_unstable_by_key.ensures.permutation kept in
     let sorted = c.sort_unstable_by_key.ensures.sorted (λ (x : Change). (x.dart, x.link)) (answers_always _ _ _ (λ f a r g k. search rules)) in

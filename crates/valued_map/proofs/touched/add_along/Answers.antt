@@ -1,13 +1,7 @@
 use Rattle.map_defs.specs.Rows.{Rows}
-use Rattle.std.proofs.Common.{Result, Ok, Err}
-use Rattle.std.specs.Prelude.{OnOk}
 use Rattle.valued_map.specs.Changing.{IsFirstUnsettled, IsThenUnsettled}
-use Rattle.valued_map.proofs.Adding.{added-then}
+use Rattle.valued_map.proofs.Adding.{added-then, on-ok}
 use Rattle.valued_map.proofs.touched.add_along.Goals as goal
-
-on-ok : {E P Q : Type 0} (r : Result (Unit {0}) E) → (P → Q) → OnOk r P → OnOk r Q
-on-ok (Ok u) f h = f h
-on-ok (Err e) f h = h
 
 pub returns : goal.returns
 returns g c =

@@ -2,12 +2,12 @@ use Rattle.std.proofs.Common.{ℕ, ◌≡◌, ◌≢◌, ◌≤◌, Option, lit<
 use Rattle.std.specs.Prelude.{IfSome, IsTrue}
 use Rattle.map_defs.specs.Kind.{Kind}
 use Rattle.map_defs.specs.LinkWords.{LinkWord, through_second}
-use Rattle.map_defs.specs.Rows.{Rows, links_of}
+use Rattle.map_defs.specs.Rows.{Rows, IsLive, links_of}
 use Rattle.map_defs.specs.Cells.{InCell}
 use Rattle.map_defs.specs.Edits.{Change}
 use Rattle.store_defs.specs.Labelings.{id_of}
 use Rattle.valued_map.specs.Changing.{IsFirstUnsettled}
-use Rattle.valued_map.proofs.Adding.{added-none}
+use Rattle.valued_map.proofs.Adding.{added-none, added-one}
 use Rattle.valued_map.proofs.Settling.{settled-first}
 use Rattle.valued_map.proofs.touched.add_at_first.Goals as goal
 
@@ -57,3 +57,10 @@ returns-then-is_settled g c =
 
     along-new : (L : ℕ → ℕ → ℕ) → through_second L c.word.inside.second c.change.inside.new ≡ through_second L word.second change.new
     along-new L = ap (λ (w : LinkWord). through_second L w.second c.change.inside.new) c.word.view_is ∙ ap (λ (b : Change). through_second L word.second b.new) c.change.view_is
+
+pub returns : goal.returns
+returns g c =
+    let same : c.change-2.inside.dart ≡ c.args.change.dart = ap (λ (b : Change). b.dart) c.change-2.view_is in
+    added-one c.args.links.now.rows (IsFirstUnsettled g.K.Kind.kind g.row.DIM c.args.edit.now c.args.links.now.rows c.args.dim c.args.labels.now c.args.word c.args.change)
+    c.args.touched.now.items c.push.new.self.items c.change-2.inside.dart c.in_ok-push.ensures.items (subst (IsLive c.args.links.now.rows) (sym same) c.requires.live)
+    (λ x (old, led, (link, at, was, is, apart, off)). at ∙ sym same)

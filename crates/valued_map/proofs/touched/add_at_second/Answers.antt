@@ -1,20 +1,21 @@
 use Rattle.std.specs.Prelude.{IsTrue}
+use Rattle.std.proofs.lemmas.Bool.{false≢true}
 use Rattle.std.proofs.Common.{ℕ, ◌≡◌, ◌≢◌, ◌≤◌, ◌<◌, lit<, sym, ap, subst, ◌∙◌}
 use Rattle.map_defs.specs.Kind.{Kind, inverse}
 use Rattle.map_defs.specs.LinkWords.{LinkWord}
-use Rattle.map_defs.specs.Rows.{Rows, links_of}
+use Rattle.map_defs.specs.Rows.{Rows, IsLive, links_of}
 use Rattle.map_defs.specs.Cells.{InCell}
 use Rattle.map_defs.specs.Edits.{Change}
 use Rattle.link_laws.proofs.Basics.{inverse_within}
 use Rattle.store_defs.specs.Labelings.{id_of}
 use Rattle.valued_map.specs.Changing.{IsThenUnsettled}
-use Rattle.valued_map.proofs.Adding.{added-none}
+use Rattle.valued_map.proofs.Adding.{added-none, added-one}
 use Rattle.valued_map.proofs.Rerouting.{comes-from, came-before}
 use Rattle.valued_map.proofs.Settling.{settled-then}
 use Rattle.valued_map.proofs.touched.add_at_second.Goals as goal
 
-pub link-requires : goal.link-requires
-link-requires g c =
+pub link-requires-2 : goal.link-requires-2
+link-requires-2 g c =
     let first-is : c.word.inside.first ≡ c.args.word.first = ap (λ (w : LinkWord). w.first) c.word.view_is in
     let within : c.word.inside.first ≤ g.row.DIM = subst (λ j. j ≤ g.row.DIM) (sym first-is) (((c.requires.words c.args.word).0 c.requires.word).1.0) in
     (lit< tt, subst (λ j. j ≤ g.row.DIM) (sym c.inverse.ensures) (inverse_within g.K.Kind.kind g.row.DIM c.word.inside.first c.requires.low within))
@@ -80,6 +81,27 @@ returns-then-is_settled g c =
 
     i : ℕ
     i = c.args.dim
+
+    same : (x : ℕ) → links_of rows c.args.word.first x ≡ c.args.change.dart → c.in-Some.dart ≡ x
+    same x at =
+        c.in-Some.ensures.linked ∙ ap (λ (j : ℕ). links_of rows j c.change.inside.dart) (c.inverse.ensures ∙ ap (inverse k) (ap (λ (w : LinkWord). w.first) c.word.view_is))
+        ∙ ap (links_of rows (inverse k c.args.word.first)) (ap (λ (b : Change). b.dart) c.change.view_is)
+        ∙ comes-from k g.row.DIM rows c.requires.sound c.args.change.dart c.args.word.first c.requires.live x at
+
+pub returns : goal.returns
+returns g c =
+    added-one rows (IsThenUnsettled k g.row.DIM c.args.edit.now rows c.args.dim c.args.labels.now c.args.word c.args.change) c.args.touched.now.items c.push.new.self.items
+    c.in-Some.dart c.in_ok-push.ensures.items alive
+    (λ x (old, led, (second, at, was, stood, stands, off)). sym (same x at))
+  where
+    k : Kind
+    k = g.K.Kind.kind
+
+    rows : Rows
+    rows = c.args.links.now.rows
+
+    alive : IsLive rows c.in-Some.dart
+    alive = subst (IsLive rows) (sym c.in-Some.ensures.linked) (c.requires.sound.live c.inverse.result c.change.inside.dart (λ none. false≢true (sym (c.in-Some.ensures.free.1 none))))
 
     same : (x : ℕ) → links_of rows c.args.word.first x ≡ c.args.change.dart → c.in-Some.dart ≡ x
     same x at =

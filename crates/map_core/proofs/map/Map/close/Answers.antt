@@ -15,7 +15,7 @@ insert-requires g c =
     let plan : PlansClosing k n rows c.in_ok-link.link c.in_ok-edit.edit =
     subst (λ (r : Rows). PlansClosing k n r c.in_ok-link.link c.in_ok-edit.edit) c.links-2.ensures.rows c.in_ok-edit.ensures in
     let laws : Laws k (links_of rows) = subst (λ (r : Rows). Laws k (links_of r)) c.links-2.ensures.rows c.links-2.ensures.laws in
-    (lit< tt, (c.requires, (plan.fits, (plan.laws, λ i among. closing-keeps k n rows c.links-2.ensures.sound laws c.in_ok-link.link c.in_ok-edit.edit plan i (c.kept_by_closing.ensures i among)))))
+    (lit< tt, (c.requires, (plan.fits, (plan.laws, λ i among. closing-keeps k n rows c.links-2.ensures.sound laws c.in_ok-link.link c.in_ok-edit.edit plan i ((c.kept_by_closing.ensures i).0 among)))))
 
 pub returns-clause-does : goal.returns-clause-does
 returns-clause-does g c =
