@@ -1,13 +1,14 @@
 -- Rows of new darts, added one behind another, by the entries that they tell, and beside the changes of old darts.
 use Rattle.std.proofs.Common.{ℕ, ◌≡◌, ◌+◌, ◌-◌, ◌<◌, ◌≤◌, ◌⊎◌, ◌↔◌, List, [], ◌∷◌, ◌++◌, length, take, get_or, Contains, refl, sym, ap, ◌∙◌, subst, inl, inr, arith}
-use Rattle.std.specs.Prelude.{slice_index, slice_index_or, slice_set}
+use Rattle.std.specs.Prelude.{Option, None, slice_index, slice_index_or, slice_set}
 use Rattle.std.proofs.lemmas.Bool.{cases_lt}
 use Rattle.std.proofs.lemmas.List.{take_all, take_more, length-append, get_or_append_left, get_or-append_right}
 use Rattle.std.proofs.lemmas.List.Elements.{Contains-append_left, Contains-push, Contains-push_cases}
 use Rattle.std.proofs.Math.Seq.{set-append_seam}
 use Rattle.map_defs.specs.Links.{Links}
 use Rattle.map_defs.specs.Edits.{Change}
-use Rattle.link_rows.specs.BornRows.{NewRows, rows_changes}
+use Rattle.link_rows.specs.BornRows.{NewRows, led_back, rows_changes}
+use Rattle.link_rows.proofs.BornChanges.{led-none}
 use Rattle.cell_edit.specs.Writing.{WritesEntries, Appends, IsRowEntry}
 use Rattle.cell_edit.proofs.RowEntries.{rows-write}
 use Rattle.cell_edit.proofs.Appending.{each-more}
@@ -119,6 +120,7 @@ module _ {X : Type 0} where
       pub writes : WritesEntries L (AreOf Old (take p xs)) cs
       pub begins : born.first ≡ first
       pub wide : born.width ≡ width
+      pub back : born.back ≡ None
       pub long : length born.rows ≡ count
       pub tells : (d t y : ℕ) → IsRowEntry first born.rows d t y ↔ AreOf New (take p xs) d t y
 
@@ -129,6 +131,7 @@ module _ {X : Type 0} where
         writes = writes-same L (AreOf Old (take p xs)) (AreOf Old (take (p + 1) xs)) cs (none_more Old xs p x low at old) has.writes;
         begins = has.begins;
         wide = has.wide;
+        back = has.back;
         long = has.long;
         tells = λ d t y. let more = none_more New xs p x low at new d t y in ((λ e. more.0 ((has.tells d t y).0 e)), λ e. (has.tells d t y).1 (more.1 e));
       }
@@ -141,6 +144,7 @@ module _ {X : Type 0} where
         writes = each-more L Old xs p x cs ds low at apart has.writes appends;
         begins = ap (λ (r : NewRows). r.first) adds.1 ∙ has.begins;
         wide = ap (λ (r : NewRows). r.width) adds.1 ∙ has.wide;
+        back = ap (λ (r : NewRows). r.back) adds.1 ∙ has.back;
         long = ap (λ (r : NewRows). length r.rows) adds.1 ∙ length-append born.rows (adds.0 ∷ []) ∙ ap (λ n. n + 1) has.long;
         tells = each_added New xs p x low at (IsRowEntry first born.rows) (IsRowEntry first now.rows) (IsNewEntry link s)
             (λ d t y. row-added link born now first s d t y (next ∙ ap (λ n. first + n) (sym has.long)) adds) same has.tells;
@@ -148,14 +152,21 @@ module _ {X : Type 0} where
 
     -- all of the list are done
     pub grown-all : (p count : ℕ) (cs : List Change) (born : NewRows) → length xs ≤ p → ((t d : ℕ) → first ≤ d → L t d ≡ 0) → ((d t y : ℕ) → AreOf Old xs d t y → d < first)
-        → HasGrown p count cs born → WritesEntries L (AreOf (λ x d t y. Old x d t y ⊎ New x d t y) xs) (cs ++ rows_changes born.first born.rows)
+        → HasGrown p count cs born → WritesEntries L (AreOf (λ x d t y. Old x d t y ⊎ New x d t y) xs) (cs ++ (led_back born.back born.first born.rows ++ rows_changes born.first born.rows))
     grown-all p count cs born past free made has =
-        subst (λ f. WritesEntries L (AreOf (λ x d t y. Old x d t y ⊎ New x d t y) xs) (cs ++ rows_changes f born.rows)) (sym has.begins)
+        subst (WritesEntries L (AreOf (λ x d t y. Old x d t y ⊎ New x d t y) xs)) (sym told)
         (writes-same L (λ d t y. AreOf Old xs d t y ⊎ IsRowEntry first born.rows d t y) (AreOf (λ x d t y. Old x d t y ⊎ New x d t y) xs) (cs ++ rows_changes first born.rows)
         (λ d t y. (to_both d t y, from_both d t y))
         (writes-append L (AreOf Old xs) (IsRowEntry first born.rows) cs (rows_changes first born.rows) (λ d t y z e f. let low = made d t y e in omega (arith, low, f.2))
         (subst (λ (us : List X). WritesEntries L (AreOf Old us) cs) all has.writes) (rows-write L first born.rows free)))
       where
+        -- no old dart leads back by them
+        told : cs ++ (led_back born.back born.first born.rows ++ rows_changes born.first born.rows) ≡ cs ++ rows_changes first born.rows
+        told =
+            ap (λ (b : Option ℕ). cs ++ (led_back b born.first born.rows ++ rows_changes born.first born.rows)) has.back
+            ∙ ap (λ (bs : List Change). cs ++ (bs ++ rows_changes born.first born.rows)) (led-none born.first born.rows)
+            ∙ ap (λ (f : ℕ). cs ++ rows_changes f born.rows) has.begins
+
         all : take p xs ≡ xs
         all = take_all p xs past
 

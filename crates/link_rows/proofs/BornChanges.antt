@@ -1,14 +1,14 @@
 -- Rows of new darts: the numbers that they stand in, and the changes that they tell.
-use Rattle.std.proofs.Common.{◌≡◌, ◌≢◌, ◌↔◌, ℕ, zero, suc, ◌+◌, ◌-◌, ◌*◌, ◌^◌, ◌<◌, ◌≤◌, List, [], ◌∷◌, ◌++◌, Contains, length, get_or, set, take, drop, replicate, refl, sym, ap, ap₂, subst, ◌∙◌, inl, inr, arith, suc-mul, zero-mul, mul-le-mul, mul-le-mul_right, add-one, append_assoc}
-use Rattle.std.specs.Prelude.{All}
+use Rattle.std.proofs.Common.{◌≡◌, ◌≢◌, ℕ, zero, suc, ◌+◌, ◌-◌, ◌*◌, ◌^◌, ◌<◌, ◌≤◌, List, [], ◌∷◌, ◌++◌, Contains, Option, Some, None, length, get_or, set, take, drop, replicate, refl, sym, ap, ap₂, subst, ◌∙◌, inl, inr, arith, suc-mul, zero-mul, mul-le-mul, mul-le-mul_right, add-one, append_assoc}
+use Rattle.std.specs.Prelude.{All, IfSome}
 use Rattle.std.proofs.lemmas.Bool.{cases_eq, ne_eqb}
-use Rattle.std.proofs.lemmas.List.{drop_at, drop_more, drop-drop, drop-append-le, drop-replicate, drop-set-add, drop-set-lt, get_or-set_same, length-drop, length-take-le, nil_from_length, take-append-le, take-replicate, take-set-le, take_all, take_at, take_more, set-set, set_at}
+use Rattle.std.proofs.lemmas.List.{drop_at, drop_more, drop-drop, drop-append-le, drop-replicate, drop-set-add, drop-set-lt, get_or-drop, get_or-set_same, get_or-take, length-drop, length-take-le, nil_from_length, take-append-le, take-replicate, take-set-le, take_all, take_at, take_more, set-set, set_at}
 use Rattle.std.proofs.lemmas.List.Elements.{All-contains, All-drop, All-same, All-take, Contains-append_left, Contains-append_right, Contains-append_cases}
 use Rattle.map_defs.specs.Rows.{Rows}
 use Rattle.map_defs.specs.Edits.{Change, unlinked, with_entry}
 use Rattle.edit_laws.proofs.RowWrites.{set-take}
 use Rattle.dart_arena.specs.RowChanges.{row_changes}
-use Rattle.link_rows.specs.BornRows.{rows_changes, rows_of}
+use Rattle.link_rows.specs.BornRows.{rows_changes, rows_of, back_changes, led_back}
 
 -- a row ends within the numbers
 pub row-within : (p count width : ℕ) → p < count → p * width + width ≤ count * width
@@ -25,6 +25,11 @@ numbers-few first count width few narrow =
 -- one row more
 pub rows-long : (count width : ℕ) → (count + 1) * width ≡ count * width + width
 rows-long count width = ap (λ (m : ℕ). m * width) (add-one count) ∙ suc-mul count width
+
+-- the link at which darts lead back stays within the rows
+pub back-within : {b c : Option ℕ} {v w : ℕ} → b ≡ c → v ≡ w → IfSome c (λ (i : ℕ). i < w) → IfSome b (λ (i : ℕ). i < v)
+back-within {c = c} {v = v} same wide within =
+    subst (λ (o : Option ℕ). IfSome o (λ (i : ℕ). i < v)) (sym same) (subst (λ (m : ℕ). IfSome c (λ (i : ℕ). i < m)) (sym wide) within)
 
 -- one number more of a row, written over another
 row-put-more : (row old : List ℕ) (link : ℕ) → link < length row → link < length old
@@ -53,6 +58,15 @@ module _ (width : ℕ) where
       let on : width + p * width ≡ suc p * width = omega (arith, suc-mul p width) in
       rows-at count p (drop width numbers) other (omega arith)
       ∙ ap (take width) (drop-drop (p * width) width numbers ∙ ap (λ (m : ℕ). drop m numbers) on)
+
+  -- the number at a link of the row at a place
+  pub number-at : (count p link : ℕ) (numbers : List ℕ) → p < count → link < width
+      → get_or numbers (p * width + link) 0 ≡ get_or (get_or (rows_of width count numbers) p []) link 0
+  number-at count p link numbers h within =
+      sym (
+      ap (λ (row : List ℕ). get_or row link 0) (rows-at count p numbers [] h)
+      ∙ get_or-take width (drop (p * width) numbers) link 0 within ∙ get_or-drop (p * width) numbers link 0
+      )
 
   -- each row is as wide
   pub row-wide : (count p : ℕ) (numbers : List ℕ) → length numbers ≡ count * width → p < count → length (get_or (rows_of width count numbers) p []) ≡ width
@@ -111,14 +125,6 @@ module _ (width : ℕ) where
       let rest : n - width ≡ count * width = omega (arith, suc-mul count width) in
       ap₂ (λ (r : List ℕ) (rs : List (List ℕ)). r ∷ rs) (take-replicate width n zero (omega (arith, suc-mul count width)))
       (ap (rows_of width count) (drop-replicate width n zero) ∙ rows-zeros count (n - width) rest)
-
--- Rows behind others tell changes behind theirs.
-pub rows-append : (d : ℕ) (xs ys : List (List ℕ)) → rows_changes d (xs ++ ys) ≡ rows_changes d xs ++ rows_changes (d + length xs) ys
-rows-append d [] ys = ap (λ (m : ℕ). rows_changes m ys) (omega arith)
-rows-append d (x ∷ xs) ys =
-    let on : d + 1 + length xs ≡ d + length (x ∷ xs) = omega arith in
-    ap (λ (cs : List Change). row_changes d 0 x ++ cs) (rows-append (d + 1) xs ys ∙ ap (λ (m : ℕ). rows_changes (d + 1) xs ++ rows_changes m ys) on)
-    ∙ sym (append_assoc (row_changes d 0 x) (rows_changes (d + 1) xs) (rows_changes (d + length (x ∷ xs)) ys))
 
 -- the changes of the rows from a place on are those of the row there, and of the rows behind it
 pub rows-split : (first p d : ℕ) (rows : List (List ℕ)) (row : List ℕ) → p < length rows → d ≡ first + p → row ≡ get_or rows p []
@@ -257,13 +263,139 @@ rows-tell d (row ∷ rows) zero c dart old to some =
 rows-tell d (row ∷ rows) (suc p) c dart old to some =
     Contains-append_right (row_changes d 0 row) (rows_changes (d + 1) rows) c (rows-tell (d + 1) rows p c (omega arith) old to some)
 
--- the changes that rows tell
-pub rows-members : (d : ℕ) (rows : List (List ℕ)) (c : Change) → Contains (rows_changes d rows) c ↔ IsTold d rows c
-rows-members d rows c = (rows-told d rows c, λ is. rows-tell d rows is.place c is.dart is.old is.new is.some)
-
 -- where the changes name links up to n alone, the rows have zeros behind
 pub rows-narrow : (n d : ℕ) (rows : List (List ℕ)) → All (λ (c : Change). c.link ≤ n) (rows_changes d rows)
     → (p link : ℕ) → get_or (get_or rows p []) link 0 ≢ 0 → link ≤ n
 rows-narrow n d rows links p link some =
     let c : Change = record { dart = d + p; link = link; old = 0; new = get_or (get_or rows p []) link 0 } in
     All-contains (λ (b : Change). b.link ≤ n) (rows_changes d rows) c links (rows-tell d rows p c refl refl refl some)
+
+-- The darts that rows name at link i lead back, one row after another: a row that names none there tells no change.
+pub back-none : (i d : ℕ) (row : List ℕ) (rows : List (List ℕ)) → get_or row i 0 ≡ 0 → back_changes i d (row ∷ rows) ≡ back_changes i (d + 1) rows
+back-none i d row rows none = rw none refl
+
+pub back-some : (i d : ℕ) (row : List ℕ) (rows : List (List ℕ)) → get_or row i 0 ≢ 0
+    → back_changes i d (row ∷ rows) ≡ record { dart = get_or row i 0; link = i; old = 0; new = d } ∷ back_changes i (d + 1) rows
+back-some i d row rows some = rw (ne_eqb (get_or row i 0) 0 some) refl
+
+-- rows behind others tell changes behind theirs
+pub back-append : (i d : ℕ) (xs ys : List (List ℕ)) → back_changes i d (xs ++ ys) ≡ back_changes i d xs ++ back_changes i (d + length xs) ys
+back-append i d [] ys = ap (λ (m : ℕ). back_changes i m ys) (omega arith)
+back-append i d (x ∷ xs) ys =
+    let on : d + 1 + length xs ≡ d + length (x ∷ xs) = omega arith in
+    let behind : List Change = back_changes i (d + length (x ∷ xs)) ys in
+    let rest : back_changes i (d + 1) (xs ++ ys) ≡ back_changes i (d + 1) xs ++ behind =
+    back-append i (d + 1) xs ys ∙ ap (λ (m : ℕ). back_changes i (d + 1) xs ++ back_changes i m ys) on in
+    elim (cases_eq (get_or x i 0) 0) [
+      | inl none ↦ back-none i d x (xs ++ ys) none ∙ rest ∙ ap (λ (cs : List Change). cs ++ behind) (sym (back-none i d x xs none))
+      | inr some ↦
+          let one : Change = record { dart = get_or x i 0; link = i; old = 0; new = d } in
+          back-some i d x (xs ++ ys) some ∙ ap (λ (cs : List Change). one ∷ cs) rest
+          ∙ ap (λ (cs : List Change). cs ++ behind) (sym (back-some i d x xs some))
+    ]
+
+-- A change is one of those by which the darts that rows name at link i lead back to darts from d on: it gives the free link i
+-- of the dart that the row at a place names the dart of that row.
+pub record IsLedBack (i d : ℕ) (rows : List (List ℕ)) (c : Change) : Type 0 where
+  pub place : ℕ
+  pub within : place < length rows
+  pub dart : c.dart ≡ get_or (get_or rows place []) i 0
+  pub link : c.link ≡ i
+  pub old : c.old ≡ 0
+  pub new : c.new ≡ d + place
+  pub some : c.dart ≢ 0
+
+behind-row : (i d : ℕ) (row : List ℕ) (rows : List (List ℕ)) (c : Change) → IsLedBack i (d + 1) rows c → IsLedBack i d (row ∷ rows) c
+behind-row i d row rows c is =
+    record {
+      place = suc is.place;
+      within = omega (arith, is.within);
+      dart = is.dart;
+      link = is.link;
+      old = is.old;
+      new = omega (arith, is.new);
+      some = is.some;
+    }
+
+pub back-told : (i d : ℕ) (rows : List (List ℕ)) (c : Change) → Contains (back_changes i d rows) c → IsLedBack i d rows c
+back-told i d [] c h = absurd (let none = h.1 in omega arith)
+back-told i d (row ∷ rows) c h = elim (cases_eq (get_or row i 0) 0) [
+  | inl none ↦
+      let rest : Contains (back_changes i (d + 1) rows) c = subst (λ (cs : List Change). Contains cs c) (back-none i d row rows none) h in
+      behind-row i d row rows c (back-told i (d + 1) rows c rest)
+  | inr some ↦
+      let b : Change = record { dart = get_or row i 0; link = i; old = 0; new = d } in
+      let all : Contains ((b ∷ []) ++ back_changes i (d + 1) rows) c = subst (λ (cs : List Change). Contains cs c) (back-some i d row rows some) h in
+      elim (Contains-append_cases (b ∷ []) (back_changes i (d + 1) rows) c all) [
+        | inl one ↦
+            let is : b ≡ c = one-at b c one.0 one.1 one.2 in
+            let to : d ≡ c.new = ap (λ (x : Change). x.new) is in
+            let dart : get_or row i 0 ≡ c.dart = ap (λ (x : Change). x.dart) is in
+            record {
+              place = 0;
+              within = omega arith;
+              dart = sym dart;
+              link = sym (ap (λ (x : Change). x.link) is);
+              old = sym (ap (λ (x : Change). x.old) is);
+              new = omega arith;
+              some = λ none. some (dart ∙ none);
+            }
+        | inr others ↦ behind-row i d row rows c (back-told i (d + 1) rows c others)
+      ]
+]
+
+pub back-tell : (i d : ℕ) (rows : List (List ℕ)) (p : ℕ) (c : Change) → c.dart ≡ get_or (get_or rows p []) i zero → c.link ≡ i → c.old ≡ zero → c.new ≡ d + p
+    → c.dart ≢ zero → Contains (back_changes i d rows) c
+back-tell i d [] p c dart link old new some = absurd (some dart)
+back-tell i d (row ∷ rows) zero c dart link old new some =
+    let b : Change = record { dart = get_or row i 0; link = i; old = 0; new = d } in
+    subst (λ (cs : List Change). Contains cs c) (sym (back-some i d row rows (λ none. some (dart ∙ none))))
+    (Contains-append_left (b ∷ []) (back_changes i (d + 1) rows) c (0, omega arith, change-is c (get_or row i 0) i d dart link old (omega arith)))
+back-tell i d (row ∷ rows) (suc p) c dart link old new some =
+    let rest = back-tell i (d + 1) rows p c dart link old (omega arith) some in
+    elim (cases_eq (get_or row i 0) 0) [
+      | inl none ↦ subst (λ (cs : List Change). Contains cs c) (sym (back-none i d row rows none)) rest
+      | inr other ↦
+          let b : Change = record { dart = get_or row i 0; link = i; old = 0; new = d } in
+          subst (λ (cs : List Change). Contains cs c) (sym (back-some i d row rows other)) (Contains-append_right (b ∷ []) (back_changes i (d + 1) rows) c rest)
+    ]
+
+-- what is true of all these changes is true of the one that the row at a place tells
+pub back-each : (P : Change → Type 0) (i d : ℕ) (rows : List (List ℕ)) → All P (back_changes i d rows) → (p : ℕ) → get_or (get_or rows p []) i 0 ≢ 0
+    → P (record { dart = get_or (get_or rows p []) i 0; link = i; old = 0; new = d + p })
+back-each P i d rows all p some =
+    let c : Change = record { dart = get_or (get_or rows p []) i 0; link = i; old = 0; new = d + p } in
+    All-contains P (back_changes i d rows) c all (back-tell i d rows p c refl refl refl refl some)
+
+-- where there are no rows, where no link leads back, and where link i does
+pub led-nothing : (back : Option ℕ) (d : ℕ) → led_back back d [] ≡ []
+led-nothing back d = refl
+
+pub led-none : (d : ℕ) (rows : List (List ℕ)) → led_back None d rows ≡ []
+led-none d [] = refl
+led-none d (row ∷ rows) = refl
+
+pub led-some : (i d : ℕ) (rows : List (List ℕ)) → led_back (Some i) d rows ≡ back_changes i d rows
+led-some i d [] = refl
+led-some i d (row ∷ rows) = refl
+
+pub led-at : (back : Option ℕ) (i d : ℕ) (rows : List (List ℕ)) → back ≡ Some i → led_back back d rows ≡ back_changes i d rows
+led-at back i d rows is = ap (λ (b : Option ℕ). led_back b d rows) is ∙ led-some i d rows
+
+-- rows behind others tell changes behind theirs, as one row behind others does
+pub led-append : (back : Option ℕ) (d : ℕ) (xs ys : List (List ℕ)) → led_back back d (xs ++ ys) ≡ led_back back d xs ++ led_back back (d + length xs) ys
+led-append None d xs ys = led-none d (xs ++ ys) ∙ (λ k. sym (led-none d xs) k ++ sym (led-none (d + length xs) ys) k)
+led-append (Some i) d xs ys =
+    led-some i d (xs ++ ys) ∙ back-append i d xs ys ∙ (λ k. sym (led-some i d xs) k ++ sym (led-some i (d + length xs) ys) k)
+
+-- a change by which a dart leads back is one of the link that does so
+pub led-link : (back : Option ℕ) (d : ℕ) (rows : List (List ℕ)) (c : Change) → Contains (led_back back d rows) c → back ≡ Some c.link
+led-link None d rows c h = absurd (let none = (subst (λ (cs : List Change). Contains cs c) (led-none d rows) h).1 in omega arith)
+led-link (Some i) d rows c h =
+    ap (λ (m : ℕ). Some m) (sym ((back-told i d rows c (subst (λ (cs : List Change). Contains cs c) (led-some i d rows) h)).link))
+
+-- a change of a dart by a link that leads back
+pub led-told : (back : Option ℕ) (d : ℕ) (rows : List (List ℕ)) (c : Change) → Contains (led_back back d rows) c → IsLedBack c.link d rows c
+led-told back d rows c h =
+    let all : Contains (led_back (Some c.link) d rows) c = subst (λ (b : Option ℕ). Contains (led_back b d rows) c) (led-link back d rows c h) h in
+    back-told c.link d rows c (subst (λ (cs : List Change). Contains cs c) (led-some c.link d rows) all)

@@ -1,5 +1,5 @@
 -- The rows of a polygon, and the changes that they tell.
-use Rattle.std.proofs.Common.{◌≡◌, ◌≢◌, ℕ, zero, suc, ◌+◌, ◌-◌, ◌*◌, ◌<◌, List, [], ◌∷◌, ◌++◌, get_or, replicate, refl, sym, ap, subst, ◌∙◌, arith}
+use Rattle.std.proofs.Common.{◌≡◌, ◌≢◌, ℕ, zero, suc, ◌+◌, ◌-◌, ◌*◌, ◌<◌, List, [], ◌∷◌, ◌++◌, get_or, replicate, None, refl, sym, ap, subst, ◌∙◌, arith}
 use Rattle.std.specs.Prelude.{All, slice_index}
 use Rattle.std.specs.List.{flat_map, range_with_len}
 use Rattle.std.proofs.lemmas.List.{get_or_default}
@@ -11,8 +11,8 @@ use Rattle.dart_arena.specs.RowChanges.{row_changes}
 use Rattle.edit_laws.specs.BirthChanges.{birth_changes}
 use Rattle.edit_laws.proofs.PolygonRing.{ring, polygon-ring}
 use Rattle.edit_laws.proofs.PolygonEdit.{sides_edit}
-use Rattle.link_rows.specs.BornRows.{NewRows, rows_changes}
-use Rattle.link_rows.proofs.BornChanges.{row-none, row-some}
+use Rattle.link_rows.specs.BornRows.{NewRows, rows_changes, led_back}
+use Rattle.link_rows.proofs.BornChanges.{row-none, row-some, led-none}
 
 row-zeros : (d i m : ℕ) → row_changes d i (replicate m 0) ≡ []
 row-zeros d i zero = refl
@@ -60,13 +60,15 @@ changes-same beta n d first sides (x ∷ xs) = rw (changes-same beta n (d + 1) f
 -- the edit whose rows are those of a polygon, once they are all there
 module _ (k : Kind) (n first sides side births : ℕ) (deaths : List ℕ) (changes : List Change) (born : NewRows) where
   pub polygon-told : births ≡ per_side k * sides → deaths ≡ [] → changes ≡ []
-      → born ≡ record { first = first; width = n + 1; rows = flat_map (side_rows k n first sides) (range_with_len 0 side) } → side ≡ sides → 0 < first
-      → record { births = births; deaths = deaths; changes = changes ++ rows_changes born.first born.rows } ≡ sides_edit k first sides
+      → born ≡ record { first = first; width = n + 1; rows = flat_map (side_rows k n first sides) (range_with_len 0 side); back = None } → side ≡ sides → 0 < first
+      → record { births = births; deaths = deaths; changes = changes ++ (led_back born.back born.first born.rows ++ rows_changes born.first born.rows) } ≡ sides_edit k first sides
   polygon-told many none plain pushed last some =
       let rows : born.rows ≡ polygon_rows k n first sides =
       ap (λ (b : NewRows). b.rows) pushed ∙ ap (λ (m : ℕ). flat_map (side_rows k n first sides) (range_with_len 0 m)) last in
       let told : rows_changes first (polygon_rows k n first sides) ≡ (sides_edit k first sides).changes =
       pairs-told first n (polygon_rows k n first sides) (polygon-pairs k n first sides some) ∙ changes-same k n first first sides (range_with_len 0 sides) in
-      let all : changes ++ rows_changes born.first born.rows ≡ (sides_edit k first sides).changes =
-      (λ j. plain j ++ rows_changes (pushed j).first (rows j)) ∙ told in
+      let led : led_back born.back born.first born.rows ≡ [] =
+      ap (λ (b : NewRows). led_back b.back born.first born.rows) pushed ∙ led-none born.first born.rows in
+      let all : changes ++ (led_back born.back born.first born.rows ++ rows_changes born.first born.rows) ≡ (sides_edit k first sides).changes =
+      (λ j. plain j ++ (led j ++ rows_changes (pushed j).first (rows j))) ∙ told in
       λ j. let e : Edit = record { births = many j; deaths = none j; changes = all j } in e

@@ -1,9 +1,10 @@
 //! The links of new darts, told by rows.
-ghost use Rattle.std.specs.Prelude.{◌≡◌, ◌≢◌, ℕ, ◌+◌, ◌≤◌, ◌<◌, ◌^◌, ◌++◌, ◌∷◌, [], length, replicate, slice_index, slice_index_or, slice_set, Contains, IsTrue, IfOk, IfSome, IsNone, OnOk};
+ghost use Rattle.std.specs.Prelude.{◌≡◌, ◌≢◌, ℕ, ◌+◌, ◌≤◌, ◌<◌, ◌^◌, ◌++◌, ◌∷◌, [], length, replicate, slice_index, slice_index_or, slice_set, Some, None, Contains, IsTrue, IfOk, IfSome, IsNone, OnOk};
 ghost use Rattle.std.specs.Prelude.{All};
 ghost use Rattle.map_defs.specs.Edits.{Change as LinkChange, linked, unlinked};
 ghost use Rattle.dart_arena.specs.RowChanges.{row_changes};
-ghost use Rattle.link_rows.specs.BornRows.{rows_changes};
+ghost use Rattle.dart_arena.specs.Stock.{IsLive};
+ghost use Rattle.link_rows.specs.BornRows.{rows_changes, led_back};
 
 use crate::edit::{Change, LINKS_MAX};
 use dart_arena::{Arena, Row};
@@ -12,7 +13,8 @@ use std::alloc::{AllocError, Global};
 use std::marker::Model;
 
 /// The links of new darts, which are numbered on from a first one: a row for each, with a number for each link, 0 where it
-/// is free. All rows are of one width.
+/// is free. All rows are of one width. The rows can tell also that the darts which they name at one link, where it was free,
+/// lead back by it to the new darts.
 #[derive(Drop)]
 pub struct BornRows {
     first: Dart,
@@ -20,18 +22,21 @@ pub struct BornRows {
     count: usize,
     // One row behind the other.
     numbers: Vec<u32>,
+    // The link at which the darts that the rows name lead back.
+    back: Option<usize>,
 }
 
 impl Model for BornRows {
-    ghost use Rattle.std.specs.Prelude.{length, ◌≡◌, ◌+◌, ◌*◌, ◌^◌, ◌≤◌};
+    ghost use Rattle.std.specs.Prelude.{length, ◌≡◌, ◌+◌, ◌*◌, ◌^◌, ◌<◌, ◌≤◌, IfSome};
     ghost use Rattle.link_rows.specs.BornRows.{NewRows, rows_of};
 
     ghost Value = { NewRows };
 
-    ghost view = { λ born. record { first = born.first; width = born.width; rows = rows_of born.width born.count born.numbers.items } };
+    ghost view = { λ born. record { first = born.first; width = born.width; rows = rows_of born.width born.count born.numbers.items; back = born.back } };
 
     ghost invariant = { λ born.
-        (length born.numbers.items ≡ born.count * born.width) × (born.first + born.count ≤ 2 ^ 32) × (born.width ≤ 256) };
+        (length born.numbers.items ≡ born.count * born.width) × (born.first + born.count ≤ 2 ^ 32) × (born.width ≤ 256)
+        × IfSome born.back (λ link. link < born.width) };
 }
 
 impl BornRows {
@@ -44,6 +49,7 @@ impl BornRows {
             width: 0,
             count: 0,
             numbers: Vec::new(alloc),
+            back: None,
         }
     }
 
@@ -55,13 +61,14 @@ impl BornRows {
         rows: usize,
     ) -> Result<Self, AllocError>
         requires { width ≤ LINKS_MAX }
-        ensures { IfOk result (λ born. born ≡ record { first = first; width = width; rows = [] }) }
+        ensures { IfOk result (λ born. born ≡ record { first = first; width = width; rows = []; back = None }) }
     {
         Ok(BornRows {
             first,
             width,
             count: 0,
             numbers: Vec::with_capacity(alloc, rows.saturating_mul(width))?,
+            back: None,
         })
     }
 
@@ -69,7 +76,7 @@ impl BornRows {
     pub fn zeros(alloc: Global, first: Dart, width: usize, rows: usize) -> Result<Self, AllocError>
         requires wide { width ≤ LINKS_MAX }
         requires few { first + rows ≤ 2 ^ 32 }
-        ensures { IfOk result (λ born. born ≡ record { first = first; width = width; rows = replicate rows (replicate width 0) }) }
+        ensures { IfOk result (λ born. born ≡ record { first = first; width = width; rows = replicate rows (replicate width 0); back = None }) }
     {
         let mut numbers = Vec::new(alloc);
         numbers.resize(rows * width, 0)?;
@@ -78,7 +85,15 @@ impl BornRows {
             width,
             count: rows,
             numbers,
+            back: None,
         })
+    }
+
+    /// How many rows there are.
+    pub fn len(&self) -> usize
+        ensures { result ≡ length self.now.rows }
+    {
+        self.count
     }
 
     /// Appends the row of the next dart.
@@ -116,6 +131,22 @@ impl BornRows {
         self.numbers[place * self.width + link] = to;
     }
 
+    /// From now on the rows tell also that the darts which they name at this link, where it was free, lead back by it to the
+    /// new darts.
+    pub fn lead_back(&mut self, link: usize)
+        requires { link < self.old.width }
+        ensures { self.new ≡ record self.old { back = Some link } }
+    {
+        self.back = Some(link);
+    }
+
+    /// The link at which the darts that the rows name lead back, if there is one.
+    pub fn back(&self) -> Option<usize>
+        ensures { result ≡ self.now.back }
+    {
+        self.back
+    }
+
     /// Whether a row may be that of a dart up to a number.
     pub fn begin_by(&self, number: u32) -> bool
         ensures { (c : LinkChange) → Contains (rows_changes self.now.first self.now.rows) c → c.dart ≤ number → IsTrue result }
@@ -125,6 +156,50 @@ impl BornRows {
 
     /// Appends the changes that the rows tell.
     pub fn append_changes(&self, changes: &mut Vec<Change>) -> Result<(), AllocError>
+        ensures { OnOk result (changes.new.items ≡ changes.old.items ++ (led_back self.now.back self.now.first self.now.rows ++ rows_changes self.now.first self.now.rows)) }
+    {
+        self.append_back_changes(changes)?;
+        self.append_row_changes(changes)
+    }
+
+    /// The change of a link of a dart, if there is one.
+    pub fn change_of(&self, dart: Dart, link: usize) -> Option<Change>
+        ensures some { IfSome result (λ change. Contains (led_back self.now.back self.now.first self.now.rows ++ rows_changes self.now.first self.now.rows) change
+            × (change.dart ≡ dart) × (change.link ≡ link)) }
+        ensures none { IsNone result → (c : LinkChange) → Contains (led_back self.now.back self.now.first self.now.rows ++ rows_changes self.now.first self.now.rows) c
+            → c.dart ≡ dart → c.link ≡ link → ⊥ }
+    {
+        match self.row_change_of(dart, link) {
+            Some(change) => Some(change),
+            None => self.back_change_of(dart, link),
+        }
+    }
+
+    /// Puts the links that lead back to the new darts, and those of the new darts, as far as these are live.
+    pub(crate) fn put_links<const DIM: usize>(&self, rows: &mut Arena<DIM>)
+        requires links { All (λ c. c.link ≤ DIM) (led_back self.now.back self.now.first self.now.rows ++ rows_changes self.now.first self.now.rows) }
+        requires live { All (λ c. IsLive rows.old c.dart) (led_back self.now.back self.now.first self.now.rows) }
+        ensures rows { rows.new.rows ≡ linked (led_back self.now.back self.now.first self.now.rows ++ rows_changes self.now.first self.now.rows) rows.old.rows }
+        ensures spare { rows.new.spare ≡ rows.old.spare }
+        ensures room { rows.new.room ≡ rows.old.room }
+    {
+        self.put_back_links(rows);
+        self.put_row_links(rows);
+    }
+
+    /// Frees what `put_links` puts, the last one first.
+    pub(crate) fn free_links<const DIM: usize>(&self, rows: &mut Arena<DIM>)
+        requires { All (λ c. c.link ≤ DIM) (led_back self.now.back self.now.first self.now.rows ++ rows_changes self.now.first self.now.rows) }
+        ensures rows { rows.new.rows ≡ unlinked (led_back self.now.back self.now.first self.now.rows ++ rows_changes self.now.first self.now.rows) rows.old.rows }
+        ensures spare { rows.new.spare ≡ rows.old.spare }
+        ensures room { rows.new.room ≡ rows.old.room }
+    {
+        self.free_row_links(rows);
+        self.free_back_links(rows);
+    }
+
+    /// Appends the changes of the new darts' links.
+    fn append_row_changes(&self, changes: &mut Vec<Change>) -> Result<(), AllocError>
         ensures { OnOk result (changes.new.items ≡ changes.old.items ++ rows_changes self.now.first self.now.rows) }
     {
         for place in 0..self.count {
@@ -133,8 +208,8 @@ impl BornRows {
         Ok(())
     }
 
-    /// The change of a link of a dart, if there is one.
-    pub fn change_of(&self, dart: Dart, link: usize) -> Option<Change>
+    /// The change of a link of a new dart, if there is one.
+    fn row_change_of(&self, dart: Dart, link: usize) -> Option<Change>
         ensures some { IfSome result (λ change. Contains (rows_changes self.now.first self.now.rows) change
             × (change.dart ≡ dart) × (change.link ≡ link)) }
         ensures none { IsNone result → (c : LinkChange) → Contains (rows_changes self.now.first self.now.rows) c
@@ -156,8 +231,8 @@ impl BornRows {
         Some(Change::new(dart, link, 0, new))
     }
 
-    /// Puts the links of the rows, as far as their darts are live.
-    pub(crate) fn put_links<const DIM: usize>(&self, rows: &mut Arena<DIM>)
+    /// Puts the links of the new darts, as far as these are live.
+    fn put_row_links<const DIM: usize>(&self, rows: &mut Arena<DIM>)
         requires { All (λ c. c.link ≤ DIM) (rows_changes self.now.first self.now.rows) }
         ensures rows { rows.new.rows ≡ linked (rows_changes self.now.first self.now.rows) rows.old.rows }
         ensures spare { rows.new.spare ≡ rows.old.spare }
@@ -168,8 +243,8 @@ impl BornRows {
         }
     }
 
-    /// Frees the links of the rows, the last one first, as far as their darts are live.
-    pub(crate) fn free_links<const DIM: usize>(&self, rows: &mut Arena<DIM>)
+    /// Frees the links of the new darts, the last one first, as far as these are live.
+    fn free_row_links<const DIM: usize>(&self, rows: &mut Arena<DIM>)
         requires { All (λ c. c.link ≤ DIM) (rows_changes self.now.first self.now.rows) }
         ensures rows { rows.new.rows ≡ unlinked (rows_changes self.now.first self.now.rows) rows.old.rows }
         ensures spare { rows.new.spare ≡ rows.old.spare }
@@ -178,6 +253,104 @@ impl BornRows {
         for place in (0..self.count).rev() {
             free_row(rows, self.dart_at(place), self.row_at(place));
         }
+    }
+
+    /// Appends the changes by which darts lead back to the new ones.
+    fn append_back_changes(&self, changes: &mut Vec<Change>) -> Result<(), AllocError>
+        ensures { OnOk result (changes.new.items ≡ changes.old.items ++ led_back self.now.back self.now.first self.now.rows) }
+    {
+        let Some(link) = self.back else {
+            return Ok(());
+        };
+        for place in 0..self.count {
+            if let Some(change) = self.back_change(place, link) {
+                changes.push(change)?;
+            }
+        }
+        Ok(())
+    }
+
+    /// The change by which a dart leads back to a new one by a link, if there is one.
+    fn back_change_of(&self, dart: Dart, link: usize) -> Option<Change>
+        ensures some { IfSome result (λ change. Contains (led_back self.now.back self.now.first self.now.rows) change
+            × (change.dart ≡ dart) × (change.link ≡ link)) }
+        ensures none { IsNone result → (c : LinkChange) → Contains (led_back self.now.back self.now.first self.now.rows) c
+            → c.dart ≡ dart → c.link ≡ link → ⊥ }
+    {
+        let Some(back) = self.back else {
+            return None;
+        };
+        if back != link {
+            return None;
+        }
+        for place in 0..self.count {
+            if self.number_at(place, link) == dart.number() {
+                return self.back_change(place, link);
+            }
+        }
+        None
+    }
+
+    /// Puts the links that lead back to the new darts.
+    fn put_back_links<const DIM: usize>(&self, rows: &mut Arena<DIM>)
+        requires links { All (λ c. c.link ≤ DIM) (led_back self.now.back self.now.first self.now.rows) }
+        requires live { All (λ c. IsLive rows.old c.dart) (led_back self.now.back self.now.first self.now.rows) }
+        ensures rows { rows.new.rows ≡ linked (led_back self.now.back self.now.first self.now.rows) rows.old.rows }
+        ensures spare { rows.new.spare ≡ rows.old.spare }
+        ensures room { rows.new.room ≡ rows.old.room }
+    {
+        let Some(link) = self.back else {
+            return;
+        };
+        for place in 0..self.count {
+            if let Some(change) = self.back_change(place, link) {
+                rows.set_live_entry(change.dart, link, change.new);
+            }
+        }
+    }
+
+    /// Frees the links that lead back to the new darts, the last one first.
+    fn free_back_links<const DIM: usize>(&self, rows: &mut Arena<DIM>)
+        requires { All (λ c. c.link ≤ DIM) (led_back self.now.back self.now.first self.now.rows) }
+        ensures rows { rows.new.rows ≡ unlinked (led_back self.now.back self.now.first self.now.rows) rows.old.rows }
+        ensures spare { rows.new.spare ≡ rows.old.spare }
+        ensures room { rows.new.room ≡ rows.old.room }
+    {
+        let Some(link) = self.back else {
+            return;
+        };
+        for place in (0..self.count).rev() {
+            if let Some(change) = self.back_change(place, link) {
+                rows.set_entry(change.dart, link, 0);
+            }
+        }
+    }
+
+    /// The change by which the dart that the row at a place names at a link leads back, if the row names one there.
+    fn back_change(&self, place: usize, link: usize) -> Option<Change>
+        requires place { place < length self.now.rows }
+        requires link { link < self.now.width }
+        ensures some { IfSome result (λ change. change ≡ record {
+          dart = slice_index (slice_index_or self.now.rows place []) link;
+          link = link;
+          old = 0;
+          new = self.now.first + place;
+        }) }
+        ensures named { IfSome result (λ change. slice_index (slice_index_or self.now.rows place []) link ≢ 0) }
+        ensures none { IsNone result → slice_index (slice_index_or self.now.rows place []) link ≡ 0 }
+    {
+        let dart = Dart::new(self.number_at(place, link))?;
+        Some(Change::new(dart, link, 0, self.dart_at(place).number()))
+    }
+
+    /// The number at a link of the row at a place.
+    fn number_at(&self, place: usize, link: usize) -> u32
+        requires place { place < length self.now.rows }
+        requires link { link < self.now.width }
+        ensures number { result ≡ slice_index (slice_index_or self.now.rows place []) link }
+        ensures narrow { self.now.width ≤ LINKS_MAX }
+    {
+        self.numbers[place * self.width + link]
     }
 
     /// The dart of the row at a place.

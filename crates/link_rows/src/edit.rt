@@ -52,8 +52,8 @@ impl Change {
 }
 
 /// An edit of links: darts that are born without links, numbered on from those that were made; changes of links; and
-/// darts that end, whose links the changes have freed. Of new darts, rows may tell the links in place of changes, which
-/// takes less memory.
+/// darts that end, whose links the changes have freed. Of new darts, rows may tell the links in place of changes, and also
+/// the links that lead back to them, which takes less memory.
 #[derive(Drop)]
 pub struct Edit {
     pub births: u32,
@@ -65,14 +65,14 @@ pub struct Edit {
 impl Model for Edit {
     ghost use Rattle.std.specs.Prelude.{◌++◌};
     ghost use Rattle.map_defs.specs.Edits as edits;
-    ghost use Rattle.link_rows.specs.BornRows.{rows_changes};
+    ghost use Rattle.link_rows.specs.BornRows.{rows_changes, led_back};
 
     ghost Value = { edits.Edit };
 
     ghost view = { λ edit. record {
       births = edit.births;
       deaths = edit.deaths.items;
-      changes = edit.changes.items ++ rows_changes edit.born.first edit.born.rows;
+      changes = edit.changes.items ++ (led_back edit.born.back edit.born.first edit.born.rows ++ rows_changes edit.born.first edit.born.rows);
     } };
 }
 

@@ -1,4 +1,4 @@
-use Rattle.std.proofs.Common.{◌≡◌, ℕ, ◌+◌, ◌*◌, ◌≤◌, ◌++◌, List, [], length, map, Some, ap, sym, subst, ◌∙◌, arith}
+use Rattle.std.proofs.Common.{◌≡◌, ℕ, ◌+◌, ◌*◌, ◌≤◌, ◌++◌, List, [], length, map, Some, None, ap, sym, subst, ◌∙◌, arith}
 use Rattle.map_defs.specs.Laws.{Laws}
 use Rattle.map_defs.specs.Rows.{Rows, links_of, made}
 use Rattle.map_defs.specs.Edits.{Edit, Fits, after_edit}
@@ -14,7 +14,7 @@ pub loop-side-init : goal.loop-side-init
 loop-side-init g c =
     let first : c.unwrap.result ≡ c.made-first.result + 1 = rw c.unwrap.ensures at c.new.ensures.same in
     c.in_ok-born.ensures
-    ∙ (λ k. let born : NewRows = record { first = first k; width = c.dimension.ensures.dimension k + 1; rows = [] } in born)
+    ∙ (λ k. let born : NewRows = record { first = first k; width = c.dimension.ensures.dimension k + 1; rows = []; back = None } in born)
 
 pub push_side-requires-clause-next : goal.push_side-requires-clause-next
 push_side-requires-clause-next g c =
@@ -28,8 +28,8 @@ loop-side-preserved g c =
     let one : ℕ → List (List ℕ) = side_rows g.K.Kind.kind g.row.DIM first c.args.sides in
     let kept = c.loop-side.invariant in
     c.in_ok-push_side.ensures
-    ∙ ap (λ (b : NewRows). let born : NewRows = record { first = b.first; width = b.width; rows = b.rows ++ one side } in born) kept
-    ∙ ap (λ (rows : List (List ℕ)). let born : NewRows = record { first = first; width = g.row.DIM + 1; rows = rows } in born)
+    ∙ ap (λ (b : NewRows). let born : NewRows = record { first = b.first; width = b.width; rows = b.rows ++ one side; back = b.back } in born) kept
+    ∙ ap (λ (rows : List (List ℕ)). let born : NewRows = record { first = first; width = g.row.DIM + 1; rows = rows; back = None } in born)
     (sym (flat_map-range_more one side))
 
 pub returns-clause-fits : goal.returns-clause-fits

@@ -1,4 +1,4 @@
-use Rattle.std.proofs.Common.{◌≡◌, ◌+◌}
+use Rattle.std.proofs.Common.{◌≡◌, ◌+◌, None}
 use Rattle.std.specs.List.{flat_map, range_with_len}
 use Rattle.map_defs.specs.Polygon.{side_rows}
 use Rattle.link_rows.proofs.polygon.polygon_edit.Given as goal
@@ -9,4 +9,5 @@ invariant-loop-side g l =
       first = l.first;
       width = g.row.DIM + 1;
       rows = flat_map (side_rows g.K.Kind.kind g.row.DIM l.first l.sides) (range_with_len 0 l.side);
+      back = None;
     }

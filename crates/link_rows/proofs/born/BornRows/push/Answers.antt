@@ -1,7 +1,7 @@
 use Rattle.std.proofs.Common.{◌≡◌, ◌+◌, ◌*◌, ◌++◌, ℕ, suc, List, [], ◌∷◌, length, take, ap, sym, ◌∙◌, arith, add-one, length-append}
 use Rattle.std.proofs.lemmas.List.{take_all}
 use Rattle.link_rows.specs.BornRows.{NewRows, rows_of}
-use Rattle.link_rows.proofs.BornChanges.{rows-count, rows-long, rows-more}
+use Rattle.link_rows.proofs.BornChanges.{rows-count, rows-long, rows-more, back-within}
 use Rattle.link_rows.proofs.born.BornRows.push.Goals as goal
 
 pub invariant_of-self-2 : goal.invariant_of-self-2
@@ -21,6 +21,7 @@ invariant_of-self-2 g c =
       items ∙ omega (arith, c.self.invariant.0, long, rows-long old.count old.width) ∙ (λ k. (sym kept.4 k + 1) * sym kept.3 k),
       omega (arith, kept.2, kept.4, c.requires.few, first, count),
       omega (arith, kept.3, c.self.invariant.2),
+      back-within kept.5 kept.3 c.self.invariant.3,
     )
   where
     ap₂-append : {xs ys zs ws : List ℕ} → xs ≡ ys → zs ≡ ws → xs ++ zs ≡ ys ++ ws
@@ -44,4 +45,5 @@ returns g c =
     ∙ ap (λ (rs : List (List ℕ)). rs ++ row ∷ []) rows in
     let firsts : c.loop-link.self-inside.first ≡ c.args.self.now.first = kept.2 ∙ first in
     let widths : c.loop-link.self-inside.width ≡ c.args.self.now.width = kept.3 ∙ wide in
-    λ k. let born : NewRows = record { first = firsts k; width = widths k; rows = more k } in born
+    let backs : c.loop-link.self-inside.back ≡ c.args.self.now.back = kept.5 ∙ ap (λ (b : NewRows). b.back) c.self.view_is in
+    λ k. let born : NewRows = record { first = firsts k; width = widths k; rows = more k; back = backs k } in born

@@ -51,6 +51,7 @@ loop-link-preserved g c =
       kept.2,
       kept.3,
       kept.4,
+      kept.5,
     )
 
 pub returns : goal.returns
@@ -75,4 +76,5 @@ returns g c =
     kept.0 ∙ ap (set c.args.self.now.rows c.args.place) mixed in
     let firsts : new.first ≡ c.args.self.now.first = kept.2 ∙ ap (λ (b : NewRows). b.first) c.self.view_is in
     let widths : new.width ≡ c.args.self.now.width = kept.3 ∙ wide in
-    λ k. let now : NewRows = record { first = firsts k; width = widths k; rows = put k } in now
+    let backs : new.back ≡ c.args.self.now.back = kept.5 ∙ ap (λ (b : NewRows). b.back) c.self.view_is in
+    λ k. let now : NewRows = record { first = firsts k; width = widths k; rows = put k; back = backs k } in now

@@ -8,4 +8,4 @@ invariant-loop-link g l =
     ≡ set l.fn.self.rows l.place (take l.link l.row ++ drop l.link (get_or l.fn.self.rows l.place [])))
     × (length l.self-inside.numbers.items ≡ l.self-inside.count * l.self-inside.width)
     × (l.self-inside.first ≡ l.initial.self-inside.first) × (l.self-inside.width ≡ l.initial.self-inside.width)
-    × (l.self-inside.count ≡ l.initial.self-inside.count)
+    × (l.self-inside.count ≡ l.initial.self-inside.count) × (l.self-inside.back ≡ l.initial.self-inside.back)

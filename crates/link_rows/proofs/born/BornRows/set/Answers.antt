@@ -36,9 +36,10 @@ returns c =
     let place = place-below born.width born.count c.args.place born.numbers.items _ rows c.requires.place in
     let wide : born.width ≡ c.args.self.now.width = ap (λ (b : NewRows). b.width) c.self.view_is in
     let first : born.first ≡ c.args.self.now.first = ap (λ (b : NewRows). b.first) c.self.view_is in
+    let back : born.back ≡ c.args.self.now.back = ap (λ (b : NewRows). b.back) c.self.view_is in
     let put : rows_of born.width born.count (set born.numbers.items (c.args.place * born.width + link) c.args.to)
     ≡ set c.args.self.now.rows c.args.place (set (get_or c.args.self.now.rows c.args.place []) link c.args.to) =
     rows-set born.width born.count c.args.place link c.args.to (c.args.place * born.width + link) born.numbers.items refl place
     (omega (arith, c.requires.link))
     ∙ ap (λ (rs : List (List ℕ)). set rs c.args.place (set (get_or rs c.args.place []) link c.args.to)) rows in
-    λ k. let now : NewRows = record { first = first k; width = wide k; rows = put k } in now
+    λ k. let now : NewRows = record { first = first k; width = wide k; rows = put k; back = back k } in now

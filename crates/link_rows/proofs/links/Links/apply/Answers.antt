@@ -1,10 +1,10 @@
-use Rattle.std.proofs.Common.{◌≡◌, ◌<◌, ◌≤◌, ◌++◌, ℕ, List, length, sym, ap, ◌∙◌, arith, lit<}
+use Rattle.std.proofs.Common.{◌≡◌, ◌<◌, ◌≤◌, ◌++◌, ℕ, List, length, get_or, sym, ap, ◌∙◌, arith, lit<}
 use Rattle.std.proofs.lemmas.List.Elements.{All-same}
 use Rattle.map_defs.specs.Rows.{Rows, IsLive}
 use Rattle.map_defs.specs.Edits.{Change, Edit, with_births, linked, with_changes, after_edit}
 use Rattle.edit_laws.proofs.EditSound.{after-sound, length-after, living-changes}
-use Rattle.edit_laws.proofs.EditSteps.{linked-append}
-use Rattle.link_rows.specs.BornRows.{rows_changes}
+use Rattle.edit_laws.proofs.EditSteps.{linked-append, linked-live}
+use Rattle.link_rows.specs.BornRows.{rows_changes, led_back}
 use Rattle.link_rows.proofs.BornChanges.{All-front, All-behind}
 use Rattle.link_rows.proofs.links.Links.apply.Goals as goal
 
@@ -13,7 +13,8 @@ link-requires g c =
     let n : ℕ = g.row.DIM in
     let births : c.edit.inside.births ≡ c.args.edit.now.births = ap (λ (e : Edit). e.births) c.edit.view_is in
     let changes : List Change = c.edit.inside.changes.items in
-    let told : List Change = rows_changes c.edit.inside.born.first c.edit.inside.born.rows in
+    let led : List Change = led_back c.edit.inside.born.back c.edit.inside.born.first c.edit.inside.born.rows in
+    let told : List Change = led ++ rows_changes c.edit.inside.born.first c.edit.inside.born.rows in
     let all : changes ++ told ≡ c.args.edit.now.changes = ap (λ (e : Edit). e.changes) c.edit.view_is in
     let rows : c.bear.new.rows.rows ≡ with_births n c.args.edit.now.births c.args.self.now.rows =
     rw (c.bear.ensures.rows, births, c.self.view_is) in
@@ -26,18 +27,34 @@ link-requires g c =
 
 pub put_links-requires : goal.put_links-requires
 put_links-requires g c =
+    let n : ℕ = g.row.DIM in
+    let births : c.edit.inside.births ≡ c.args.edit.now.births = ap (λ (e : Edit). e.births) c.edit.view_is in
     let changes : List Change = c.edit.inside.changes.items in
-    let told : List Change = rows_changes c.edit.inside.born.first c.edit.inside.born.rows in
+    let led : List Change = led_back c.edit.inside.born.back c.edit.inside.born.first c.edit.inside.born.rows in
+    let told : List Change = led ++ rows_changes c.edit.inside.born.first c.edit.inside.born.rows in
     let all : changes ++ told ≡ c.args.edit.now.changes = ap (λ (e : Edit). e.changes) c.edit.view_is in
     let links = All-same (λ (b : Change). b.link ≤ g.row.DIM) _ _ all c.requires.fits.links in
-    (lit< tt, All-behind (λ (b : Change). b.link ≤ g.row.DIM) changes told links)
+    let born : Rows = with_births n c.args.edit.now.births c.args.self.now.rows in
+    let rows : c.link.new.rows.rows ≡ linked changes born =
+    rw (c.link.ensures.rows, c.deref.ensures.value, c.bear.ensures.rows, births, c.self.view_is) in
+    let darts =
+    All-front (λ (b : Change). IsLive born b.dart) led (rows_changes c.edit.inside.born.first c.edit.inside.born.rows)
+    (All-behind (λ (b : Change). IsLive born b.dart) changes told (All-same (λ (b : Change). IsLive born b.dart) _ _ all c.requires.fits.darts)) in
+    rw rows (
+      lit< tt,
+      (
+        All-behind (λ (b : Change). b.link ≤ g.row.DIM) changes told links,
+        λ p b h. linked-live changes born (get_or led p b).dart ∙ darts p b h,
+      ),
+    )
 
 pub bury-requires : goal.bury-requires
 bury-requires g c =
     let n : ℕ = g.row.DIM in
     let births : c.edit.inside.births ≡ c.args.edit.now.births = ap (λ (e : Edit). e.births) c.edit.view_is in
     let changes : List Change = c.edit.inside.changes.items in
-    let told : List Change = rows_changes c.edit.inside.born.first c.edit.inside.born.rows in
+    let led : List Change = led_back c.edit.inside.born.back c.edit.inside.born.first c.edit.inside.born.rows in
+    let told : List Change = led ++ rows_changes c.edit.inside.born.first c.edit.inside.born.rows in
     let all : changes ++ told ≡ c.args.edit.now.changes = ap (λ (e : Edit). e.changes) c.edit.view_is in
     let deaths : c.deref-2.result.now ≡ c.args.edit.now.deaths = c.deref-2.ensures.value ∙ ap (λ (e : Edit). e.deaths) c.edit.view_is in
     let born : Rows = with_births n c.args.edit.now.births c.args.self.now.rows in
@@ -51,7 +68,8 @@ invariant_of-self g c =
     let n : ℕ = g.row.DIM in
     let births : c.edit.inside.births ≡ c.args.edit.now.births = ap (λ (e : Edit). e.births) c.edit.view_is in
     let changes : List Change = c.edit.inside.changes.items in
-    let told : List Change = rows_changes c.edit.inside.born.first c.edit.inside.born.rows in
+    let led : List Change = led_back c.edit.inside.born.back c.edit.inside.born.first c.edit.inside.born.rows in
+    let told : List Change = led ++ rows_changes c.edit.inside.born.first c.edit.inside.born.rows in
     let all : changes ++ told ≡ c.args.edit.now.changes = ap (λ (e : Edit). e.changes) c.edit.view_is in
     let deaths : c.deref-2.result.now ≡ c.args.edit.now.deaths = c.deref-2.ensures.value ∙ ap (λ (e : Edit). e.deaths) c.edit.view_is in
     let born : Rows = with_births n c.args.edit.now.births c.args.self.now.rows in
@@ -73,7 +91,8 @@ returns-clause-rows g c =
     let n : ℕ = g.row.DIM in
     let births : c.edit.inside.births ≡ c.args.edit.now.births = ap (λ (e : Edit). e.births) c.edit.view_is in
     let changes : List Change = c.edit.inside.changes.items in
-    let told : List Change = rows_changes c.edit.inside.born.first c.edit.inside.born.rows in
+    let led : List Change = led_back c.edit.inside.born.back c.edit.inside.born.first c.edit.inside.born.rows in
+    let told : List Change = led ++ rows_changes c.edit.inside.born.first c.edit.inside.born.rows in
     let all : changes ++ told ≡ c.args.edit.now.changes = ap (λ (e : Edit). e.changes) c.edit.view_is in
     let deaths : c.deref-2.result.now ≡ c.args.edit.now.deaths = c.deref-2.ensures.value ∙ ap (λ (e : Edit). e.deaths) c.edit.view_is in
     let born : Rows = with_births n c.args.edit.now.births c.args.self.now.rows in

@@ -3,7 +3,7 @@ use Rattle.std.proofs.lemmas.List.Elements.{All-same}
 use Rattle.map_defs.specs.Rows.{Rows}
 use Rattle.map_defs.specs.Edits.{Change, Edit, unlinked, revived}
 use Rattle.edit_laws.proofs.EditBack.{after-of, before-led, before-steps}
-use Rattle.link_rows.specs.BornRows.{rows_changes}
+use Rattle.link_rows.specs.BornRows.{rows_changes, led_back}
 use Rattle.link_rows.proofs.BornChanges.{All-front, All-behind, unlinked-append}
 use Rattle.link_rows.proofs.links.Links.reverse.Goals as goal
 
@@ -26,7 +26,8 @@ revive-requires g c =
 pub free_links-requires : goal.free_links-requires
 free_links-requires g c =
     let changes : List Change = c.edit.inside.changes.items in
-    let told : List Change = rows_changes c.edit.inside.born.first c.edit.inside.born.rows in
+    let led : List Change = led_back c.edit.inside.born.back c.edit.inside.born.first c.edit.inside.born.rows in
+    let told : List Change = led ++ rows_changes c.edit.inside.born.first c.edit.inside.born.rows in
     let all : changes ++ told ≡ c.args.edit.now.changes = ap (λ (e : Edit). e.changes) c.edit.view_is in
     let links = All-same (λ (b : Change). b.link ≤ g.row.DIM) _ _ all c.requires.led.1.fits.links in
     (lit< tt, All-behind (λ (b : Change). b.link ≤ g.row.DIM) changes told links)
@@ -34,7 +35,8 @@ free_links-requires g c =
 pub unlink-requires : goal.unlink-requires
 unlink-requires g c =
     let changes : List Change = c.edit.inside.changes.items in
-    let told : List Change = rows_changes c.edit.inside.born.first c.edit.inside.born.rows in
+    let led : List Change = led_back c.edit.inside.born.back c.edit.inside.born.first c.edit.inside.born.rows in
+    let told : List Change = led ++ rows_changes c.edit.inside.born.first c.edit.inside.born.rows in
     let all : changes ++ told ≡ c.args.edit.now.changes = ap (λ (e : Edit). e.changes) c.edit.view_is in
     let links = All-same (λ (b : Change). b.link ≤ g.row.DIM) _ _ all c.requires.led.1.fits.links in
     rw c.deref-2.ensures.value (lit< tt, All-front (λ (b : Change). b.link ≤ g.row.DIM) changes told links)
@@ -45,7 +47,8 @@ returns-clause-rows g c =
     let births : c.edit.inside.births ≡ c.args.edit.now.births = ap (λ (e : Edit). e.births) c.edit.view_is in
     let deaths : c.deref.result.now ≡ c.args.edit.now.deaths = c.deref.ensures.value ∙ ap (λ (e : Edit). e.deaths) c.edit.view_is in
     let changes : List Change = c.edit.inside.changes.items in
-    let told : List Change = rows_changes c.edit.inside.born.first c.edit.inside.born.rows in
+    let led : List Change = led_back c.edit.inside.born.back c.edit.inside.born.first c.edit.inside.born.rows in
+    let told : List Change = led ++ rows_changes c.edit.inside.born.first c.edit.inside.born.rows in
     let all : changes ++ told ≡ c.args.edit.now.changes = ap (λ (e : Edit). e.changes) c.edit.view_is in
     let before : Rows = revived n c.args.edit.now.deaths (take (length c.args.self.now.rows - c.args.edit.now.births) c.args.self.now.rows) in
     rw (

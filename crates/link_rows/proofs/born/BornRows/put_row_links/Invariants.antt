@@ -1,7 +1,7 @@
 use Rattle.std.proofs.Common.{◌≡◌, ◌+◌, drop}
 use Rattle.map_defs.specs.Edits.{linked}
 use Rattle.link_rows.specs.BornRows.{rows_changes}
-use Rattle.link_rows.proofs.born.BornRows.put_links.Given as goal
+use Rattle.link_rows.proofs.born.BornRows.put_row_links.Given as goal
 
 abbrev pub invariant-loop-place : goal.invariant-loop-place
 invariant-loop-place g l =

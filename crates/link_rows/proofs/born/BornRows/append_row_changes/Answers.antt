@@ -4,7 +4,7 @@ use Rattle.map_defs.specs.Edits.{Change}
 use Rattle.dart_arena.specs.RowChanges.{row_changes}
 use Rattle.link_rows.specs.BornRows.{NewRows, rows_changes}
 use Rattle.link_rows.proofs.BornChanges.{rows-count, rows-split}
-use Rattle.link_rows.proofs.born.BornRows.append_changes.Goals as goal
+use Rattle.link_rows.proofs.born.BornRows.append_row_changes.Goals as goal
 
 pub dart_at-requires : goal.dart_at-requires
 dart_at-requires c =

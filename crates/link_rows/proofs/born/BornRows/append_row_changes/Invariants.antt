@@ -1,6 +1,6 @@
 use Rattle.std.proofs.Common.{◌≡◌, ◌+◌, ◌++◌, drop}
 use Rattle.link_rows.specs.BornRows.{rows_changes}
-use Rattle.link_rows.proofs.born.BornRows.append_changes.Given as goal
+use Rattle.link_rows.proofs.born.BornRows.append_row_changes.Given as goal
 
 abbrev pub invariant-loop-place : goal.invariant-loop-place
 invariant-loop-place l =

@@ -1,0 +1,8 @@
+use Rattle.std.proofs.Common.{◌≡◌, ◌+◌, ◌++◌, drop}
+use Rattle.link_rows.specs.BornRows.{back_changes}
+use Rattle.link_rows.proofs.born.BornRows.append_back_changes.Given as goal
+
+abbrev pub invariant-loop-place : goal.invariant-loop-place
+invariant-loop-place l =
+    l.changes.items ++ back_changes l.link (l.self.first + l.place) (drop l.place l.self.rows)
+    ≡ l.fn.changes.items ++ back_changes l.link l.self.first l.self.rows
