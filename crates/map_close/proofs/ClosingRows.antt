@@ -1,8 +1,8 @@
--- The changes by which open darts are joined to their new darts, and the rows of these: together they write what a closing asks.
-use Rattle.std.proofs.Common.{ℕ, zero, suc, ◌≡◌, ◌≢◌, ◌+◌, ◌<◌, ◌≤◌, ◌⊎◌, List, [], ◌∷◌, ◌++◌, length, take, slice_index, Contains, refl, sym, ap, ◌∙◌, subst, inl, inr, arith}
-use Rattle.std.specs.Prelude.{slice_index_or, slice_set}
-use Rattle.std.proofs.lemmas.Bool.{cases_lt, cases_eq}
-use Rattle.std.proofs.lemmas.List.{get_or_append_left, get_or_at, length-set, get_or-set_same, get_or-set_other, length_push, length-map, length-take, map-append, take_more, take_all}
+-- The rows of the new darts, and the changes by which open darts are joined to these: together they write what a closing asks.
+use Rattle.std.proofs.Common.{ℕ, zero, suc, ◌≡◌, ◌≢◌, ◌+◌, ◌<◌, ◌≤◌, ◌⊎◌, List, [], ◌∷◌, ◌++◌, length, slice_index, Contains, refl, sym, ap, ap₂, ◌∙◌, subst, inl, inr, arith}
+use Rattle.std.specs.Prelude.{Option, Some, map, slice_index_or, slice_set}
+use Rattle.std.proofs.lemmas.Bool.{cases_lt, cases_eq, ne_eqb}
+use Rattle.std.proofs.lemmas.List.{get_or_append_left, get_or_at, length-set, get_or-set_same, get_or-set_other, length_push}
 use Rattle.map_defs.specs.Kind.{Kind}
 use Rattle.map_defs.specs.Links.{Links}
 use Rattle.map_defs.specs.Edits.{Change}
@@ -14,8 +14,8 @@ use Rattle.cell_edit.proofs.Beyond.{unmade-free}
 use Rattle.cell_edit.proofs.Premises.{live-dart}
 use Rattle.cell_edit.proofs.StarNumbers.{rises, star-found}
 use Rattle.cell_edit.proofs.Writings.{writes-none, writes-one, writes-append, writes-same}
-use Rattle.link_rows.specs.BornRows.{NewRows, rows_changes}
-use Rattle.map_close.specs.NewLinks.{IsNewLink, IsNewRow, AreClosingEntries, CanClose, joinings, IsClosedBelow}
+use Rattle.link_rows.specs.BornRows.{NewRows, back_changes, led_back, rows_changes}
+use Rattle.map_close.specs.NewLinks.{IsNewLink, IsNewRow, AreClosingEntries, CanClose, IsClosedBelow}
 use Rattle.cell_edit.proofs.RowEntries.{within-row, rows-write}
 use Rattle.map_close.proofs.NewLinkFacts.{link-one}
 use Rattle.map_close.proofs.OpenFacts.{key-live, key-free, key-made, star-above, rounds}
@@ -34,6 +34,10 @@ new-put k n i L star x row at z low long tells link = (length-set row at z ∙ l
         (subst (IsNewLink k i L star x at) (sym (get_or-set_same row at z 0 (omega (arith, long)))) link)
 
 -- ---- the changes of the open darts
+-- the changes by which link i of each of these darts becomes its new dart
+abbrev joinings : ℕ → (ℕ → ℕ) → List ℕ → List Change
+joinings i star keys = map (λ x. record { dart = x; link = i; old = 0; new = star x }) keys
+
 -- the entries of these darts, whose links i become their new darts
 abbrev AreJoined : ℕ → (ℕ → ℕ) → List ℕ → ℕ → ℕ → ℕ → Type 0
 AreJoined i star keys d t y = (x : ℕ) × Contains keys x × IsLinkEntry x i (star x) d t y
@@ -65,6 +69,26 @@ module _ (L : Links) (i : ℕ) (star : ℕ → ℕ) where
       from : (d t y : ℕ) → AreJoined i star (x ∷ keys) d t y → IsFirst x d t y ⊎ AreJoined i star keys d t y
       from d t y (u, (zero, low, is), e) = inl (e.0 ∙ sym is, e.1, e.2 ∙ ap star (sym is))
       from d t y (u, (suc p, low, is), e) = inr (u, (p, omega arith, is), e)
+
+-- rows that name these darts at link i lead them back to the new darts
+rows-lead-back : (i : ℕ) (star : ℕ → ℕ) (keys : List ℕ) (d : ℕ) (born : List (List ℕ)) → length born ≡ length keys
+    → ((p : ℕ) → p < length born → (slice_index (slice_index_or born p []) i ≡ slice_index keys p) × (slice_index keys p ≢ 0) × (star (slice_index keys p) ≡ d + p))
+    → back_changes i d born ≡ joinings i star keys
+rows-lead-back i star [] d [] long each = refl
+rows-lead-back i star (x ∷ keys) d [] long each = absurd (omega (arith, long))
+rows-lead-back i star [] d (row ∷ born) long each = absurd (omega (arith, long))
+rows-lead-back i star (x ∷ keys) d (row ∷ born) long each =
+    let here : (slice_index row i ≡ x) × (x ≢ 0) × (star x ≡ d + 0) = each 0 (omega arith) in
+    let new : d ≡ star x = omega (arith, here.2) in
+    rw (ne_eqb (slice_index row i) 0 (λ none. here.1 (sym here.0 ∙ none)))
+    (ap₂ (λ (c : Change) (cs : List Change). c ∷ cs)
+    (ap₂ (λ (a : ℕ) (b : ℕ). let c : Change = record { dart = a; link = i; old = 0; new = b } in c) here.0 new)
+    (rows-lead-back i star keys (d + 1) born (omega (arith, long))
+    (λ p low. let on = each (suc p) (omega arith) in (on.0, on.1, omega (arith, on.2)))))
+
+led-back-some : (i d : ℕ) (born : List (List ℕ)) → led_back (Some i) d born ≡ back_changes i d born
+led-back-some i d [] = refl
+led-back-some i d (row ∷ born) = refl
 
 module _ (k : Kind) (n : ℕ) (rows : Rows) (sound : IsSound k n rows) (i : ℕ) (stars : Stars) (can : CanClose k rows i stars) where
   abbrev L : Links
@@ -111,29 +135,29 @@ module _ (k : Kind) (n : ℕ) (rows : Rows) (sound : IsSound k n rows) (i : ℕ)
         (rows-write L (stars.made + 1) born (λ t d low. unmade-free rows t d (omega (arith, can.made)))))
 
   -- ---- one dart after another
-  pub closed-begins : IsClosedBelow k n rows i stars 1 [] (record { first = stars.made + 1; width = n + 1; rows = [] })
+  pub closed-begins : IsClosedBelow k n rows i stars 1 (record { first = stars.made + 1; width = n + 1; back = Some i; rows = [] })
   closed-begins = record {
     first = refl;
     width = refl;
+    back = refl;
     few = omega arith;
     below = λ p low. absurd (omega arith);
     from = λ p more low. at_least (slice_index stars.keys p) (live-dart k n rows sound (slice_index stars.keys p) (key-live k n rows sound i stars can (slice_index stars.keys p) (held_at stars.keys p low)));
-    joined = refl;
     tells = λ p low. absurd (omega arith);
   }
     where
       at_least : (x : ℕ) → x ≢ 0 → 1 ≤ x
       at_least x some = omega (arith, some)
 
-  module _ (d : ℕ) (changes : List Change) (born : NewRows) (before : IsClosedBelow k n rows i stars d changes born) where
-    pub closed-skip : star d ≡ 0 → IsClosedBelow k n rows i stars (d + 1) changes born
+  module _ (d : ℕ) (born : NewRows) (before : IsClosedBelow k n rows i stars d born) where
+    pub closed-skip : star d ≡ 0 → IsClosedBelow k n rows i stars (d + 1) born
     closed-skip none = record {
       first = before.first;
       width = before.width;
+      back = before.back;
       few = before.few;
       below = λ p low. let less = before.below p low in omega arith;
       from = λ p more low. next p low (before.from p more low);
-      joined = before.joined;
       tells = before.tells;
     }
       where
@@ -160,23 +184,18 @@ module _ (k : Kind) (n : ℕ) (rows : Rows) (sound : IsSound k n rows) (i : ℕ)
             absurd (omega (arith, rises stars.keys can.ascending (length born.rows) has.0 above has.1, before.from (length born.rows) (omega arith) (omega (arith, has.1)), is))
         at (inr more) (inr below) = let same : has.0 ≡ length born.rows = omega arith in (omega (arith, has.1), ap (slice_index stars.keys) (sym same) ∙ is)
 
-    pub room-for-one : star d ≢ 0 → length changes < length stars.keys
-    room-for-one some =
-        let few : length changes ≡ length (take (length born.rows) stars.keys) = ap length before.joined ∙ length-map (take (length born.rows) stars.keys) (λ (x : ℕ). let c : Change = record { dart = x; link = i; old = 0; new = star x } in c) in
-        omega (arith, few, length-take (length born.rows) stars.keys, (key_at some).0)
-
     pub few-rows : star d ≢ 0 → length born.rows < length stars.keys
     few-rows some = (key_at some).0
 
     pub closed-push : (row : List ℕ) → star d ≢ 0 → IsNewRow k n i L star d row
-        → IsClosedBelow k n rows i stars (d + 1) (changes ++ record { dart = d; link = i; old = 0; new = star d } ∷ []) (record born { rows = born.rows ++ row ∷ [] })
+        → IsClosedBelow k n rows i stars (d + 1) (record born { rows = born.rows ++ row ∷ [] })
     closed-push row some new = record {
       first = before.first;
       width = before.width;
+      back = before.back;
       few = omega (arith, length_push born.rows row, next.0);
       below = λ p low. below p (cases_lt p (length born.rows)) low;
       from = λ p more low. let high = rises stars.keys can.ascending (length born.rows) p (omega (arith, length_push born.rows row)) low in omega (arith, next.1);
-      joined = ap (λ (cs : List Change). cs ++ record { dart = d; link = i; old = 0; new = star d } ∷ []) before.joined ∙ sym longer;
       tells = λ p low. told p (cases_lt p (length born.rows)) low;
     }
       where
@@ -190,14 +209,6 @@ module _ (k : Kind) (n : ℕ) (rows : Rows) (sound : IsSound k n rows) (i : ℕ)
         below p (inl less) low = omega (arith, before.below p less)
         below p (inr more) low = let same = ap (slice_index stars.keys) (last p more low) in omega (arith, same, next.1)
 
-        taken : take (length born.rows + 1) stars.keys ≡ take (length born.rows) stars.keys ++ d ∷ []
-        taken = take_more stars.keys (length born.rows) 0 next.0 ∙ ap (λ (x : ℕ). take (length born.rows) stars.keys ++ x ∷ []) next.1
-
-        longer : joinings i star (take (length (born.rows ++ row ∷ [])) stars.keys) ≡ joinings i star (take (length born.rows) stars.keys) ++ record { dart = d; link = i; old = 0; new = star d } ∷ []
-        longer =
-            ap (λ (m : ℕ). joinings i star (take m stars.keys)) (length_push born.rows row) ∙ ap (joinings i star) taken
-            ∙ map-append (λ (x : ℕ). let c : Change = record { dart = x; link = i; old = 0; new = star x } in c) (take (length born.rows) stars.keys) (d ∷ [])
-
         told : (p : ℕ) → (p < length born.rows) ⊎ (length born.rows ≤ p) → p < length (born.rows ++ row ∷ []) → IsNewRow k n i L star (slice_index stars.keys p) (slice_index_or (born.rows ++ row ∷ []) p [])
         told p (inl less) low = subst (IsNewRow k n i L star (slice_index stars.keys p)) (sym (get_or_append_left born.rows (row ∷ []) [] p less)) (before.tells p less)
         told p (inr more) low =
@@ -206,8 +217,9 @@ module _ (k : Kind) (n : ℕ) (rows : Rows) (sound : IsSound k n rows) (i : ℕ)
             (subst (IsNewRow k n i L star d) (sym (get_or_at born.rows row [] [] p (sym same))) new)
 
     -- past the darts that were made, all are closed
-    pub closed-ends : stars.made < d → WritesEntries L (AreClosingEntries k i L star (n + 1) stars.keys) (changes ++ rows_changes born.first born.rows)
-    closed-ends past =
+    pub closed-ends : i ≤ n → stars.made < d
+        → WritesEntries L (AreClosingEntries k i L star (n + 1) stars.keys) (led_back born.back born.first born.rows ++ rows_changes born.first born.rows)
+    closed-ends within past =
         subst (WritesEntries L (AreClosingEntries k i L star (n + 1) stars.keys)) (sym same) (closing-writes born.rows all before.tells)
       where
         all : length born.rows ≡ length stars.keys
@@ -216,7 +228,20 @@ module _ (k : Kind) (n : ℕ) (rows : Rows) (sound : IsSound k n rows) (i : ℕ)
           | inr more ↦ (let few = before.few in omega arith)
         ]
 
-        same : changes ++ rows_changes born.first born.rows ≡ joinings i star stars.keys ++ rows_changes (stars.made + 1) born.rows
+        key : (p : ℕ) → p < length born.rows → Contains stars.keys (slice_index stars.keys p)
+        key p low = held_at stars.keys p (omega (arith, all))
+
+        each : (p : ℕ) → p < length born.rows
+            → (slice_index (slice_index_or born.rows p []) i ≡ slice_index stars.keys p) × (slice_index stars.keys p ≢ 0) × (star (slice_index stars.keys p) ≡ stars.made + 1 + p)
+        each p low = (
+          ((before.tells p low).1 i within).own refl,
+          live-dart k n rows sound (slice_index stars.keys p) (key-live k n rows sound i stars can (slice_index stars.keys p) (key p low)),
+          star-found stars (slice_index stars.keys p) p can.ascending (omega (arith, all)) refl,
+        )
+
+        same : led_back born.back born.first born.rows ++ rows_changes born.first born.rows ≡ joinings i star stars.keys ++ rows_changes (stars.made + 1) born.rows
         same =
-            ap (λ (f : ℕ). changes ++ rows_changes f born.rows) before.first
-            ∙ ap (λ (cs : List Change). cs ++ rows_changes (stars.made + 1) born.rows) (before.joined ∙ ap (joinings i star) (take_all (length born.rows) stars.keys (omega (arith, all))))
+            ap (λ (b : Option ℕ). led_back b born.first born.rows ++ rows_changes born.first born.rows) before.back
+            ∙ ap (λ (f : ℕ). led_back (Some i) f born.rows ++ rows_changes f born.rows) before.first
+            ∙ ap (λ (cs : List Change). cs ++ rows_changes (stars.made + 1) born.rows)
+            (led-back-some i (stars.made + 1) born.rows ∙ rows-lead-back i star stars.keys (stars.made + 1) born.rows all each)

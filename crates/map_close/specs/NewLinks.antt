@@ -1,10 +1,9 @@
 -- What the links of the new darts of a closing become, and the entries that are written.
-use Rattle.std.specs.Prelude.{ℕ, suc, ◌≡◌, ◌≢◌, ◌+◌, ◌<◌, ◌≤◌, ◌⊎◌, ◌↔◌, List, [], map, take, length, slice_index, slice_index_or, Contains}
+use Rattle.std.specs.Prelude.{ℕ, suc, ◌≡◌, ◌≢◌, ◌+◌, ◌<◌, ◌≤◌, ◌⊎◌, ◌↔◌, List, [], Some, length, slice_index, slice_index_or, Contains}
 use Rattle.std.specs.List.Sorted.{IsStrictlyIncreasing}
 use Rattle.map_defs.specs.Kind.{Kind, inverse, IsDistant}
 use Rattle.map_defs.specs.Links.{Links}
 use Rattle.map_defs.specs.Laws.{Laws}
-use Rattle.map_defs.specs.Edits.{Change}
 use Rattle.map_defs.specs.Insertion.{IsJustBelow}
 use Rattle.map_defs.specs.Rows.{Rows, links_of, made, IsLive}
 use Rattle.map_defs.specs.Closing.{IsOpen, IsAround}
@@ -46,18 +45,13 @@ pub record CanClose (k : Kind) (rows : Rows) (i : ℕ) (stars : Stars) : Type 0 
   pub own : inverse k i ≡ i
   pub laws : Laws k (links_of rows)
 
--- the changes by which link i of each of these darts becomes its new dart
-abbrev pub joinings : ℕ → (ℕ → ℕ) → List ℕ → List Change
-joinings i star keys = map (λ x. record { dart = x; link = i; old = 0; new = star x }) keys
-
--- The open darts below d are joined to their new darts, in a map of dimension n, and the rows of these are told.
-pub record IsClosedBelow (k : Kind) (n : ℕ) (rows : Rows) (i : ℕ) (stars : Stars) (d : ℕ) (changes : List Change) (born : NewRows)
-    : Type 0 where
+-- The rows of the new darts of the open darts below d are told, in a map of dimension n, and that the open darts lead back.
+pub record IsClosedBelow (k : Kind) (n : ℕ) (rows : Rows) (i : ℕ) (stars : Stars) (d : ℕ) (born : NewRows) : Type 0 where
   pub first : born.first ≡ stars.made + 1
   pub width : born.width ≡ n + 1
+  pub back : born.back ≡ Some i
   pub few : length born.rows ≤ length stars.keys
   pub below : (p : ℕ) → p < length born.rows → slice_index stars.keys p < d
   pub from : (p : ℕ) → length born.rows ≤ p → p < length stars.keys → d ≤ slice_index stars.keys p
-  pub joined : changes ≡ joinings i (star_of stars) (take (length born.rows) stars.keys)
   pub tells : (p : ℕ) → p < length born.rows
       → IsNewRow k n i (links_of rows) (star_of stars) (slice_index stars.keys p) (slice_index_or born.rows p [])

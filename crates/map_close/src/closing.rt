@@ -1,4 +1,4 @@
-ghost use Rattle.std.specs.Prelude.{◌≡◌, ◌+◌, ◌≤◌, Contains, length, vec_capacity, IfOk, OnOk};
+ghost use Rattle.std.specs.Prelude.{◌≡◌, ◌+◌, ◌≤◌, Contains, IfOk, OnOk};
 ghost use Rattle.map_defs.specs.Kind.{inverse};
 ghost use Rattle.map_defs.specs.Rows.{links_of};
 ghost use Rattle.map_defs.specs.Laws.{Laws};
@@ -9,7 +9,7 @@ ghost use Rattle.map_close.specs.NewLinks.{IsNewLink, IsNewRow, IsClosedBelow, C
 
 use crate::boundary::next_star;
 use crate::star_table::StarTable;
-use link_rows::{BornRows, Change, Edit, Links, Row};
+use link_rows::{BornRows, Edit, Links, Row};
 use map_kind::{Dart, Kind};
 use std::alloc::{AllocError, Global};
 
@@ -29,46 +29,39 @@ pub(crate) fn closing_edit<K: Kind, const DIM: usize>(
     let stars = StarTable::of_open_darts(alloc, links, link)?;
     let births = stars.births();
     let width = links.dimension() + 1;
-    let mut changes = Vec::with_capacity(alloc, births as usize)?;
     let mut born = BornRows::with_room(alloc, stars.first(), width, births as usize)?;
+    // At this link each new dart leads to an open one, which leads back.
+    born.lead_back(link);
     for number in 1..links.made() + 1 {
-        let dart = Dart::new(number).unwrap();
-        close_dart(links, link, &stars, dart, &mut changes, &mut born)?;
+        close_dart(links, link, &stars, Dart::new(number).unwrap(), &mut born)?;
     }
     Ok(Edit {
         births,
         deaths: Vec::new(alloc),
-        changes,
+        changes: Vec::new(alloc),
         born,
     })
 }
 
-/// Appends the change by which the link of a dart becomes its new dart, and the row of the new dart; nothing where the dart
-/// gets none. There is room for the change.
+/// Appends the row of the new dart of a dart; nothing where the dart gets none.
 fn close_dart<K: Kind, const DIM: usize>(
     links: &Links<K, DIM>,
     link: usize,
     stars: &StarTable,
     dart: Dart,
-    changes: &mut Vec<Change>,
     born: &mut BornRows,
 ) -> Result<(), AllocError>
     requires link { link ≤ DIM }
     requires can { CanClose K.kind links.now.rows link stars.now }
     requires dart { dart ≤ stars.now.made }
-    requires room { length stars.now.keys ≤ vec_capacity changes.old }
-    requires before { IsClosedBelow K.kind DIM links.now.rows link stars.now dart changes.old.items born.old }
-    ensures capacity { vec_capacity changes.new ≡ vec_capacity changes.old }
-    ensures closed { OnOk result
-        (IsClosedBelow K.kind DIM links.now.rows link stars.now (dart + 1) changes.new.items born.new) }
+    requires before { IsClosedBelow K.kind DIM links.now.rows link stars.now dart born.old }
+    ensures { OnOk result (IsClosedBelow K.kind DIM links.now.rows link stars.now (dart + 1) born.new) }
 {
     // A map has links 0 to 8 at most.
     links.see_sound();
-    let new = stars.number(dart.number());
-    if new == 0 {
+    if stars.number(dart.number()) == 0 {
         return Ok(());
     }
-    changes.push_reserved(Change::new(dart, link, 0, new));
     let row = new_row(links, link, stars, dart);
     born.push(&row)?;
     Ok(())

@@ -1,5 +1,3 @@
-use Rattle.std.proofs.Common.{◌≤◌, length}
-use Rattle.std.specs.Prelude.{vec_capacity}
 use Rattle.cell_edit.specs.Stars.{Stars}
 use Rattle.map_close.specs.Boundary.{keys_from}
 use Rattle.map_close.specs.NewLinks.{IsClosedBelow}
@@ -8,4 +6,4 @@ use Rattle.map_close.proofs.closing.closing_edit.Given as goal
 abbrev pub invariant-loop-number : goal.invariant-loop-number
 invariant-loop-number g l =
     let stars : Stars = record { keys = keys_from 0 l.stars-inside.numbers.items; made = l.stars-inside.made } in
-    IsClosedBelow g.K.Kind.kind g.row.DIM l.links.rows l.link stars l.number l.changes.items l.born × (length stars.keys ≤ vec_capacity l.changes)
+    IsClosedBelow g.K.Kind.kind g.row.DIM l.links.rows l.link stars l.number l.born
