@@ -1,5 +1,5 @@
 -- Which darts an edit touches in a dimension, by its changes.
-use Rattle.std.proofs.Common.{ℕ, Bool, false, ◌≡◌, ◌++◌, ◌≢◌, ◌⊎◌, ◌+◌, ◌<◌, ◌≤◌, inl, inr, refl, sym, ap, subst, ◌∙◌, List, length, get_or, Option, Some, None, Contains, arith}
+use Rattle.std.proofs.Common.{ℕ, Bool, false, ◌≡◌, ◌++◌, ◌≢◌, ◌⊎◌, ◌+◌, ◌<◌, ◌≤◌, inl, inr, refl, sym, ap, subst, ◌∙◌, List, length, get_or, Option, Some, None, Contains, ⊎_elim, arith}
 use Rattle.std.specs.Prelude.{IfSome, IsTrue, All}
 use Rattle.std.proofs.lemmas.Bool.{cases_lt, false≢true}
 use Rattle.std.proofs.lemmas.List.{get_or_default}
@@ -23,7 +23,14 @@ use Rattle.valued_map.proofs.DimLists.{AreListedBelow}
 use Rattle.valued_map.proofs.LiveDarts.{zero-dead}
 use Rattle.valued_map.proofs.Adding.{same-else, long}
 
--- where no row is of a dart up to a number, the changes of these darts are among those that no row tells
+-- a change that no row tells is among the others
+pub plain-among : (cs back rows : List Change) (c : Change) → Contains (cs ++ (back ++ rows)) c → (Contains back c → ⊥) → (Contains rows c → ⊥) → Contains cs c
+plain-among cs back rows c here not_back not_row = elim (Contains-append_cases cs (back ++ rows) c here) [
+  | inl among ↦ among
+  | inr told ↦ absurd (⊎_elim not_back not_row (Contains-append_cases back rows c told))
+]
+
+-- where no row tells of a dart up to a number, the changes of these darts are among those that no row tells
 pub older-among : (cs told : List Change) (older : ℕ) (begun : Bool) → begun ≡ false → ((c : Change) → Contains told c → c.dart ≤ older → IsTrue begun)
     → (c : Change) → Contains (cs ++ told) c → c.dart ≤ older → Contains cs c
 older-among cs told older begun later begins c here low = elim (Contains-append_cases cs told c here) [

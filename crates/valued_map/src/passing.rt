@@ -1,15 +1,15 @@
 //! Dimensions in which an edit can touch nothing, since no word of their cells follows a link that it changed.
-ghost use Rattle.std.specs.Prelude.{◌≤◌, Contains, IsTrue};
+ghost use Rattle.std.specs.Prelude.{◌≡◌, ℕ, ◌≤◌, Some, Contains, IsTrue};
 ghost use Rattle.map_defs.specs.Rows.{IsLive};
 ghost use Rattle.map_defs.specs.Edits.{Change as LinkChange};
 ghost use Rattle.valued_map.specs.Changing.{IsFollowed};
 
-use link_rows::{Change, Edit, Links};
+use link_rows::{BornRows, Change, Edit, Links};
 use map_kind::{Kind, is_generalized};
 
 /// Whether some change of an edit may reroute a dart in a dimension: one of a live dart that was made before the edit, the
 /// darts up to the number `older`, and of a link that some word of the dimension's cells follows. The rows of new darts are
-/// not looked through: where some might be of darts up to that number, it says that they may.
+/// not looked through: where some might tell of darts up to that number, it says that they may.
 pub(crate) fn may_touch<K: Kind, const DIM: usize>(
     links: &Links<K, DIM>,
     edit: &Edit,
@@ -22,12 +22,25 @@ pub(crate) fn may_touch<K: Kind, const DIM: usize>(
     if edit.born.begin_by(older) {
         return true;
     }
+    if may_lead_back::<K>(&edit.born, dim) {
+        return true;
+    }
     for change in &edit.changes {
         if may_reroute(links, older, dim, *change) {
             return true;
         }
     }
     false
+}
+
+/// Whether darts may lead back to new ones by a link that some word of the cells of a dimension follows.
+fn may_lead_back<K: Kind>(born: &BornRows, dim: usize) -> bool
+    ensures { (link : ℕ) → born.now.back ≡ Some link → IsFollowed K.kind dim link → IsTrue result }
+{
+    match born.back() {
+        Some(link) => is_followed::<K>(dim, link),
+        None => false,
+    }
 }
 
 /// Whether a change of a link may reroute a dart in a dimension.

@@ -1,19 +1,25 @@
 //! Which darts an edit touches.
-ghost use Rattle.std.specs.Prelude.{◌≡◌, ◌≢◌, ℕ, ◌+◌, ◌≤◌, ◌<◌, ◌↔◌, Contains, IsTrue, IfSome, IsNone, OnOk, slice_index};
+ghost use Rattle.std.specs.Prelude.{◌≡◌, ◌≢◌, ℕ, ◌+◌, ◌≤◌, ◌<◌, ◌↔◌, ◌++◌, Contains, IsTrue, IfSome, IsNone, OnOk, slice_index};
 ghost use Rattle.map_defs.specs.LinkWords.{LinkWord as MapWord, through, through_second, IsCellWord, IsWithin};
 ghost use Rattle.map_defs.specs.Rows.{Rows, IsLive, IsSound, links_of, made};
 ghost use Rattle.map_defs.specs.Edits.{Change as LinkChange, IsLed};
+ghost use Rattle.link_rows.specs.BornRows.{led_back, rows_changes};
 ghost use Rattle.valued_map.specs.Changing.{AreAdded, IsUnsettledFrom, IsUnsettledOf, IsFirstUnsettled, IsThenUnsettled, IsUnsettledAt};
 
 use crate::settled::is_settled;
 use attr_pool::Labels;
-use link_rows::{Change, Edit, Links, Row};
+use link_rows::{BornRows, Change, Edit, Links, Row};
 use map_kind::{Dart, Kind, LinkWord};
 use std::alloc::AllocError;
 
 /// How many changes of an edit are looked through for the link before it. Where an edit has more, each dart that a change may
 /// have rerouted counts as touched, unless the link was free, so that the cost stays linear in the changes.
 const FEW: usize = 64;
+
+/// Whether few changes are looked through for that of a dart which lived before an edit.
+fn has_few(edit: &Edit) -> bool {
+    edit.changes.len() <= FEW && (edit.born.back().is_none() || edit.born.len() <= FEW)
+}
 
 /// Adds the darts that an edit touched in a dimension, whose words these are: those that lived before and that are not settled
 /// along some word which leads elsewhere from them than before. Some may stand there more than once. The darts up to the
@@ -34,13 +40,25 @@ pub(crate) fn add_touched<K: Kind, const DIM: usize>(
     ensures { OnOk result (AreAdded links.now.rows (IsUnsettledFrom K.kind DIM edit.now links.now.rows dim labels.now)
         touched.old.items touched.new.items) }
 {
-    if edit.born.begin_by(older) {
+    if may_tell_of(&edit.born, older) {
         let changes = edit.all_changes(*touched.allocator())?;
         return add_at_changes(links, labels, edit, older, dim, words, &changes, touched);
     }
-    // The rows of new darts tell nothing of other darts.
+    // The rows of new darts tell nothing of other darts then.
     let changes = &edit.changes;
     add_at_changes(links, labels, edit, older, dim, words, changes, touched)
+}
+
+/// Whether the rows of new darts may tell of darts up to a number.
+fn may_tell_of(born: &BornRows, number: u32) -> bool
+    ensures { (c : LinkChange)
+        → Contains (led_back born.now.back born.now.first born.now.rows ++ rows_changes born.now.first born.now.rows) c
+        → c.dart ≤ number → IsTrue result }
+{
+    match born.back() {
+        Some(_) => true,
+        None => born.begin_by(number),
+    }
 }
 
 /// Adds the darts that are not settled along some words for some changes of links. The darts up to the number `older` were made
@@ -274,7 +292,7 @@ fn led_to<K: Kind, const DIM: usize>(
     let Some(link) = link else {
         return Some(number);
     };
-    if number != 0 && edit.changes.len() > FEW {
+    if number != 0 && !has_few(edit) {
         return None;
     }
     Some(number_before(links, edit, number, link))
@@ -337,7 +355,7 @@ fn led_elsewhere<K: Kind, const DIM: usize>(
     requires link { link ≤ DIM }
     ensures { (old : Rows) → IsLed K.kind DIM edit.now old links.now.rows → IsTrue result → links_of old link dart ≢ other }
 {
-    edit.changes.len() <= FEW && number_before(links, edit, dart.number(), link) != other.number()
+    has_few(edit) && number_before(links, edit, dart.number(), link) != other.number()
 }
 
 /// The number of the dart that stood at a link of the dart of a number before an edit; 0 for none, and for the number 0.

@@ -4,7 +4,8 @@ use Rattle.map_defs.specs.Rows.{IsLive}
 use Rattle.map_defs.specs.Edits.{Change, Edit}
 use Rattle.valued_map.specs.Changing.{IsFollowed}
 use Rattle.valued_map.proofs.Heads.{among-more, among-none}
-use Rattle.valued_map.proofs.Rerouting.{older-among}
+use Rattle.link_rows.proofs.BornChanges.{led-link}
+use Rattle.valued_map.proofs.Rerouting.{plain-among}
 use Rattle.valued_map.proofs.passing.may_touch.Goals as goal
 
 pub loop-change-init : goal.loop-change-init
@@ -21,6 +22,7 @@ loop-change-preserved g c = λ b here older live followed.
 
 pub returns : goal.returns
 returns g c = λ b here older live followed.
-    let told = older-among _ _ c.args.older c.begin_by.result c.if-begin_by.false c.begin_by.ensures b
-    (subst (λ (bs : List Change). Contains bs b) (sym (ap (λ (e : Edit). e.changes) c.edit.view_is)) here) older in
-    absurd (c.loop-change.invariant b (subst (λ (bs : List Change). Contains bs b) (sym (take_all c.loop-change.change-index c.deref-change-items.result.now c.loop-change-test.false ∙ c.deref-change-items.ensures.value)) told) older live followed)
+    let among = plain-among _ _ _ b (subst (λ (bs : List Change). Contains bs b) (sym (ap (λ (e : Edit). e.changes) c.edit.view_is)) here)
+    (λ back. false≢true (sym c.if-may_lead_back.false ∙ c.may_lead_back.ensures b.link (led-link _ _ _ b back) followed))
+    (λ row. false≢true (sym c.if-begin_by.false ∙ c.begin_by.ensures b row older)) in
+    absurd (c.loop-change.invariant b (subst (λ (bs : List Change). Contains bs b) (sym (take_all c.loop-change.change-index c.deref-change-items.result.now c.loop-change-test.false ∙ c.deref-change-items.ensures.value)) among) older live followed)

@@ -6,8 +6,8 @@ use Rattle.valued_map.proofs.Adding.{added-told, on-ok}
 use Rattle.valued_map.proofs.Rerouting.{older-among, unsettled-among}
 use Rattle.valued_map.proofs.touched.add_touched.Goals as goal
 
-pub returns-then-begin_by : goal.returns-then-begin_by
-returns-then-begin_by g c =
+pub returns-then-may_tell_of : goal.returns-then-may_tell_of
+returns-then-may_tell_of g c =
     let rows : Rows = c.args.links.now.rows in
     let e : Edit = c.args.edit.now in
     let cs : List Change = c.deref.result.now in
@@ -40,5 +40,5 @@ returns g c =
     held : (b : Change) → Contains e.changes b → b.dart ≤ c.args.older → Contains cs b
     held b here low =
         subst (λ (bs : List Change). Contains bs b) (sym c.deref-2.ensures.value)
-        (older-among _ _ c.args.older c.begin_by.result c.if-begin_by.false c.begin_by.ensures b
+        (older-among _ _ c.args.older c.may_tell_of.result c.if-may_tell_of.false c.may_tell_of.ensures b
         (subst (λ (bs : List Change). Contains bs b) (sym (ap (λ (d : Edit). d.changes) c.edit.view_is)) here) low)
