@@ -1,4 +1,4 @@
-ghost use Rattle.std.specs.Prelude.{◌≡◌, ◌≤◌, [], ◌∷◌, All, None};
+ghost use Rattle.std.specs.Prelude.{◌≡◌, ◌<◌, ◌≤◌, [], ◌∷◌, All, None};
 ghost use Rattle.map_defs.specs.LinkWords.{IsWithin};
 
 use cell_walk::{
@@ -6,7 +6,7 @@ use cell_walk::{
     reaches, same,
 };
 use flat_lists::Lists;
-use link_rows::{Change, Edit, Links, polygon_edit};
+use link_rows::{Change, LINKS_MAX, Links, PlainEdit, polygon_edit};
 use map_kind::{Alpha, Beta, Dart, Kind, LinkWord};
 use std::alloc::{AllocError, Global};
 use std::process::Abort;
@@ -295,14 +295,10 @@ fn names_and_counts_the_cells_of_a_map(rt: HostRuntime) {
 }
 
 fn change(dart: Dart, link: usize, new: u32) -> Change
+    requires { link < LINKS_MAX }
     ensures { result ≡ record { dart = dart; link = link; old = 0; new = new } }
 {
-    Change {
-        dart,
-        link,
-        old: 0,
-        new,
-    }
+    Change::new(dart, link, 0, new)
 }
 
 /// Two darts that are joined by link 8.
@@ -313,7 +309,7 @@ fn two_darts(rt: &impl Abort, alloc: Global, links: &mut Links<Alpha, 8>)
     let two = Dart::new(2).unwrap();
     assert!(rt; links.reserve(2).is_ok());
     match Vec::from_slice(alloc, &[change(one, 8, 2), change(two, 8, 1)]) {
-        Ok(changes) => links.apply(&Edit {
+        Ok(changes) => links.apply_plain(&PlainEdit {
             births: 2,
             deaths: Vec::new(alloc),
             changes,
@@ -375,7 +371,7 @@ fn three_sides(rt: &impl Abort, alloc: Global, links: &mut Links<Beta, 2>)
     ];
     assert!(rt; links.reserve(3).is_ok());
     match Vec::from_slice(alloc, &changes) {
-        Ok(changes) => links.apply(&Edit {
+        Ok(changes) => links.apply_plain(&PlainEdit {
             births: 3,
             deaths: Vec::new(alloc),
             changes,

@@ -4,7 +4,7 @@ ghost use Rattle.map_defs.specs.Rows.{links_of};
 ghost use Rattle.map_defs.specs.Laws.{Laws};
 
 use dual_map::{combinatorial, dual_plan, dualable, generalized};
-use link_rows::{Edit, Links, polygon_edit};
+use link_rows::{Links, PlainEdit, polygon_edit};
 use map_kind::{Alpha, Beta, Dart, Kind, Refusal, Refused};
 use sewing::sew_plan;
 use std::alloc::Global;
@@ -187,7 +187,7 @@ fn dead_darts_are_not_looked_at(rt: HostRuntime) -> Result<(), Fail> {
     let mut links = Links::<Alpha, 2>::new(alloc);
     assert!(&rt; dualable(&links));
     assert!(&rt; links.reserve(1).is_ok());
-    links.apply(&Edit {
+    links.apply_plain(&PlainEdit {
         births: 1,
         deaths: Vec::new(alloc),
         changes: Vec::new(alloc),
@@ -195,7 +195,7 @@ fn dead_darts_are_not_looked_at(rt: HostRuntime) -> Result<(), Fail> {
     let one = dart(&rt, 1);
     assert!(&rt; links.is_live(one));
     assert!(&rt; !dualable(&links));
-    links.apply(&Edit {
+    links.apply_plain(&PlainEdit {
         births: 0,
         deaths: Vec::from_slice(alloc, &[one])?,
         changes: Vec::new(alloc),

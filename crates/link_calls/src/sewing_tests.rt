@@ -3,7 +3,7 @@ ghost use Rattle.map_defs.specs.Kind.{alpha, beta};
 ghost use Rattle.map_defs.specs.Rows.{links_of};
 ghost use Rattle.map_defs.specs.Laws.{Laws};
 
-use link_rows::{Edit, Links};
+use link_rows::{Links, PlainEdit};
 use map_kind::{Alpha, Beta, Dart, Kind, Refusal, Refused};
 use sewing::{Triple, pair, sew_plan, sewable, unsew_plan};
 use std::alloc::{AllocError, Global};
@@ -18,7 +18,7 @@ fn loose<K: Kind, const DIM: usize>(rt: &impl Abort, alloc: Global, darts: u32) 
 {
     let mut links = Links::<K, DIM>::new(alloc);
     match links.reserve(darts) {
-        Ok(()) => links.apply(&Edit {
+        Ok(()) => links.apply_plain(&PlainEdit {
             births: darts,
             deaths: Vec::new(alloc),
             changes: Vec::new(alloc),

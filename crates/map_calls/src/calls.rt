@@ -9,7 +9,7 @@ ghost use Rattle.machine_defs.specs.State.{empty_state};
 use crate::lines::{Line, Name, Wanted, check_lines};
 use attr_rules::OrCopy;
 use cell_walk::{cell_lists, cells};
-use link_rows::{Edit, Links, polygon_edit};
+use link_rows::{Edit, Links, PlainEdit, polygon_edit};
 use map_core::{Done, Map};
 use map_kind::{Alpha, Dart, Place, Refusal, Refused, Value};
 use std::alloc::{AllocError, Global};
@@ -348,8 +348,19 @@ fn places_at(alloc: Global, darts: &[Dart], value: Value) -> Result<Vec<Place>, 
     Ok(places)
 }
 
+/// An edit told by changes alone.
+fn plain(alloc: Global, edit: &Edit) -> Result<PlainEdit, AllocError>
+    ensures { IfOk result (λ plain. plain ≡ edit.now) }
+{
+    Ok(PlainEdit {
+        births: edit.births,
+        deaths: Vec::from_slice(alloc, &edit.deaths)?,
+        changes: edit.all_changes(alloc)?,
+    })
+}
+
 /// The edit that makes a triangle, and the links that it makes.
-fn triangle(rt: &impl Abort, alloc: Global) -> Result<(Edit, Links<Alpha, 2>), AllocError>
+fn triangle(rt: &impl Abort, alloc: Global) -> Result<(PlainEdit, Links<Alpha, 2>), AllocError>
     ensures fits { IfOk result (λ made. Fits alpha 2 (None ∷ []) made.0) }
     ensures few { IfOk result (λ made. made.0.births ≤ 6) }
     ensures rows { IfOk result (λ made. made.1.rows ≡ after_edit 2 made.0 (None ∷ [])) }
@@ -359,7 +370,7 @@ fn triangle(rt: &impl Abort, alloc: Global) -> Result<(Edit, Links<Alpha, 2>), A
     assert!(rt; links.reserve(6).is_ok());
     let edit = polygon_edit(alloc, &links, 3)?;
     links.apply(&edit);
-    Ok((edit, links))
+    Ok((plain(alloc, &edit)?, links))
 }
 
 /// Compares what loading answers, and the value of a vertex of the triangle that was loaded.

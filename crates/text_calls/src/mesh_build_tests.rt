@@ -3,7 +3,7 @@ ghost use Rattle.std.specs.Prelude.{IfOk};
 ghost use Rattle.map_defs.specs.Off.{HasFaces};
 ghost use Rattle.off_text.specs.Meanings.{mesh_view};
 
-use link_rows::Edit;
+use link_rows::PlainEdit;
 use map_kind::{Alpha, Beta, Dart, Kind, Value};
 use mesh_build::{MeshFault, mesh_map, mesh_rows};
 use off_text::{Mesh, read_off};
@@ -69,7 +69,7 @@ const CORNERS: [(u32, i64); 8] = [
 ];
 
 /// The edit of a mesh alone.
-fn edit_of_mesh<K: Kind>(alloc: Global, mesh: &Mesh) -> Result<Edit, Fail>
+fn edit_of_mesh<K: Kind>(alloc: Global, mesh: &Mesh) -> Result<PlainEdit, Fail>
     requires { HasFaces (mesh_view mesh.now) }
 {
     match mesh_rows::<K, 2>(alloc, mesh) {
@@ -78,9 +78,9 @@ fn edit_of_mesh<K: Kind>(alloc: Global, mesh: &Mesh) -> Result<Edit, Fail>
     }
 }
 
-fn leads(edit: &Edit, dart: u32, link: usize, new: u32) -> bool {
+fn leads(edit: &PlainEdit, dart: u32, link: usize, new: u32) -> bool {
     edit.changes.iter().any(|change| {
-        change.link == link && change.dart.number() == dart && change.new == new
+        change.link() == link && change.dart.number() == dart && change.new == new
     })
 }
 

@@ -1,7 +1,9 @@
 //! What no clause says: that lines are read where memory is there, and that the grammar, the replies and the logs are as
 //! meant.
+ghost use Rattle.std.specs.Prelude.{◌<◌};
+
 use attr_rules::{Merge, Split, TableRule};
-use link_rows::{Change as LinkChange, Edit};
+use link_rows::{Change as LinkChange, LINKS_MAX, PlainEdit};
 use map_kind::{Dart, Done, Refusal, Refused, Value};
 use script_text::{Change, Line, Question, Reply, log_text, read_line, reply_text};
 use std::alloc::{AllocError, Global};
@@ -201,20 +203,17 @@ fn replies(rt: HostRuntime) -> Result<(), Fail> {
     Ok(())
 }
 
-fn link_change(dart: u32, link: usize, old: u32, new: u32) -> Result<LinkChange, Fail> {
+fn link_change(dart: u32, link: usize, old: u32, new: u32) -> Result<LinkChange, Fail>
+    requires { link < LINKS_MAX }
+{
     let dart = Dart::new(dart).ok_or("no dart")?;
-    Ok(LinkChange {
-        dart,
-        link,
-        old,
-        new,
-    })
+    Ok(LinkChange::new(dart, link, old, new))
 }
 
 fn empty_step(alloc: Global) -> Step {
     Step {
         first: 0,
-        edit: Edit {
+        edit: PlainEdit {
             births: 0,
             deaths: Vec::new(alloc),
             changes: Vec::new(alloc),
@@ -229,7 +228,7 @@ fn log_of_a_vertex(rt: HostRuntime) -> Result<(), Fail> {
     let alloc = rt.alloc();
     let step = Step {
         first: 7,
-        edit: Edit {
+        edit: PlainEdit {
             births: 2,
             deaths: Vec::new(alloc),
             changes: vec![in alloc;

@@ -1,4 +1,4 @@
-use link_rows::Edit;
+use link_rows::PlainEdit;
 use map_kind::{Refusal, Refused};
 use std::alloc::{AllocError, Global};
 use std::test::Fail;
@@ -8,7 +8,7 @@ fn note(alloc: Global, journal: &mut Journal, first: u32) -> Result<(), AllocErr
     journal.reserve()?;
     journal.note(Step {
         first,
-        edit: Edit {
+        edit: PlainEdit {
             births: 0,
             deaths: Vec::new(alloc),
             changes: Vec::new(alloc),

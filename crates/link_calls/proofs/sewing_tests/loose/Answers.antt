@@ -5,8 +5,8 @@ use Rattle.edit_laws.proofs.EditPlain.{births-fit}
 use Rattle.link_calls.proofs.BornDarts.{none-sound, born-laws}
 use Rattle.link_calls.proofs.sewing_tests.loose.Goals as goal
 
-pub apply-requires : goal.apply-requires
-apply-requires g c =
+pub apply_plain-requires : goal.apply_plain-requires
+apply_plain-requires g c =
     let rows : c.reserve.new.self.rows ≡ None ∷ [] = c.reserve.ensures.rows ∙ c.new-links.ensures.rows in
     let full = rw c.new-links.ensures.rows at c.in-Ok.ensures.full in
     let few : 0 + c.args.darts ≤ made_max = elim (cases_lt made_max (0 + c.args.darts)) [ inl above ↦ absurd (let e = full.1 above in cc) | inr low ↦ low ] in
@@ -15,4 +15,4 @@ apply-requires g c =
 pub returns : goal.returns
 returns g c =
     let rows : c.reserve.new.self.rows ≡ None ∷ [] = c.reserve.ensures.rows ∙ c.new-links.ensures.rows in
-    rw (c.apply.ensures.rows, c.new.ensures.items, c.new-in-Ok.ensures.items, rows) (born-laws g.K.Kind.kind g.row.DIM c.args.darts)
+    rw (c.apply_plain.ensures.rows, c.new.ensures.items, c.new-in-Ok.ensures.items, rows) (born-laws g.K.Kind.kind g.row.DIM c.args.darts)
