@@ -5,7 +5,6 @@ use Rattle.std.proofs.lemmas.Bool.{cases_lt}
 use Rattle.std.proofs.lemmas.List.Elements.{All-contains, Contains-get_or}
 use Rattle.std.specs.List.Sorted.{IsStrictlyIncreasing}
 use Rattle.map_defs.specs.Kind.{Kind}
-use Rattle.map_defs.specs.Links.{Links}
 use Rattle.map_defs.specs.Laws.{Laws}
 use Rattle.map_defs.specs.Rows.{Rows, links_of, made, IsLive, IsSound}
 use Rattle.map_defs.specs.Births.{IsNumbered, IsFresh}
@@ -31,12 +30,6 @@ use Rattle.cell_edit.proofs.PairEntries.{IsPairEntry, pair_changes, pairs-write}
 pub ready-of : (k : Kind) (rows : Rows) (i : ℕ) (stars : Stars) (pairs : List Triple) → stars.made ≡ made rows → All (λ (d : ℕ). IsLive rows d) stars.keys
     → IsInsertable k i (Contains stars.keys) (Lists pairs) (links_of rows) → AreReady k rows i stars
 ready-of k rows i stars pairs is live can = record { made = is; live = live; carried = can.carried; nothing = star-nothing stars can.dart }
-
--- the links of the pairs are links of the map, so they take 8 bits at most
-pub pairs-narrow : (k : Kind) (n : ℕ) → n ≤ 8 → (i : ℕ) → i < n → (K : ℕ → Type 0) (pairs : List Triple) (L : Links) → IsInsertable k i K (Lists pairs) L → All (λ (p : Triple). p.t < 256) pairs
-pairs-narrow k n high i low K pairs L can z d h =
-    let p : Triple = get_or pairs z d in
-    let within : p.t ≤ n = below-within k i p.t n (can.begins p.x p.y p.t (Contains-get_or pairs z d h)).1 low in omega (arith, within)
 
 module _ (k : Kind) (n : ℕ) (rows : Rows) (begun : 0 < length rows) (sound : IsSound k n rows) (w : Laws k (links_of rows)) (i : ℕ) (low : i < n) (stars : Stars)
     (ready : AreReady k rows i stars) (ascending : IsStrictlyIncreasing stars.keys) (pairs : List Triple) (up : IsAscending pairs)

@@ -11,7 +11,7 @@ ghost use Rattle.cell_edit.specs.Writing.{WritesEntries, Appends, IsCopy, IsDist
 
 use crate::room::room_for_insertion;
 use crate::stars::Stars;
-use link_rows::{BornRows, Change, Edit, LINKS_MAX, Links, Row};
+use link_rows::{BornRows, Change, Edit, Links, Row};
 use map_kind::{Dart, Kind};
 use sewing::Triple;
 use std::alloc::{AllocError, Global};
@@ -155,7 +155,6 @@ fn push_distant<K: Kind, const DIM: usize>(
 /// Appends the change by which a link of a new dart becomes the new dart of the dart of a number; none where that is 0.
 /// There is room for it.
 fn push_copy(stars: &Stars, new: Dart, at: usize, number: u32, changes: &mut Vec<Change>)
-    requires link { at < LINKS_MAX }
     requires key { number ≢ 0 → Contains stars.now.keys number }
     requires nothing { star_of stars.now 0 ≡ 0 }
     requires room { vec_len changes.old < vec_capacity changes.old }
@@ -175,7 +174,6 @@ fn push_copy(stars: &Stars, new: Dart, at: usize, number: u32, changes: &mut Vec
 fn push_pairs(stars: &Stars, pairs: &[Triple], changes: &mut Vec<Change>)
     requires ascending { IsAscending pairs.now }
     requires among { ArePairsOf stars.now.keys pairs.now }
-    requires links { All (λ pair. pair.t < LINKS_MAX) pairs.now }
     requires room { vec_len changes.old + length pairs.now ≤ vec_capacity changes.old }
     ensures { changes.new.items ≡ changes.old.items
         ++ map (λ pair. record { dart = star_of stars.now pair.x; link = pair.t; old = 0; new = star_of stars.now pair.y }) pairs.now }
@@ -189,7 +187,6 @@ fn push_pairs(stars: &Stars, pairs: &[Triple], changes: &mut Vec<Change>)
 
 /// The change by which a link of a new dart becomes a dart.
 fn joining(dart: Dart, link: usize, other: Dart) -> Change
-    requires { link < LINKS_MAX }
     ensures { result ≡ record { dart = dart; link = link; old = 0; new = other } }
 {
     Change::new(dart, link, 0, other.number())

@@ -20,13 +20,6 @@ birth_edit first ys = record { births = length ys; deaths = []; changes = birth_
 abbrev pub IsFlat : ℕ → List ℕ → Type 0
 IsFlat n row = row ≡ row_of n (slice_index row 0) (slice_index row 1)
 
-pub birth_changes-append : (d : ℕ) (xs ys : List (List ℕ)) → birth_changes d (xs ++ ys) ≡ birth_changes d xs ++ birth_changes (d + length xs) ys
-birth_changes-append d [] ys = ap (λ (m : ℕ). birth_changes m ys) (omega arith)
-birth_changes-append d (x ∷ xs) ys =
-    let e : d + 1 + length xs ≡ d + length (x ∷ xs) = omega arith in
-    ap (λ (cs : List Change). record { dart = d; link = 0; old = 0; new = slice_index x 0 } ∷ record { dart = d; link = 1; old = 0; new = slice_index x 1 } ∷ cs)
-    (birth_changes-append (d + 1) xs ys ∙ ap (λ (m : ℕ). birth_changes (d + 1) xs ++ birth_changes m ys) e)
-
 free-flat : (n : ℕ) → 1 ≤ n → free_row n ≡ row_of n 0 0
 free-flat n h = let e : n + 1 ≡ suc (suc (n - 1)) = omega arith in rw e refl
 

@@ -9,23 +9,12 @@ use Rattle.map_defs.specs.Rows.{Rows, IsSound, links_of, made, made_max}
 use Rattle.map_defs.specs.Edits.{Edit, after_edit, Fits}
 use Rattle.map_defs.specs.Polygon.{per_side, polygon_rows, side_rows, row_of}
 use Rattle.edit_laws.specs.BirthChanges.{birth_changes}
-use Rattle.edit_laws.proofs.PolygonSides.{flat_map-range_more}
 use Rattle.edit_laws.proofs.PolygonRing.{ring, sides-length, polygon-ring}
 use Rattle.edit_laws.proofs.PolygonSound.{ring-sound, ring-lawful}
-use Rattle.edit_laws.proofs.BirthLinks.{birth_edit, IsFlat, birth_changes-append, births-after, births-fit-rows}
-
--- one more side
-pub changes-more : (k : Kind) (first sides m : ℕ)
-    → birth_changes first (flat_map (side_rows k 1 first sides) (range_with_len 0 (m + 1)))
-    ≡ birth_changes first (flat_map (side_rows k 1 first sides) (range_with_len 0 m)) ++ birth_changes (first + per_side k * m) (side_rows k 1 first sides m)
-changes-more k first sides m =
-    let before : List (List ℕ) = flat_map (side_rows k 1 first sides) (range_with_len 0 m) in
-    ap (birth_changes first) (flat_map-range_more (side_rows k 1 first sides) m)
-    ∙ birth_changes-append first before (side_rows k 1 first sides m)
-    ∙ ap (λ (long : ℕ). birth_changes first before ++ birth_changes (first + long) (side_rows k 1 first sides m)) (sides-length k 1 first sides m)
+use Rattle.edit_laws.proofs.BirthLinks.{birth_edit, IsFlat, births-after, births-fit-rows}
 
 -- the changes are the same in every dimension
-changes-same : (k : Kind) (n d first sides : ℕ) (xs : List ℕ)
+pub changes-same : (k : Kind) (n d first sides : ℕ) (xs : List ℕ)
     → birth_changes d (flat_map (side_rows k 1 first sides) xs) ≡ birth_changes d (flat_map (side_rows k n first sides) xs)
 changes-same k n d first sides [] = refl
 changes-same alpha n d first sides (x ∷ xs) = rw (changes-same alpha n (d + 1 + 1) first sides xs) refl

@@ -1,7 +1,7 @@
 ghost use Rattle.std.specs.Prelude.{ℕ, ◌≡◌, ◌+◌, ◌*◌, ◌≤◌, ◌<◌, [], IfOk, vec_len, vec_capacity};
 ghost use Rattle.cell_edit.specs.Writing.{IsLinkEntry, Appends};
 
-use link_rows::{Change, LINKS_MAX};
+use link_rows::Change;
 use map_kind::Dart;
 use std::alloc::{AllocError, Global};
 
@@ -21,7 +21,6 @@ pub(crate) fn room_for_edges(
 
 /// Appends the change by which a link of a dart that is free becomes another dart. There is room for it.
 pub(crate) fn push_joined(dart: Dart, link: usize, other: Dart, changes: &mut Vec<Change>)
-    requires link { link < LINKS_MAX }
     requires room { vec_len changes.old < vec_capacity changes.old }
     ensures capacity { vec_capacity changes.new ≡ vec_capacity changes.old }
     ensures few { vec_len changes.new ≤ vec_len changes.old + 1 }

@@ -6,7 +6,7 @@ use cell_walk::{
     reaches, same,
 };
 use flat_lists::Lists;
-use link_rows::{Change, LINKS_MAX, Links, PlainEdit, polygon_edit};
+use link_rows::{Change, Links, PlainEdit, polygon_edit};
 use map_kind::{Alpha, Beta, Dart, Kind, LinkWord};
 use std::alloc::{AllocError, Global};
 use std::process::Abort;
@@ -295,7 +295,6 @@ fn names_and_counts_the_cells_of_a_map(rt: HostRuntime) {
 }
 
 fn change(dart: Dart, link: usize, new: u32) -> Change
-    requires { link < LINKS_MAX }
     ensures { result ≡ record { dart = dart; link = link; old = 0; new = new } }
 {
     Change::new(dart, link, 0, new)

@@ -17,7 +17,7 @@ row-within p count width h =
     omega (arith, suc-mul p width)
 
 -- there are not too many numbers to count their bytes
-pub numbers-few : (first count width : ℕ) → first + count ≤ 2 ^ 32 → width ≤ 256 → count * width ≤ 2 ^ 40
+pub numbers-few : (first count width : ℕ) → first + count ≤ 2 ^ 32 → width ≤ 9 → count * width ≤ 9 * 2 ^ 32
 numbers-few first count width few narrow =
     let rows : count ≤ 2 ^ 32 = omega arith in
     mul-le-mul rows narrow
@@ -253,6 +253,10 @@ rows-told d (row ∷ rows) c h = elim (Contains-append_cases (row_changes d 0 ro
         some = is.some;
       }
 ]
+
+-- where the rows tell of a dart, there is a row, and the first one is of that dart or one before it
+pub rows-begun : (d : ℕ) (rows : List (List ℕ)) (c : Change) → Contains (rows_changes d rows) c → (0 < length rows) × (d ≤ c.dart)
+rows-begun d rows c h = let told = rows-told d rows c h in (omega (arith, told.within), omega (arith, told.dart))
 
 pub rows-tell : (d : ℕ) (rows : List (List ℕ)) (p : ℕ) (c : Change) → c.dart ≡ d + p → c.old ≡ zero → c.new ≡ get_or (get_or rows p []) c.link zero → c.new ≢ zero
     → Contains (rows_changes d rows) c

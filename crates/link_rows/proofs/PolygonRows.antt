@@ -4,13 +4,13 @@ use Rattle.std.specs.Prelude.{All, slice_index}
 use Rattle.std.specs.List.{flat_map, range_with_len}
 use Rattle.std.proofs.lemmas.List.{get_or_default}
 use Rattle.std.proofs.lemmas.List.Elements.{All-head, All-tail}
-use Rattle.map_defs.specs.Kind.{Kind, alpha, beta}
+use Rattle.map_defs.specs.Kind.{Kind}
 use Rattle.map_defs.specs.Edits.{Change, Edit}
 use Rattle.map_defs.specs.Polygon.{per_side, polygon_rows, row_of, side_rows}
 use Rattle.dart_arena.specs.RowChanges.{row_changes}
 use Rattle.edit_laws.specs.BirthChanges.{birth_changes}
 use Rattle.edit_laws.proofs.PolygonRing.{ring, polygon-ring}
-use Rattle.edit_laws.proofs.PolygonEdit.{sides_edit}
+use Rattle.edit_laws.proofs.PolygonEdit.{changes-same, sides_edit}
 use Rattle.link_rows.specs.BornRows.{NewRows, rows_changes, led_back}
 use Rattle.link_rows.proofs.BornChanges.{row-none, row-some, led-none}
 
@@ -50,13 +50,6 @@ polygon-pairs k n first sides some p z h =
     get_or_default (polygon_rows k n first sides) p z [] h ∙ are.at p (omega (arith, are.long)) in
     subst (IsPair n) (sym is) (record { zeroth = λ none. omega arith; first = λ none. omega arith; is = refl })
 
--- the changes are the same in every dimension
-changes-same : (k : Kind) (n d first sides : ℕ) (xs : List ℕ)
-    → birth_changes d (flat_map (side_rows k n first sides) xs) ≡ birth_changes d (flat_map (side_rows k 1 first sides) xs)
-changes-same k n d first sides [] = refl
-changes-same alpha n d first sides (x ∷ xs) = rw (changes-same alpha n (d + 1 + 1) first sides xs) refl
-changes-same beta n d first sides (x ∷ xs) = rw (changes-same beta n (d + 1) first sides xs) refl
-
 -- the edit whose rows are those of a polygon, once they are all there
 module _ (k : Kind) (n first sides side births : ℕ) (deaths : List ℕ) (changes : List Change) (born : NewRows) where
   pub polygon-told : births ≡ per_side k * sides → deaths ≡ [] → changes ≡ []
@@ -66,7 +59,7 @@ module _ (k : Kind) (n first sides side births : ℕ) (deaths : List ℕ) (chang
       let rows : born.rows ≡ polygon_rows k n first sides =
       ap (λ (b : NewRows). b.rows) pushed ∙ ap (λ (m : ℕ). flat_map (side_rows k n first sides) (range_with_len 0 m)) last in
       let told : rows_changes first (polygon_rows k n first sides) ≡ (sides_edit k first sides).changes =
-      pairs-told first n (polygon_rows k n first sides) (polygon-pairs k n first sides some) ∙ changes-same k n first first sides (range_with_len 0 sides) in
+      pairs-told first n (polygon_rows k n first sides) (polygon-pairs k n first sides some) ∙ sym (changes-same k n first first sides (range_with_len 0 sides)) in
       let led : led_back born.back born.first born.rows ≡ [] =
       ap (λ (b : NewRows). led_back b.back born.first born.rows) pushed ∙ led-none born.first born.rows in
       let all : changes ++ (led_back born.back born.first born.rows ++ rows_changes born.first born.rows) ≡ (sides_edit k first sides).changes =

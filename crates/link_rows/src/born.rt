@@ -1,16 +1,19 @@
 //! The links of new darts, told by rows.
-ghost use Rattle.std.specs.Prelude.{◌≡◌, ◌≢◌, ℕ, ◌+◌, ◌≤◌, ◌<◌, ◌^◌, ◌++◌, ◌∷◌, [], length, replicate, slice_index, slice_index_or, slice_set, Some, None, Contains, IsTrue, IfOk, IfSome, IsNone, OnOk};
+ghost use Rattle.std.specs.Prelude.{◌≡◌, ◌≢◌, ℕ, ◌+◌, ◌≤◌, ◌<◌, ◌^◌, ◌↔◌, ◌++◌, ◌∷◌, [], length, replicate, slice_index, slice_index_or, slice_set, Some, None, Contains, IsTrue, IfOk, IfSome, IsNone, OnOk};
 ghost use Rattle.std.specs.Prelude.{All};
 ghost use Rattle.map_defs.specs.Edits.{Change as LinkChange, linked, unlinked};
 ghost use Rattle.dart_arena.specs.RowChanges.{row_changes};
 ghost use Rattle.dart_arena.specs.Stock.{IsLive};
 ghost use Rattle.link_rows.specs.BornRows.{rows_changes, led_back};
 
-use crate::edit::{Change, LINKS_MAX};
+use crate::edit::Change;
 use dart_arena::{Arena, Row};
 use map_kind::Dart;
 use std::alloc::{AllocError, Global};
 use std::marker::Model;
+
+/// The width of the widest row, one of the links 0 to 8.
+pub const WIDTH_MAX: usize = 9;
 
 /// The links of new darts, which are numbered on from a first one: a row for each, with a number for each link, 0 where it
 /// is free. All rows are of one width. The rows can tell also that the darts which they name at one link, where it was free,
@@ -35,14 +38,15 @@ impl Model for BornRows {
     ghost view = { λ born. record { first = born.first; width = born.width; rows = rows_of born.width born.count born.numbers.items; back = born.back } };
 
     ghost invariant = { λ born.
-        (length born.numbers.items ≡ born.count * born.width) × (born.first + born.count ≤ 2 ^ 32) × (born.width ≤ 256)
+        (length born.numbers.items ≡ born.count * born.width) × (born.first + born.count ≤ 2 ^ 32) × (born.width ≤ 9)
         × IfSome born.back (λ link. link < born.width) };
 }
 
 impl BornRows {
     /// No rows. It takes no memory.
     pub fn none(alloc: Global) -> Self
-        ensures { result.rows ≡ [] }
+        ensures rows { result.rows ≡ [] }
+        ensures back { result.back ≡ None }
     {
         BornRows {
             first: Dart::new(1).unwrap(),
@@ -60,7 +64,7 @@ impl BornRows {
         width: usize,
         rows: usize,
     ) -> Result<Self, AllocError>
-        requires { width ≤ LINKS_MAX }
+        requires { width ≤ WIDTH_MAX }
         ensures { IfOk result (λ born. born ≡ record { first = first; width = width; rows = []; back = None }) }
     {
         Ok(BornRows {
@@ -74,7 +78,7 @@ impl BornRows {
 
     /// So many rows of darts that are numbered on from the first, each so wide, with all links free.
     pub fn zeros(alloc: Global, first: Dart, width: usize, rows: usize) -> Result<Self, AllocError>
-        requires wide { width ≤ LINKS_MAX }
+        requires wide { width ≤ WIDTH_MAX }
         requires few { first + rows ≤ 2 ^ 32 }
         ensures { IfOk result (λ born. born ≡ record { first = first; width = width; rows = replicate rows (replicate width 0); back = None }) }
     {
@@ -147,9 +151,9 @@ impl BornRows {
         self.back
     }
 
-    /// Whether a row may be that of a dart up to a number.
+    /// Whether there is a row, and the first one is that of a dart up to a number.
     pub fn begin_by(&self, number: u32) -> bool
-        ensures { (c : LinkChange) → Contains (rows_changes self.now.first self.now.rows) c → c.dart ≤ number → IsTrue result }
+        ensures { IsTrue result ↔ ((0 < length self.now.rows) × (self.now.first ≤ number)) }
     {
         self.count != 0 && self.first.number() <= number
     }
@@ -347,8 +351,7 @@ impl BornRows {
     fn number_at(&self, place: usize, link: usize) -> u32
         requires place { place < length self.now.rows }
         requires link { link < self.now.width }
-        ensures number { result ≡ slice_index (slice_index_or self.now.rows place []) link }
-        ensures narrow { self.now.width ≤ LINKS_MAX }
+        ensures { result ≡ slice_index (slice_index_or self.now.rows place []) link }
     {
         self.numbers[place * self.width + link]
     }
@@ -366,7 +369,6 @@ impl BornRows {
         requires { place < length self.now.rows }
         ensures row { result.now ≡ slice_index_or self.now.rows place [] }
         ensures wide { length result.now ≡ self.now.width }
-        ensures narrow { self.now.width ≤ LINKS_MAX }
     {
         let start = place * self.width;
         &self.numbers[start..start + self.width]
@@ -375,7 +377,6 @@ impl BornRows {
 
 /// Appends the changes that give a new dart these links, which count from 0.
 fn append_row(dart: Dart, links: &[u32], changes: &mut Vec<Change>) -> Result<(), AllocError>
-    requires { length links.now ≤ LINKS_MAX }
     ensures { OnOk result (changes.new.items ≡ changes.old.items ++ row_changes dart 0 links.now) }
 {
     for link in 0..links.len() {

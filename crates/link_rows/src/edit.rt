@@ -6,15 +6,11 @@ use map_kind::Dart;
 use std::alloc::{AllocError, Global};
 use std::marker::Model;
 
-/// How many links a change can tell apart: those of all dimensions, and more.
-pub const LINKS_MAX: usize = 256;
-
 /// A change of one link of one dart. `old` and `new` are the dart at the link before and after, 0 where it is free.
 #[derive(Clone, Copy, Debug, PartialEq, Eq)]
 pub struct Change {
     pub dart: Dart,
-    // In 8 bits, so that a change takes 16 bytes.
-    link: u8,
+    pub link: usize,
     pub old: u32,
     pub new: u32,
 }
@@ -32,22 +28,14 @@ impl Model for Change {
 impl Change {
     /// The change of a link of a dart from one number to another.
     pub fn new(dart: Dart, link: usize, old: u32, new: u32) -> Change
-        requires { link < LINKS_MAX }
         ensures { result ≡ record { dart = dart; link = link; old = old; new = new } }
     {
         Change {
             dart,
-            link: link as u8,
+            link,
             old,
             new,
         }
-    }
-
-    /// The link that changes.
-    pub fn link(self) -> usize
-        ensures { result ≡ self.link }
-    {
-        self.link as usize
     }
 }
 
@@ -104,7 +92,7 @@ fn change_among(changes: &[Change], dart: Dart, link: usize) -> Option<Change>
     ensures none { IsNone result → (c : edits.Change) → Contains changes.now c → c.dart ≡ dart → c.link ≡ link → ⊥ }
 {
     for change in changes {
-        if change.dart == dart && change.link() == link {
+        if change.dart == dart && change.link == link {
             return Some(*change);
         }
     }

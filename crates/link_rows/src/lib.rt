@@ -9,9 +9,9 @@ mod links;
 mod polygon;
 mod steps;
 
-pub use born::BornRows;
+pub use born::{BornRows, WIDTH_MAX};
 pub use builder::LinkBuilder;
 pub use dart_arena::{MADE_MAX, ReserveFault, Row};
-pub use edit::{Change, Edit, LINKS_MAX, PlainEdit};
+pub use edit::{Change, Edit, PlainEdit};
 pub use links::Links;
 pub use polygon::{SIDES_MAX, next_side, polygon_edit, previous_side};

@@ -70,7 +70,7 @@ pub fn link<const DIM: usize>(rows: &mut Arena<DIM>, changes: &[Change])
     ensures room { rows.new.room ≡ rows.old.room }
 {
     for change in changes {
-        rows.set_live_entry(change.dart, change.link(), change.new);
+        rows.set_live_entry(change.dart, change.link, change.new);
     }
 }
 
@@ -83,6 +83,6 @@ pub fn unlink<const DIM: usize>(rows: &mut Arena<DIM>, changes: &[Change])
 {
     for index in (0..changes.len()).rev() {
         let change = &changes[index];
-        rows.set_entry(change.dart, change.link(), change.old);
+        rows.set_entry(change.dart, change.link, change.old);
     }
 }

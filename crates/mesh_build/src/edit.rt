@@ -7,7 +7,7 @@ ghost use Rattle.mesh_laws.specs.SideLinks.{entry_change, entry_changes, start_a
 ghost use Rattle.mesh_build.specs.EntriesView.{entries_view};
 
 use crate::sew::Sewn;
-use link_rows::{Change, LINKS_MAX, MADE_MAX, PlainEdit};
+use link_rows::{Change, MADE_MAX, PlainEdit};
 use map_kind::Dart;
 use std::alloc::{AllocError, Global};
 
@@ -64,7 +64,6 @@ fn push_change(
     link: usize,
     new: u32,
 ) -> Result<(), AllocError>
-    requires { link < LINKS_MAX }
     ensures { OnOk result (changes.new.items ≡ changes.old.items ++ entry_change dart link new) }
 {
     if new == 0 {

@@ -93,11 +93,17 @@ fn append_dead(text: &mut Vec<u8>, darts: &[Dart]) -> Result<(), AllocError>
 fn append_link_change(text: &mut Vec<u8>, change: Change) -> Result<(), AllocError>
     ensures { Appends text.old.items text.new.items (link_change_text change) result }
 {
+    let Change {
+        dart,
+        link,
+        old,
+        new,
+    } = change;
     text.extend_from_slice(b"link")?;
-    append_spaced(text, change.dart.number())?;
-    append_spaced(text, change.link())?;
-    append_spaced(text, change.old)?;
-    append_spaced(text, change.new)?;
+    append_spaced(text, dart.number())?;
+    append_spaced(text, link)?;
+    append_spaced(text, old)?;
+    append_spaced(text, new)?;
     text.push(b'\n')?;
     Ok(())
 }

@@ -1,8 +1,7 @@
 -- The edits of a sewing and of an unsewing: they fit, do what they are named for, and keep the laws.
-use Rattle.std.proofs.Common.{◌≡◌, ◌≢◌, ℕ, ◌≤◌, ◌<◌, ◌↔◌, List, get_or, All, sym, ap, ◌∙◌, inl, inr, arith}
+use Rattle.std.proofs.Common.{◌≡◌, ◌≢◌, ℕ, ◌≤◌, ◌↔◌, List, sym, ap, ◌∙◌, inl, inr}
 use Rattle.std.specs.Prelude.{is_some}
 use Rattle.std.proofs.lemmas.Bool.{false≢true}
-use Rattle.std.proofs.lemmas.List.Elements.{Contains-get_or}
 use Rattle.map_defs.specs.Kind.{Kind, IsDistant}
 use Rattle.map_defs.specs.Links.{Links}
 use Rattle.map_defs.specs.Laws.{Laws}
@@ -36,13 +35,6 @@ sewn_either k L i d e =
       turned = λ x y t p. either_inverse k i t p;
       across = λ x y t j far p hx hy. either_inverse k i t p;
     })
-
--- and so they take 8 bits at most
-pub sewn-narrow : (k : Kind) (n : ℕ) (L : Links) (i d e : ℕ) → 2 ≤ n → n ≤ 8 → i ≤ n → (pairs : List Triple) → ((x y t : ℕ) → Lists pairs x y t ↔ SewnPairs k L i d e x y t)
-    → All (λ p. p.t < 256) pairs
-sewn-narrow k n L i d e dim high low pairs same = λ z o h.
-    let p : Triple = get_or pairs z o in
-    omega (arith, high, either_within k n i p.t dim low (sewn_either k L i d e p.x p.y p.t ((same p.x p.y p.t).0 (Contains-get_or pairs z o h))))
 
 module _ (k : Kind) (n : ℕ) (rows : Rows) (sound : IsSound k n rows) (dim : 2 ≤ n) (w : Laws k (links_of rows)) (i : ℕ) (low : i ≤ n) where
   module _ (d e : ℕ) (live_d : IsLive rows d) (live_e : IsLive rows e) (can : IsSewable k (links_of rows) i d e) (pairs : List Triple) (apart : AreApart pairs)

@@ -1,4 +1,4 @@
-ghost use Rattle.std.specs.Prelude.{◌≡◌, ◌≢◌, ℕ, ◌+◌, ◌≤◌, ◌<◌, ◌↔◌, ◌⊎◌, [], All, Contains, IsTrue, IfOk, IfErr, OnOk, IsErrOf, map, take, length};
+ghost use Rattle.std.specs.Prelude.{◌≡◌, ◌≢◌, ℕ, ◌+◌, ◌≤◌, ◌<◌, ◌↔◌, ◌⊎◌, [], Contains, IsTrue, IfOk, IfErr, OnOk, IsErrOf, map, take, length};
 ghost use Rattle.map_defs.specs.Kind.{inverse, IsDistant};
 ghost use Rattle.map_defs.specs.Rows.{links_of, IsLive, IsSound};
 ghost use Rattle.map_defs.specs.Laws.{Laws};
@@ -12,7 +12,7 @@ ghost use Rattle.sewing.specs.PairSteps.{AreApart};
 use crate::pairing::{PairFault, grown};
 use crate::pairs::Pairs;
 use crate::triple::Triple;
-use link_rows::{BornRows, Change, Edit, LINKS_MAX, Links};
+use link_rows::{BornRows, Change, Edit, Links};
 use map_kind::{Dart, Kind, Refusal, Refused};
 use std::alloc::{AllocError, Global};
 
@@ -162,7 +162,6 @@ fn sewn_pairs<K: Kind, const DIM: usize>(
     ensures members { IfOk result (λ pairs. (x y t : ℕ) → Lists (triples_of pairs) x y t
         ↔ SewnPairs K.kind (links_of links.now.rows) link one other x y t) }
     ensures apart { IfOk result (λ pairs. AreApart (triples_of pairs)) }
-    ensures narrow { IfOk result (λ pairs. All (λ pair. pair.t < LINKS_MAX) (triples_of pairs)) }
     ensures good { OnOk result (IsGood K.kind (links_of links.now.rows) (IsDistant K.kind link)
         (SewnPairs K.kind (links_of links.now.rows) link one other)) }
     ensures unpaired { IsErrOf result PairFault.Unpaired → IsGood K.kind (links_of links.now.rows) (IsDistant K.kind link)
@@ -200,7 +199,6 @@ fn distant_links<K: Kind>(dim: usize, link: usize) -> ([usize; 9], usize)
 
 /// The changes by which pairs are joined that are free.
 fn joining(alloc: Global, pairs: &[Triple]) -> Result<Vec<Change>, AllocError>
-    requires { All (λ pair. pair.t < LINKS_MAX) pairs.now }
     ensures { IfOk result (λ changes. changes.items
         ≡ map (λ pair. record { dart = pair.x; link = pair.t; old = 0; new = pair.y }) pairs.now) }
 {
@@ -213,7 +211,6 @@ fn joining(alloc: Global, pairs: &[Triple]) -> Result<Vec<Change>, AllocError>
 
 /// The changes by which pairs are parted that are joined.
 fn parting(alloc: Global, pairs: &[Triple]) -> Result<Vec<Change>, AllocError>
-    requires { All (λ pair. pair.t < LINKS_MAX) pairs.now }
     ensures { IfOk result (λ changes. changes.items
         ≡ map (λ pair. record { dart = pair.x; link = pair.t; old = pair.y; new = 0 }) pairs.now) }
 {

@@ -1,7 +1,7 @@
 ghost use Rattle.std.specs.Prelude.{◌≡◌, ◌<◌, ◌↔◌, IsTrue};
 ghost use Rattle.map_defs.specs.Kind.{inverse};
 
-use link_rows::{Change, LINKS_MAX};
+use link_rows::Change;
 use map_kind::{Dart, Kind};
 use std::marker::Model;
 
@@ -44,7 +44,6 @@ impl Triple {
 
     /// The change by which link `t` of `x`, which is free, becomes `y`.
     pub(crate) fn joining(self) -> Change
-        requires { self.t < LINKS_MAX }
         ensures { result ≡ record { dart = self.x; link = self.t; old = 0; new = self.y } }
     {
         Change::new(self.x, self.t, 0, self.y.number())
@@ -52,7 +51,6 @@ impl Triple {
 
     /// The change by which link `t` of `x`, which is `y`, becomes free.
     pub(crate) fn parting(self) -> Change
-        requires { self.t < LINKS_MAX }
         ensures { result ≡ record { dart = self.x; link = self.t; old = self.y; new = 0 } }
     {
         Change::new(self.x, self.t, self.y.number(), 0)

@@ -80,7 +80,7 @@ fn edit_of_mesh<K: Kind>(alloc: Global, mesh: &Mesh) -> Result<PlainEdit, Fail>
 
 fn leads(edit: &PlainEdit, dart: u32, link: usize, new: u32) -> bool {
     edit.changes.iter().any(|change| {
-        change.link() == link && change.dart.number() == dart && change.new == new
+        change.link == link && change.dart.number() == dart && change.new == new
     })
 }
 

@@ -3,7 +3,7 @@
 ghost use Rattle.std.specs.Prelude.{◌<◌};
 
 use attr_rules::{Merge, Split, TableRule};
-use link_rows::{Change as LinkChange, LINKS_MAX, PlainEdit};
+use link_rows::{Change as LinkChange, PlainEdit};
 use map_kind::{Dart, Done, Refusal, Refused, Value};
 use script_text::{Change, Line, Question, Reply, log_text, read_line, reply_text};
 use std::alloc::{AllocError, Global};
@@ -203,9 +203,7 @@ fn replies(rt: HostRuntime) -> Result<(), Fail> {
     Ok(())
 }
 
-fn link_change(dart: u32, link: usize, old: u32, new: u32) -> Result<LinkChange, Fail>
-    requires { link < LINKS_MAX }
-{
+fn link_change(dart: u32, link: usize, old: u32, new: u32) -> Result<LinkChange, Fail> {
     let dart = Dart::new(dart).ok_or("no dart")?;
     Ok(LinkChange::new(dart, link, old, new))
 }

@@ -56,7 +56,7 @@ fn add_changed<K: Kind, const DIM: usize>(
     ensures { OnOk result (AreAdded links.now.rows (λ x. (word.first ≡ change.link) × (x ≡ change.dart))
         darts.old.items darts.new.items) }
 {
-    if word.first != change.link() {
+    if word.first != change.link {
         return Ok(());
     }
     add_live(links, change.dart.number(), darts)
@@ -76,7 +76,7 @@ fn add_behind<K: Kind, const DIM: usize>(
         (λ x. (word.second ≡ Some change.link) × (links_of links.now.rows word.first x ≡ change.dart) × (change.dart ≢ 0))
         darts.old.items darts.new.items) }
 {
-    if word.second != Some(change.link()) {
+    if word.second != Some(change.link) {
         return Ok(());
     }
     let Some(before) = links.link(change.dart, K::inverse(word.first)) else {

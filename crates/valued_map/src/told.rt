@@ -114,7 +114,7 @@ fn changes_in_order(changes: Vec<Change>) -> Vec<Change>
 {
     let mut kept = changes;
     kept.retain(|change| change.old != change.new);
-    kept.sort_unstable_by_key(|change| (change.dart, change.link()));
+    kept.sort_unstable_by_key(|change| (change.dart, change.link));
     kept
 }
 

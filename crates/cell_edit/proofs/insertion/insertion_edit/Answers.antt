@@ -1,9 +1,8 @@
-use Rattle.std.proofs.Common.{◌≡◌, ◌++◌, Contains, append-nil, lit<}
-use Rattle.map_defs.specs.Rows.{links_of}
+use Rattle.std.proofs.Common.{◌≡◌, ◌++◌, append-nil, lit<}
 use Rattle.cell_edit.specs.Stars.{Stars, star_of}
 use Rattle.cell_edit.proofs.PairEntries.{pair_changes}
 use Rattle.cell_edit.proofs.Premises.{all-made}
-use Rattle.cell_edit.proofs.InsertionEdit.{ready-of, pairs-narrow, insertion-inserts}
+use Rattle.cell_edit.proofs.InsertionEdit.{ready-of, insertion-inserts}
 use Rattle.cell_edit.proofs.insertion.insertion_edit.Goals as goal
 
 pub new-stars-requires-clause-made : goal.new-stars-requires-clause-made
@@ -19,14 +18,11 @@ carried_changes-requires g c =
 pub push_pairs-requires-clause-among : goal.push_pairs-requires-clause-among
 push_pairs-requires-clause-among g c = rw c.new-stars.ensures c.requires.among
 
-pub push_pairs-requires-clause-links : goal.push_pairs-requires-clause-links
-push_pairs-requires-clause-links g c = pairs-narrow g.K.Kind.kind g.row.DIM c.see_sound.ensures.high c.args.link c.requires.link (Contains c.args.darts.items) c.args.pairs.now (links_of c.args.links.now.rows) c.requires.insertable
-
 pub returns : goal.returns
 returns g c =
     let stars : Stars = record { keys = c.args.darts.items; made = c.made.result } in
     let grown : c.push_pairs.new.changes.items ≡ c.in_ok-changes.changes.items ++ pair_changes (star_of stars) c.args.pairs.now = rw c.new-stars.ensures at c.push_pairs.ensures in
-    rw (c.births.ensures, c.new.ensures.items, c.none.ensures, append-nil c.push_pairs.new.changes.items, grown, c.new-stars.ensures)
+    rw (c.births.ensures, c.new.ensures.items, c.none.ensures.rows, append-nil c.push_pairs.new.changes.items, grown, c.new-stars.ensures)
     (insertion-inserts g.K.Kind.kind g.row.DIM c.args.links.now.rows c.made.ensures.begun c.made.ensures.sound c.requires.laws c.args.link c.requires.link stars
     (ready-of g.K.Kind.kind c.args.links.now.rows c.args.link stars c.args.pairs.now c.made.ensures.made c.requires.live c.requires.insertable)
     c.requires.darts c.args.pairs.now c.requires.pairs c.requires.insertable c.in_ok-changes.changes.items (rw c.new-stars.ensures at c.in_ok-changes.ensures.entries))

@@ -34,7 +34,6 @@ push_copy-requires g c =
     let room : vec_len c.push_reserved-2.new.self < vec_capacity c.push_reserved-2.new.self =
     omega (arith, c.push_reserved.ensures.len, c.push_reserved.ensures.capacity, c.push_distant.ensures.few, c.push_distant.ensures.capacity, c.push_reserved-2.ensures.len, c.push_reserved-2.ensures.capacity, c.requires.room, c.requires.link) in
     record {
-      link = omega (arith, c.requires.link, c.see_sound.ensures.high);
       key = key;
       nothing = c.requires.ready.nothing;
       room = room;

@@ -33,7 +33,6 @@ push_copy-requires g c =
     subst (Contains c.args.stars.now.keys) (sym read)
     (c.requires.carried (inverse g.K.Kind.kind c.loop-at.at) (IsDistant-inverse_right g.K.Kind.kind c.args.link c.loop-at.at far) (λ none. some (read ∙ none))) in
     record {
-      link = omega (arith, c.loop-at-test.true, c.requires.to, c.requires.high);
       key = key;
       nothing = c.requires.nothing;
       room = omega (arith, c.loop-at-test.true, c.loop-at.invariant.1, c.loop-at.invariant.2, c.requires.room, c.requires.from);

@@ -11,5 +11,5 @@ hung_changes-requires g c = rw (c.new-stars.ensures, c.made.ensures.made) (lit< 
 
 pub returns : goal.returns
 returns g c =
-    rw (c.births.ensures, c.new.ensures.items, c.new-stars.ensures, c.none.ensures, append-nil c.in_ok-changes.changes.items)
+    rw (c.births.ensures, c.new.ensures.items, c.new-stars.ensures, c.none.ensures.rows, append-nil c.in_ok-changes.changes.items)
     (record { deaths = refl; births = omega arith; writes = rw (c.new-stars.ensures, c.made.ensures.made) at c.in_ok-changes.ensures })

@@ -5,12 +5,12 @@ use Rattle.face_center.proofs.hanging.push_new.Goals as goal
 pub loop-at-init : goal.loop-at-init
 loop-at-init g c = (λ a done. done, refl, omega arith, omega arith, omega (arith, c.see_sound.ensures.low))
 
-pub push_link-requires-clause-room : goal.push_link-requires-clause-room
-push_link-requires-clause-room g c =
+pub push_link-requires : goal.push_link-requires
+push_link-requires g c =
     omega (arith, c.loop-at-test.true, c.loop-at.invariant.1, c.loop-at.invariant.2, c.push_low.ensures.capacity, c.push_low.ensures.few, c.requires.room)
 
-pub push_link-requires-in-loop-at-clause-room : goal.push_link-requires-in-loop-at-clause-room
-push_link-requires-in-loop-at-clause-room g c =
+pub push_link-requires-in-loop-at : goal.push_link-requires-in-loop-at
+push_link-requires-in-loop-at g c =
     omega (arith, c.loop-at-test.true, c.loop-at.invariant.1, c.loop-at.invariant.2, c.push_low.ensures.capacity, c.push_low.ensures.few, c.push_link.ensures.capacity, c.push_link.ensures.few, c.requires.room)
 
 pub loop-at-preserved : goal.loop-at-preserved

@@ -13,7 +13,7 @@ returns-in_ok-joining-in-Ok-clause-fits g c =
     let list : c.in_ok-joining-in-Ok.field-0.items ≡ changes (λ p. 0) (λ p. p.y) pairs = rw c.triples.ensures at c.in_ok-joining-in-Ok.ensures in
     let free = c.are_free.ensures.0 c.if-not-are_free.false in
     let can : IsSewable g.K.Kind.kind (links_of c.args.links.now.rows) c.args.link c.args.one c.args.other = record { near = free.0; far = free.1; good = c.in-Ok.ensures.good } in
-    rw (c.new.ensures.items, c.none.ensures, append-nil c.in_ok-joining-in-Ok.field-0.items, list)
+    rw (c.new.ensures.items, c.none.ensures.rows, append-nil c.in_ok-joining-in-Ok.field-0.items, list)
     (plan-sewn-fits g.K.Kind.kind g.row.DIM c.args.links.now.rows c.sewn_pairs.ensures.sound c.sewn_pairs.ensures.low c.requires.laws c.args.link c.requires.link c.args.one c.args.other
     c.requires.one c.requires.other can pairs c.in-Ok.ensures.apart c.in-Ok.ensures.members)
 
@@ -23,7 +23,7 @@ returns-in_ok-joining-in-Ok-clause-sewn g c =
     let list : c.in_ok-joining-in-Ok.field-0.items ≡ changes (λ p. 0) (λ p. p.y) pairs = rw c.triples.ensures at c.in_ok-joining-in-Ok.ensures in
     let free = c.are_free.ensures.0 c.if-not-are_free.false in
     let can : IsSewable g.K.Kind.kind (links_of c.args.links.now.rows) c.args.link c.args.one c.args.other = record { near = free.0; far = free.1; good = c.in-Ok.ensures.good } in
-    rw (c.new.ensures.items, c.none.ensures, append-nil c.in_ok-joining-in-Ok.field-0.items, list)
+    rw (c.new.ensures.items, c.none.ensures.rows, append-nil c.in_ok-joining-in-Ok.field-0.items, list)
     (plan-sewn g.K.Kind.kind g.row.DIM c.args.links.now.rows c.sewn_pairs.ensures.sound c.sewn_pairs.ensures.low c.requires.laws c.args.link c.requires.link c.args.one c.args.other
     c.requires.one c.requires.other can pairs c.in-Ok.ensures.apart c.in-Ok.ensures.members)
 
@@ -33,6 +33,6 @@ returns-in_ok-joining-in-Ok-clause-laws g c =
     let list : c.in_ok-joining-in-Ok.field-0.items ≡ changes (λ p. 0) (λ p. p.y) pairs = rw c.triples.ensures at c.in_ok-joining-in-Ok.ensures in
     let free = c.are_free.ensures.0 c.if-not-are_free.false in
     let can : IsSewable g.K.Kind.kind (links_of c.args.links.now.rows) c.args.link c.args.one c.args.other = record { near = free.0; far = free.1; good = c.in-Ok.ensures.good } in
-    rw (c.new.ensures.items, c.none.ensures, append-nil c.in_ok-joining-in-Ok.field-0.items, list)
+    rw (c.new.ensures.items, c.none.ensures.rows, append-nil c.in_ok-joining-in-Ok.field-0.items, list)
     (plan-sewn-laws g.K.Kind.kind g.row.DIM c.args.links.now.rows c.sewn_pairs.ensures.sound c.sewn_pairs.ensures.low c.requires.laws c.args.link c.requires.link c.args.one c.args.other
     c.requires.one c.requires.other can pairs c.in-Ok.ensures.apart c.in-Ok.ensures.members)

@@ -4,9 +4,7 @@ use Rattle.std.proofs.lemmas.Result.{IfOk-weaker, on_ok_weaker}
 use Rattle.map_defs.specs.Kind.{IsDistant}
 use Rattle.map_defs.specs.Rows.{links_of}
 use Rattle.link_laws.proofs.RowFacts.{rows_dimension}
-use Rattle.sewing.specs.PairLists.{triples_of}
 use Rattle.sewing.proofs.DistantPairs.{listed-sewn, good-sewn, sewn-good}
-use Rattle.sewing.proofs.PlanLaws.{sewn-narrow}
 use Rattle.sewing.proofs.plans.sewn_pairs.Goals as goal
 
 pub grown-requires : goal.grown-requires
@@ -26,12 +24,6 @@ returns-clause-members g c =
     let listed = members x y t in
     (λ has. sewn.0 (listed.0 has), λ p. listed.1 (sewn.1 p)))
     c.grown.ensures.members
-
-pub returns-clause-narrow : goal.returns-clause-narrow
-returns-clause-narrow g c =
-    IfOk-weaker c.grown.result _ _
-    (λ pairs. sewn-narrow g.K.Kind.kind g.row.DIM (links_of c.args.links.now.rows) c.args.link c.args.one c.args.other c.dimension.ensures.low c.dimension.ensures.high c.requires (triples_of pairs))
-    (returns-clause-members g c)
 
 pub returns-clause-good : goal.returns-clause-good
 returns-clause-good g c =

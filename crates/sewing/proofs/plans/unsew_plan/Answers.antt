@@ -19,7 +19,7 @@ returns-in_ok-parting-in-Ok-clause-fits g c =
     let pairs : List Triple = triples_of c.in-Ok.pairs in
     let list : c.in_ok-parting-in-Ok.field-0.items ≡ changes (λ p. p.y) (λ p. 0) pairs = rw c.triples.ensures at c.in_ok-parting-in-Ok.ensures in
     let linked : links_of c.args.links.now.rows c.args.link c.args.dart ≢ 0 = λ e. false≢true (sym (c.in-Some.ensures.free.1 e)) in
-    rw (c.new.ensures.items, c.none.ensures, append-nil c.in_ok-parting-in-Ok.field-0.items, list)
+    rw (c.new.ensures.items, c.none.ensures.rows, append-nil c.in_ok-parting-in-Ok.field-0.items, list)
     (plan-unsewn-fits g.K.Kind.kind g.row.DIM c.args.links.now.rows c.link.ensures.sound c.link.ensures.low c.requires.laws c.args.link c.requires.link c.args.dart linked
     pairs c.in-Ok.ensures.apart (rw c.in-Some.ensures.linked at c.in-Ok.ensures.members))
 
@@ -28,7 +28,7 @@ returns-in_ok-parting-in-Ok-clause-unsewn g c =
     let pairs : List Triple = triples_of c.in-Ok.pairs in
     let list : c.in_ok-parting-in-Ok.field-0.items ≡ changes (λ p. p.y) (λ p. 0) pairs = rw c.triples.ensures at c.in_ok-parting-in-Ok.ensures in
     let linked : links_of c.args.links.now.rows c.args.link c.args.dart ≢ 0 = λ e. false≢true (sym (c.in-Some.ensures.free.1 e)) in
-    rw (c.new.ensures.items, c.none.ensures, append-nil c.in_ok-parting-in-Ok.field-0.items, list)
+    rw (c.new.ensures.items, c.none.ensures.rows, append-nil c.in_ok-parting-in-Ok.field-0.items, list)
     (plan-unsewn g.K.Kind.kind g.row.DIM c.args.links.now.rows c.link.ensures.sound c.link.ensures.low c.requires.laws c.args.link c.requires.link c.args.dart linked
     pairs c.in-Ok.ensures.apart (rw c.in-Some.ensures.linked at c.in-Ok.ensures.members))
 
@@ -37,6 +37,6 @@ returns-in_ok-parting-in-Ok-clause-laws g c =
     let pairs : List Triple = triples_of c.in-Ok.pairs in
     let list : c.in_ok-parting-in-Ok.field-0.items ≡ changes (λ p. p.y) (λ p. 0) pairs = rw c.triples.ensures at c.in_ok-parting-in-Ok.ensures in
     let linked : links_of c.args.links.now.rows c.args.link c.args.dart ≢ 0 = λ e. false≢true (sym (c.in-Some.ensures.free.1 e)) in
-    rw (c.new.ensures.items, c.none.ensures, append-nil c.in_ok-parting-in-Ok.field-0.items, list)
+    rw (c.new.ensures.items, c.none.ensures.rows, append-nil c.in_ok-parting-in-Ok.field-0.items, list)
     (plan-unsewn-laws g.K.Kind.kind g.row.DIM c.args.links.now.rows c.link.ensures.sound c.link.ensures.low c.requires.laws c.args.link c.requires.link c.args.dart linked
     pairs c.in-Ok.ensures.apart (rw c.in-Some.ensures.linked at c.in-Ok.ensures.members))

@@ -34,7 +34,7 @@ returns-then-number_at-number-clause-some c =
     sym (ap (λ (b : NewRows). b.back) c.self.view_is) ∙ c.in-Some.is ∙ ap (λ (m : ℕ). Some m) c.if-back-link.false in
     let led : led_back c.args.self.now.back first rows ≡ back_changes i first rows = led-at c.args.self.now.back i first rows back in
     let named : get_or (get_or rows place []) i 0 ≡ c.args.dart =
-    sym c.number_at.ensures.number ∙ c.if-number_at-number.true ∙ c.number.ensures.same in
+    sym c.number_at.ensures ∙ c.if-number_at-number.true ∙ c.number.ensures.same in
     IfSome_then c.back_change.result c.back_change.ensures.some
     (λ change is.
     let dart : change.dart ≡ get_or (get_or rows place []) i 0 = ap (λ (b : Change). b.dart) is in

@@ -29,8 +29,8 @@ index-requires c =
     let wide : born.width ≡ c.args.self.now.width = ap (λ (b : NewRows). b.width) c.self.view_is in
     omega (arith, row-within c.args.place born.count born.width place, c.self.invariant.0, born.numbers.ok.0, c.requires.link)
 
-pub returns-clause-number : goal.returns-clause-number
-returns-clause-number c =
+pub returns : goal.returns
+returns c =
     let born = c.self.inside in
     let rows : rows_of born.width born.count born.numbers.items ≡ c.args.self.now.rows = ap (λ (b : NewRows). b.rows) c.self.view_is in
     let place = place-below born.width born.count c.args.place born.numbers.items _ rows c.requires.place in

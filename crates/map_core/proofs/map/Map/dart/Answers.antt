@@ -12,7 +12,7 @@ bear-requires g c =
     let n : ℕ = g.row.DIM in
     let rows : Rows = c.args.self.now.state.present.rows in
     let laws = rw c.links.ensures.rows at c.links.ensures.laws in
-    rw (c.new.ensures.items, c.new-2.ensures.items, c.none.ensures) (
+    rw (c.new.ensures.items, c.new-2.ensures.items, c.none.ensures.rows) (
       lit< tt,
       (
         births-fit g.K.Kind.kind n 1 rows c.links.ensures.sound,
@@ -24,7 +24,7 @@ pub returns-clause-does : goal.returns-clause-does
 returns-clause-does g c =
     let n : ℕ = g.row.DIM in
     let few = c.if-not-has_numbers.ensures.0 refl in
-    let bore = rw (c.new.ensures.items, c.new-2.ensures.items, c.none.ensures) at c.in_ok-bear.ensures.made in
+    let bore = rw (c.new.ensures.items, c.new-2.ensures.items, c.none.ensures.rows) at c.in_ok-bear.ensures.made in
     let s : State = c.args.self.now.state in
     inr (
       λ full. omega (arith, few),
