@@ -4,6 +4,7 @@ pub mod PlacedGroups
 pub mod Labelling
 pub mod Adding
 pub mod DimLists
+pub mod Followed
 pub mod Rerouting
 pub mod Joining
 pub mod Settling

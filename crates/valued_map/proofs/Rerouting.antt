@@ -1,7 +1,7 @@
 -- Which darts an edit touches in a dimension, by its changes.
-use Rattle.std.proofs.Common.{ℕ, Bool, false, ◌≡◌, ◌++◌, ◌≢◌, ◌⊎◌, ◌+◌, ◌<◌, ◌≤◌, inl, inr, refl, sym, ap, subst, ◌∙◌, List, length, get_or, Option, Some, None, Contains, ⊎_elim, arith}
-use Rattle.std.specs.Prelude.{IfSome, IsTrue, All}
-use Rattle.std.proofs.lemmas.Bool.{cases_lt, false≢true}
+use Rattle.std.proofs.Common.{ℕ, ◌≡◌, ◌++◌, ◌≢◌, ◌⊎◌, ◌+◌, ◌<◌, ◌≤◌, inl, inr, refl, sym, ap, subst, ◌∙◌, List, length, get_or, Option, Some, None, Contains, ⊎_elim, arith}
+use Rattle.std.specs.Prelude.{IfSome, IsSome, All}
+use Rattle.std.proofs.lemmas.Bool.{cases_lt}
 use Rattle.std.proofs.lemmas.List.{get_or_default}
 use Rattle.std.proofs.lemmas.List.Elements.{All-contains, Contains-append_cases}
 use Rattle.map_defs.specs.Kind.{Kind, inverse}
@@ -18,25 +18,39 @@ use Rattle.map_defs.specs.Values.{Rule}
 use Rattle.store_defs.specs.Labelings.{Labeling}
 use Rattle.label_laws.specs.Touching.{IsSettledAlong, IsUnsettled}
 use Rattle.valued_map.specs.declared.kept.Kept.{Kept}
-use Rattle.valued_map.specs.Changing.{IsUnsettledOf, IsFollowed, IsUnsettledFrom, IsChangedIn}
+use Rattle.link_rows.specs.BornRows.{NewRows, led_back, rows_changes}
+use Rattle.link_rows.proofs.BornChanges.{led-link, rows-begun}
+use Rattle.valued_map.specs.Changing.{IsUnsettledOf, IsFollowed, BeginBy, LeadsBackIn, MayReroute, IsUnsettledFrom, IsChangedIn}
 use Rattle.valued_map.proofs.DimLists.{AreListedBelow}
 use Rattle.valued_map.proofs.LiveDarts.{zero-dead}
 use Rattle.valued_map.proofs.Adding.{same-else, long}
 
--- a change that no row tells is among the others
-pub plain-among : (cs back rows : List Change) (c : Change) → Contains (cs ++ (back ++ rows)) c → (Contains back c → ⊥) → (Contains rows c → ⊥) → Contains cs c
-plain-among cs back rows c here not_back not_row = elim (Contains-append_cases cs (back ++ rows) c here) [
-  | inl among ↦ among
-  | inr told ↦ absurd (⊎_elim not_back not_row (Contains-append_cases back rows c told))
+-- what rows of new darts tell of a dart up to a number
+pub told-old : (born : NewRows) (older : ℕ) (c : Change) → Contains (led_back born.back born.first born.rows ++ rows_changes born.first born.rows) c → c.dart ≤ older
+    → (born.back ≡ Some c.link) ⊎ BeginBy born older
+told-old born older c here low = elim (Contains-append_cases (led_back born.back born.first born.rows) (rows_changes born.first born.rows) c here) [
+  | inl back ↦ inl (led-link born.back born.first born.rows c back)
+  | inr row ↦ let begun = rows-begun born.first born.rows c row in inr (begun.0, omega (arith, begun.1, low))
 ]
 
--- where no row tells of a dart up to a number, the changes of these darts are among those that no row tells
-pub older-among : (cs told : List Change) (older : ℕ) (begun : Bool) → begun ≡ false → ((c : Change) → Contains told c → c.dart ≤ older → IsTrue begun)
-    → (c : Change) → Contains (cs ++ told) c → c.dart ≤ older → Contains cs c
-older-among cs told older begun later begins c here low = elim (Contains-append_cases cs told c here) [
-  | inl among ↦ among
-  | inr row ↦ absurd (false≢true (sym later ∙ begins c row low))
-]
+-- where they may tell of none, the changes of these darts are among those that no row tells
+pub older-among : (cs : List Change) (born : NewRows) (older : ℕ) → (IsSome born.back ⊎ BeginBy born older → ⊥)
+    → (c : Change) → Contains (cs ++ (led_back born.back born.first born.rows ++ rows_changes born.first born.rows)) c → c.dart ≤ older → Contains cs c
+older-among cs born older none c here low =
+    elim (Contains-append_cases cs (led_back born.back born.first born.rows ++ rows_changes born.first born.rows) c here) [
+      | inl among ↦ among
+      | inr told ↦ absurd (none (⊎_elim (λ back. inl (subst IsSome (sym back) refl)) (λ begun. inr begun) (told-old born older c told low)))
+    ]
+
+-- a change that may reroute a dart is told by rows that begin by the number or lead back, or is among those that no row tells
+pub rerouting-told : (k : Kind) (i : ℕ) (rows : Rows) (older : ℕ) (cs : List Change) (born : NewRows) (c : Change)
+    → Contains (cs ++ (led_back born.back born.first born.rows ++ rows_changes born.first born.rows)) c → MayReroute k i rows older c
+    → BeginBy born older ⊎ (LeadsBackIn k i born ⊎ ((b : Change) × Contains cs b × MayReroute k i rows older b))
+rerouting-told k i rows older cs born c here may =
+    elim (Contains-append_cases cs (led_back born.back born.first born.rows ++ rows_changes born.first born.rows) c here) [
+      | inl among ↦ inr (inr (c, among, may))
+      | inr told ↦ ⊎_elim (λ back. inr (inl (c.link, back, may.2))) (λ begun. inl begun) (told-old born older c told may.0)
+    ]
 
 -- no change is one of this link of the dart
 abbrev pub IsUnchanged : List Change → ℕ → ℕ → Type 0

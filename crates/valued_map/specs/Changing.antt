@@ -8,6 +8,7 @@ use Rattle.map_defs.specs.Edits.{Change, Edit, IsLed}
 use Rattle.map_defs.specs.Values.{Rule}
 use Rattle.store_defs.specs.Labelings.{Labeling, id_of}
 use Rattle.store_defs.specs.Groups.{rule_at, darts_in}
+use Rattle.link_rows.specs.BornRows.{NewRows}
 use Rattle.label_laws.specs.Touching.{IsSettledAlong, IsUnsettled, IsBornApart, IsJoinedApart}
 use Rattle.valued_map.specs.declared.kept.Kept.{Kept}
 use Rattle.valued_map.specs.Keeping.{IsKept}
@@ -47,6 +48,18 @@ IsUnsettledOf k n e rows i labels c x = (c.dart + e.births ≤ made rows) × IsL
 -- some word along which i-cells run follows the link
 abbrev pub IsFollowed : Kind → ℕ → ℕ → Type 0
 IsFollowed k i link = (w : LinkWord) × IsCellWord k i w × ((w.first ≡ link) ⊎ (w.second ≡ Some link))
+
+-- there are rows of new darts, and the first one is that of a dart up to this number
+abbrev pub BeginBy : NewRows → ℕ → Type 0
+BeginBy born number = (0 < length born.rows) × (born.first ≤ number)
+
+-- they tell that darts lead back to the new ones by a link which some word of the i-cells follows
+abbrev pub LeadsBackIn : Kind → ℕ → NewRows → Type 0
+LeadsBackIn k i born = (link : ℕ) × (born.back ≡ Some link) × IsFollowed k i link
+
+-- the change is of a live dart up to this number, and of a link which some word of the i-cells follows
+abbrev pub MayReroute : Kind → ℕ → Rows → ℕ → Change → Type 0
+MayReroute k i rows older c = (c.dart ≤ older) × IsLive rows c.dart × IsFollowed k i c.link
 
 -- the edit led to the rows from lawful ones, and x is not settled along a word of the i-cells
 abbrev pub IsUnsettledFrom : Kind → ℕ → Edit → Rows → ℕ → Labeling → ℕ → Type 0

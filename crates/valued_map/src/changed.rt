@@ -115,7 +115,7 @@ fn changed_in<K: Kind, const DIM: usize>(
         → IsMovedIn K.kind DIM edit.now links.now.rows kept labels.new dim x → Contains changed.items x) }
 {
     let older = links.made() - edit.births;
-    if !kept.has(dim) && !may_touch(links, edit, older, dim) {
+    if !kept.has(dim) && !may_touch(links, &edit.changes, &edit.born, older, dim) {
         return Ok(Vec::new(alloc));
     }
     if links.dimension() == 2 {

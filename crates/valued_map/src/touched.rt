@@ -1,10 +1,9 @@
 //! Which darts an edit touches.
-ghost use Rattle.std.specs.Prelude.{◌≡◌, ◌≢◌, ℕ, ◌+◌, ◌≤◌, ◌<◌, ◌↔◌, ◌++◌, Contains, IsTrue, IfSome, IsNone, OnOk, slice_index};
+ghost use Rattle.std.specs.Prelude.{◌≡◌, ◌≢◌, ℕ, ◌+◌, ◌≤◌, ◌<◌, ◌↔◌, ◌⊎◌, Contains, IsTrue, IsSome, IfSome, OnOk, slice_index};
 ghost use Rattle.map_defs.specs.LinkWords.{LinkWord as MapWord, through, through_second, IsCellWord, IsWithin};
 ghost use Rattle.map_defs.specs.Rows.{Rows, IsLive, IsSound, links_of, made};
 ghost use Rattle.map_defs.specs.Edits.{Change as LinkChange, IsLed};
-ghost use Rattle.link_rows.specs.BornRows.{led_back, rows_changes};
-ghost use Rattle.valued_map.specs.Changing.{AreAdded, IsUnsettledFrom, IsUnsettledOf, IsFirstUnsettled, IsThenUnsettled, IsUnsettledAt};
+ghost use Rattle.valued_map.specs.Changing.{AreAdded, BeginBy, IsUnsettledFrom, IsUnsettledOf, IsFirstUnsettled, IsThenUnsettled, IsUnsettledAt};
 
 use crate::settled::is_settled;
 use attr_pool::Labels;
@@ -40,30 +39,28 @@ pub(crate) fn add_touched<K: Kind, const DIM: usize>(
     ensures { OnOk result (AreAdded links.now.rows (IsUnsettledFrom K.kind DIM edit.now links.now.rows dim labels.now)
         touched.old.items touched.new.items) }
 {
-    if may_tell_of(&edit.born, older) {
-        let changes = edit.all_changes(*touched.allocator())?;
-        return add_at_changes(links, labels, edit, older, dim, words, &changes, touched);
-    }
-    // The rows of new darts tell nothing of other darts then.
-    let changes = &edit.changes;
+    let told = if may_tell_of(&edit.born, older) {
+        Some(edit.all_changes(*touched.allocator())?)
+    } else {
+        // The rows of new darts tell nothing of other darts then.
+        None
+    };
+    let changes = match &told {
+        Some(told) => told,
+        None => &edit.changes,
+    };
     add_at_changes(links, labels, edit, older, dim, words, changes, touched)
 }
 
-/// Whether the rows of new darts may tell of darts up to a number.
+/// Whether rows of new darts may tell of darts up to a number: where they lead back, and where the first one is of such a dart.
 fn may_tell_of(born: &BornRows, number: u32) -> bool
-    ensures { (c : LinkChange)
-        → Contains (led_back born.now.back born.now.first born.now.rows ++ rows_changes born.now.first born.now.rows) c
-        → c.dart ≤ number → IsTrue result }
+    ensures { IsTrue result ↔ (IsSome born.now.back ⊎ BeginBy born.now number) }
 {
-    match born.back() {
-        Some(_) => true,
-        None => born.begin_by(number),
-    }
+    born.back().is_some() || born.begin_by(number)
 }
 
 /// Adds the darts that are not settled along some words for some changes of links. The darts up to the number `older` were made
 /// before the edit.
-#[inline(always)]
 fn add_at_changes<K: Kind, const DIM: usize>(
     links: &Links<K, DIM>,
     labels: &Labels<DIM>,
@@ -187,7 +184,7 @@ fn add_at_first<K: Kind, const DIM: usize>(
     ensures { OnOk result (AreAdded links.now.rows (IsFirstUnsettled K.kind DIM edit.now links.now.rows dim labels.now word change)
         touched.old.items touched.new.items) }
 {
-    if word.first != change.link() {
+    if word.first != change.link {
         return Ok(());
     }
     let Some(before) = led_to(links, edit, word.second, change.old) else {
@@ -228,7 +225,7 @@ fn add_at_second<K: Kind, const DIM: usize>(
     ensures { OnOk result (AreAdded links.now.rows (IsThenUnsettled K.kind DIM edit.now links.now.rows dim labels.now word change)
         touched.old.items touched.new.items) }
 {
-    if word.second != Some(change.link()) {
+    if word.second != Some(change.link) {
         return Ok(());
     }
     let Some(dart) = links.link(change.dart, K::inverse(word.first)) else {

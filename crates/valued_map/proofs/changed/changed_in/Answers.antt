@@ -1,9 +1,10 @@
-use Rattle.std.proofs.Common.{ℕ, ◌≡◌, ◌-◌, ◌↔◌, List, Contains, lit<, inl, inr, sym, ap, subst, ◌∙◌, arith}
+use Rattle.std.proofs.Common.{ℕ, ◌≡◌, ◌-◌, ◌↔◌, ◌⊎◌, List, Contains, lit<, inl, inr, sym, ap, subst, ◌∙◌, arith}
 use Rattle.std.proofs.lemmas.Bool.{false≢true}
 use Rattle.map_defs.specs.LinkWords.{LinkWord, IsCellWord, IsWithin}
 use Rattle.map_defs.specs.Rows.{made}
-use Rattle.map_defs.specs.Edits.{Edit}
-use Rattle.valued_map.proofs.Rerouting.{none-unsettled}
+use Rattle.map_defs.specs.Edits.{Change, Edit}
+use Rattle.valued_map.specs.Changing.{BeginBy, LeadsBackIn, MayReroute}
+use Rattle.valued_map.proofs.Rerouting.{none-unsettled, rerouting-told}
 use Rattle.valued_map.proofs.Joining.{bare-alike}
 use Rattle.valued_map.proofs.changed.changed_in.Goals as goal
 
@@ -16,7 +17,12 @@ returns-then-not-may_touch-clause-all g c = λ x moved.
       | inr (inl apart) ↦ absurd (bare-alike g.K.Kind.kind c.args.dim c.args.links.now.rows (made c.args.links.now.rows - c.args.edit.now.births) c.args.labels.now bare-above x apart)
       | inr (inr joined) ↦ absurd (false≢true (sym c.if-not-has.true ∙ c.has.ensures.1 joined.0))
       | inl loose ↦ absurd (none-unsettled g.K.Kind.kind g.row.DIM c.args.edit.now c.args.links.now.rows c.args.dim c.args.labels.now c.made.ensures.sound older (omega (arith, c.requires.births, c.made.ensures.made, births-is))
-          (λ b here old live followed. false≢true (sym c.if-not-may_touch.true ∙ c.may_touch.ensures b here old live followed))
+          (λ b here old live followed.
+          let mine = subst (λ (bs : List Change). Contains bs b) (sym (ap (λ (e : Edit). e.changes) c.edit.view_is)) here in
+          let told = rerouting-told g.K.Kind.kind c.args.dim c.args.links.now.rows older c.edit.inside.changes.items c.edit.inside.born b mine (old, live, followed) in
+          false≢true (sym c.if-not-may_touch.true ∙ c.may_touch.ensures.1
+          (subst (λ (cs : List Change). BeginBy c.edit.inside.born older ⊎ (LeadsBackIn g.K.Kind.kind c.args.dim c.edit.inside.born
+          ⊎ ((x : Change) × Contains cs x × MayReroute g.K.Kind.kind c.args.dim c.args.links.now.rows older x))) (sym c.deref.ensures.value) told)))
           x loose.1)
     ]
 
@@ -72,7 +78,7 @@ changed_along-requires-2 g c =
                     c.requires.placed,
                     (
                       λ d high. c.requires.bare d (omega (arith, c.made.ensures.made, births-is)),
-                      λ w. subst (λ (ws : List LinkWord). Contains ws w ↔ (IsCellWord g.K.Kind.kind c.args.dim w × IsWithin g.row.DIM w)) (sym c.deref.ensures.value)
+                      λ w. subst (λ (ws : List LinkWord). Contains ws w ↔ (IsCellWord g.K.Kind.kind c.args.dim w × IsWithin g.row.DIM w)) (sym c.deref-2.ensures.value)
                           (subst (λ (d : ℕ). Contains c.in_ok-words.words.items w ↔ (IsCellWord g.K.Kind.kind c.args.dim w × IsWithin d w)) c.dimension-2.ensures.dimension (c.in_ok-words.ensures w)),
                     ),
                   ),

@@ -14,8 +14,8 @@ use Rattle.valued_map.proofs.Rerouting.{comes-from, came-before}
 use Rattle.valued_map.proofs.Settling.{settled-then}
 use Rattle.valued_map.proofs.touched.add_at_second.Goals as goal
 
-pub link-requires-2 : goal.link-requires-2
-link-requires-2 g c =
+pub link-requires : goal.link-requires
+link-requires g c =
     let first-is : c.word.inside.first ≡ c.args.word.first = ap (λ (w : LinkWord). w.first) c.word.view_is in
     let within : c.word.inside.first ≤ g.row.DIM = subst (λ j. j ≤ g.row.DIM) (sym first-is) (((c.requires.words c.args.word).0 c.requires.word).1.0) in
     (lit< tt, subst (λ j. j ≤ g.row.DIM) (sym c.inverse.ensures) (inverse_within g.K.Kind.kind g.row.DIM c.word.inside.first c.requires.low within))
