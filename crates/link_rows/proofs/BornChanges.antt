@@ -1,5 +1,5 @@
 -- Rows of new darts: the numbers that they stand in, and the changes that they tell.
-use Rattle.std.proofs.Common.{◌≡◌, ◌≢◌, ℕ, zero, suc, ◌+◌, ◌-◌, ◌*◌, ◌^◌, ◌<◌, ◌≤◌, List, [], ◌∷◌, ◌++◌, Contains, Option, Some, None, length, get_or, set, take, drop, replicate, refl, sym, ap, ap₂, subst, ◌∙◌, inl, inr, arith, suc-mul, zero-mul, mul-le-mul, mul-le-mul_right, add-one, append_assoc}
+use Rattle.std.proofs.Common.{◌≡◌, ◌≢◌, ℕ, zero, suc, ◌+◌, ◌-◌, ◌*◌, ◌<◌, ◌≤◌, List, [], ◌∷◌, ◌++◌, Contains, Option, Some, None, length, get_or, set, take, drop, replicate, refl, sym, ap, ap₂, subst, ◌∙◌, inl, inr, arith, suc-mul, zero-mul, mul-le-mul_right, add-one, append_assoc}
 use Rattle.std.specs.Prelude.{All, IfSome}
 use Rattle.std.proofs.lemmas.Bool.{cases_eq, ne_eqb}
 use Rattle.std.proofs.lemmas.List.{drop_at, drop_more, drop-drop, drop-append-le, drop-replicate, drop-set-add, drop-set-lt, get_or-drop, get_or-set_same, get_or-take, length-drop, length-take-le, nil_from_length, take-append-le, take-replicate, take-set-le, take_all, take_at, take_more, set-set, set_at}
@@ -15,12 +15,6 @@ pub row-within : (p count width : ℕ) → p < count → p * width + width ≤ c
 row-within p count width h =
     let most : suc p * width ≤ count * width = mul-le-mul_right width (omega arith) in
     omega (arith, suc-mul p width)
-
--- there are not too many numbers to count their bytes
-pub numbers-few : (first count width : ℕ) → first + count ≤ 2 ^ 32 → width ≤ 9 → count * width ≤ 9 * 2 ^ 32
-numbers-few first count width few narrow =
-    let rows : count ≤ 2 ^ 32 = omega arith in
-    mul-le-mul rows narrow
 
 -- one row more
 pub rows-long : (count width : ℕ) → (count + 1) * width ≡ count * width + width

@@ -12,9 +12,6 @@ use map_kind::Dart;
 use std::alloc::{AllocError, Global};
 use std::marker::Model;
 
-/// The width of the widest row, one of the links 0 to 8.
-pub const WIDTH_MAX: usize = 9;
-
 /// The links of new darts, which are numbered on from a first one: a row for each, with a number for each link, 0 where it
 /// is free. All rows are of one width. The rows can tell also that the darts which they name at one link, where it was free,
 /// lead back by it to the new darts.
@@ -38,7 +35,7 @@ impl Model for BornRows {
     ghost view = { λ born. record { first = born.first; width = born.width; rows = rows_of born.width born.count born.numbers.items; back = born.back } };
 
     ghost invariant = { λ born.
-        (length born.numbers.items ≡ born.count * born.width) × (born.first + born.count ≤ 2 ^ 32) × (born.width ≤ 9)
+        (length born.numbers.items ≡ born.count * born.width) × (born.first + born.count ≤ 2 ^ 32)
         × IfSome born.back (λ link. link < born.width) };
 }
 
@@ -64,7 +61,6 @@ impl BornRows {
         width: usize,
         rows: usize,
     ) -> Result<Self, AllocError>
-        requires { width ≤ WIDTH_MAX }
         ensures { IfOk result (λ born. born ≡ record { first = first; width = width; rows = []; back = None }) }
     {
         Ok(BornRows {
@@ -78,12 +74,14 @@ impl BornRows {
 
     /// So many rows of darts that are numbered on from the first, each so wide, with all links free.
     pub fn zeros(alloc: Global, first: Dart, width: usize, rows: usize) -> Result<Self, AllocError>
-        requires wide { width ≤ WIDTH_MAX }
-        requires few { first + rows ≤ 2 ^ 32 }
+        requires { first + rows ≤ 2 ^ 32 }
         ensures { IfOk result (λ born. born ≡ record { first = first; width = width; rows = replicate rows (replicate width 0); back = None }) }
     {
+        let Some(size) = rows.checked_mul(width) else {
+            return Err(AllocError);
+        };
         let mut numbers = Vec::new(alloc);
-        numbers.resize(rows * width, 0)?;
+        numbers.resize(size, 0)?;
         Ok(BornRows {
             first,
             width,
@@ -307,8 +305,8 @@ impl BornRows {
             return;
         };
         for place in 0..self.count {
-            if let Some(change) = self.back_change(place, link) {
-                rows.set_live_entry(change.dart, link, change.new);
+            if let Some(dart) = self.named_at(place, link) {
+                rows.set_live_entry(dart, link, self.dart_at(place).number());
             }
         }
     }
@@ -324,8 +322,8 @@ impl BornRows {
             return;
         };
         for place in (0..self.count).rev() {
-            if let Some(change) = self.back_change(place, link) {
-                rows.set_entry(change.dart, link, 0);
+            if let Some(dart) = self.named_at(place, link) {
+                rows.set_entry(dart, link, 0);
             }
         }
     }
@@ -343,8 +341,19 @@ impl BornRows {
         ensures named { IfSome result (λ change. slice_index (slice_index_or self.now.rows place []) link ≢ 0) }
         ensures none { IsNone result → slice_index (slice_index_or self.now.rows place []) link ≡ 0 }
     {
-        let dart = Dart::new(self.number_at(place, link))?;
+        let dart = self.named_at(place, link)?;
         Some(Change::new(dart, link, 0, self.dart_at(place).number()))
+    }
+
+    /// The dart that the row at a place names at a link, if it names one there.
+    fn named_at(&self, place: usize, link: usize) -> Option<Dart>
+        requires place { place < length self.now.rows }
+        requires link { link < self.now.width }
+        ensures some { IfSome result (λ dart. dart ≡ slice_index (slice_index_or self.now.rows place []) link) }
+        ensures named { IfSome result (λ dart. slice_index (slice_index_or self.now.rows place []) link ≢ 0) }
+        ensures none { IsNone result → slice_index (slice_index_or self.now.rows place []) link ≡ 0 }
+    {
+        Dart::new(self.number_at(place, link))
     }
 
     /// The number at a link of the row at a place.

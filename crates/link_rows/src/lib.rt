@@ -9,7 +9,7 @@ mod links;
 mod polygon;
 mod steps;
 
-pub use born::{BornRows, WIDTH_MAX};
+pub use born::BornRows;
 pub use builder::LinkBuilder;
 pub use dart_arena::{MADE_MAX, ReserveFault, Row};
 pub use edit::{Change, Edit, PlainEdit};

@@ -21,8 +21,8 @@ loop-place-init g c =
       refl,
     )
 
-pub back_change-requires-clause-place : goal.back_change-requires-clause-place
-back_change-requires-clause-place g c =
+pub named_at-requires-clause-place : goal.named_at-requires-clause-place
+named_at-requires-clause-place g c =
     omega (
       arith,
       c.loop-place-test.true,
@@ -40,4 +40,4 @@ set_entry-requires g c =
     let led : led_back c.args.self.now.back c.args.self.now.first rows ≡ back_changes i c.args.self.now.first rows =
     led-at c.args.self.now.back i c.args.self.now.first rows back in
     let links = All-same (λ (b : Change). b.link ≤ g.row.DIM) (back_changes i first rows) _ (sym led) c.requires in
-    (lit< tt, back-each (λ (b : Change). b.link ≤ g.row.DIM) i first rows links (c.loop-place.place - 1) c.in-Some-back_change.ensures.named)
+    (lit< tt, back-each (λ (b : Change). b.link ≤ g.row.DIM) i first rows links (c.loop-place.place - 1) c.in-Some-named_at.ensures.named)

@@ -1,4 +1,4 @@
-use Rattle.std.proofs.Common.{◌≡◌, List, ℕ, length, sym, ap, ◌∙◌}
+use Rattle.std.proofs.Common.{length, sym, ap, ◌∙◌}
 use Rattle.link_rows.specs.BornRows.{NewRows}
 use Rattle.link_rows.proofs.BornChanges.{rows-count}
 use Rattle.link_rows.proofs.born.BornRows.len.Goals as goal

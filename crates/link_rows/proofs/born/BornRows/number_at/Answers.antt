@@ -1,14 +1,14 @@
 use Rattle.std.proofs.Common.{◌≡◌, ◌<◌, ◌+◌, ◌*◌, ℕ, List, [], length, get_or, ap, ◌∙◌, arith}
 use Rattle.std.proofs.lemmas.List.{get_or_default}
 use Rattle.link_rows.specs.BornRows.{NewRows, rows_of}
-use Rattle.link_rows.proofs.BornChanges.{number-at, numbers-few, place-below, row-within}
+use Rattle.link_rows.proofs.BornChanges.{number-at, place-below, row-within}
 use Rattle.link_rows.proofs.born.BornRows.number_at.Goals as goal
 
 pub overflow_mul-place : goal.overflow_mul-place
 overflow_mul-place c =
     let born = c.self.inside in
     let place = place-below born.width born.count c.args.place born.numbers.items _ (ap (λ (b : NewRows). b.rows) c.self.view_is) c.requires.place in
-    omega (arith, row-within c.args.place born.count born.width place, numbers-few born.first born.count born.width c.self.invariant.1 c.self.invariant.2)
+    omega (arith, row-within c.args.place born.count born.width place, c.self.invariant.0, born.numbers.ok.0, born.numbers.ok.1, born.numbers.small)
 
 pub overflow_add-place : goal.overflow_add-place
 overflow_add-place c =
@@ -18,7 +18,10 @@ overflow_add-place c =
     omega (
       arith,
       row-within c.args.place born.count born.width place,
-      numbers-few born.first born.count born.width c.self.invariant.1 c.self.invariant.2,
+      c.self.invariant.0,
+      born.numbers.ok.0,
+      born.numbers.ok.1,
+      born.numbers.small,
       c.requires.link,
     )
 

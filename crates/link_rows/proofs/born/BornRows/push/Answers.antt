@@ -20,8 +20,7 @@ invariant_of-self-2 g c =
     sym (rows-count old.width old.count old.numbers.items) ∙ ap (λ (b : NewRows). length b.rows) c.self.view_is in (
       items ∙ omega (arith, c.self.invariant.0, long, rows-long old.count old.width) ∙ (λ k. (sym kept.4 k + 1) * sym kept.3 k),
       omega (arith, kept.2, kept.4, c.requires.few, first, count),
-      omega (arith, kept.3, c.self.invariant.2),
-      back-within kept.5 kept.3 c.self.invariant.3,
+      back-within kept.5 kept.3 c.self.invariant.2,
     )
   where
     ap₂-append : {xs ys zs ws : List ℕ} → xs ≡ ys → zs ≡ ws → xs ++ zs ≡ ys ++ ws

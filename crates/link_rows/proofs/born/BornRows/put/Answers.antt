@@ -1,14 +1,14 @@
 use Rattle.std.proofs.Common.{◌≡◌, ◌<◌, ◌≤◌, ◌+◌, ◌*◌, ◌++◌, ℕ, List, [], length, take, drop, get_or, set, ap, sym, ◌∙◌, arith, append-nil}
 use Rattle.std.proofs.lemmas.List.{drop_all, length-set, take_all}
 use Rattle.link_rows.specs.BornRows.{NewRows, rows_of}
-use Rattle.link_rows.proofs.BornChanges.{numbers-few, place-below, row-wide, row-within, rows-put-more}
+use Rattle.link_rows.proofs.BornChanges.{place-below, row-wide, row-within, rows-put-more}
 use Rattle.link_rows.proofs.born.BornRows.put.Goals as goal
 
 pub overflow_mul-start : goal.overflow_mul-start
 overflow_mul-start g c =
     let born = c.self.inside in
     let place = place-below born.width born.count c.args.place born.numbers.items _ (ap (λ (b : NewRows). b.rows) c.self.view_is) c.requires.place in
-    omega (arith, row-within c.args.place born.count born.width place, numbers-few born.first born.count born.width c.self.invariant.1 c.self.invariant.2)
+    omega (arith, row-within c.args.place born.count born.width place, c.self.invariant.0, born.numbers.ok.0, born.numbers.ok.1, born.numbers.small)
 
 pub overflow_add-start : goal.overflow_add-start
 overflow_add-start g c =
@@ -16,7 +16,7 @@ overflow_add-start g c =
     let place = place-below born.width born.count c.args.place born.numbers.items _ (ap (λ (b : NewRows). b.rows) c.self.view_is) c.requires.place in
     let wide : born.width ≡ c.args.self.now.width = ap (λ (b : NewRows). b.width) c.self.view_is in
     let link : c.loop-link.link < born.width = omega (arith, c.loop-link-test.true, c.width-link-end.ensures.width, c.requires.width) in
-    omega (arith, row-within c.args.place born.count born.width place, numbers-few born.first born.count born.width c.self.invariant.1 c.self.invariant.2)
+    omega (arith, row-within c.args.place born.count born.width place, c.self.invariant.0, born.numbers.ok.0, born.numbers.ok.1, born.numbers.small)
 
 pub index_mut-requires : goal.index_mut-requires
 index_mut-requires g c =

@@ -7,8 +7,8 @@ use Rattle.link_rows.specs.BornRows.{NewRows, back_changes, led_back}
 use Rattle.link_rows.proofs.BornChanges.{rows-count, back-each, led-at}
 use Rattle.link_rows.proofs.born.BornRows.put_back_links.Goals as goal
 
-pub back_change-requires-clause-place : goal.back_change-requires-clause-place
-back_change-requires-clause-place g c =
+pub named_at-requires-clause-place : goal.named_at-requires-clause-place
+named_at-requires-clause-place g c =
     omega (
       arith,
       c.loop-place-test.true,
@@ -25,12 +25,10 @@ set_live_entry-requires g c =
     let back : c.args.self.now.back ≡ Some i = sym (ap (λ (b : NewRows). b.back) c.self.view_is) ∙ c.in-Some.is in
     let led : led_back c.args.self.now.back c.args.self.now.first rows ≡ back_changes i c.args.self.now.first rows =
     led-at c.args.self.now.back i c.args.self.now.first rows back in
-    let is = c.in-Some-back_change.ensures.some in
-    let named = c.in-Some-back_change.ensures.named in
-    let dart : c.change.inside.dart ≡ get_or (get_or rows place []) i 0 = ap (λ (b : Change). b.dart) (c.change.view_is ∙ is) in
+    let named = c.in-Some-named_at.ensures.named in
     let links = All-same (λ (b : Change). b.link ≤ g.row.DIM) (back_changes i first rows) _ (sym led) c.requires.links in
     let live = All-same (λ (b : Change). IsLive c.args.rows.now b.dart) (back_changes i first rows) _ (sym led) c.requires.live in
-    rw dart (
+    rw c.in-Some-named_at.ensures.some (
       lit< tt,
       (
         c.loop-place.invariant.3 (get_or (get_or rows place []) i 0)

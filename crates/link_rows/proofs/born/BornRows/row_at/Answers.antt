@@ -1,25 +1,25 @@
 use Rattle.std.proofs.Common.{[], ◌≡◌, ◌≤◌, ◌*◌, ◌+◌, ◌-◌, length, ap, sym, arith, rules}
 use Rattle.link_rows.specs.BornRows.{NewRows, rows_of}
-use Rattle.link_rows.proofs.BornChanges.{row-within, numbers-few, place-below, rows-at}
+use Rattle.link_rows.proofs.BornChanges.{row-within, place-below, rows-at}
 use Rattle.link_rows.proofs.born.BornRows.row_at.Goals as goal
 
 pub overflow_mul-start : goal.overflow_mul-start
 overflow_mul-start c =
     let born = c.self.inside in
     let place = place-below born.width born.count c.args.place born.numbers.items _ (ap (λ (b : NewRows). b.rows) c.self.view_is) c.requires in
-    omega (arith, row-within c.args.place born.count born.width place, numbers-few born.first born.count born.width c.self.invariant.1 c.self.invariant.2)
+    omega (arith, row-within c.args.place born.count born.width place, c.self.invariant.0, born.numbers.ok.0, born.numbers.ok.1, born.numbers.small)
 
 pub overflow_add-result : goal.overflow_add-result
 overflow_add-result c =
     let born = c.self.inside in
     let place = place-below born.width born.count c.args.place born.numbers.items _ (ap (λ (b : NewRows). b.rows) c.self.view_is) c.requires in
-    omega (arith, row-within c.args.place born.count born.width place, numbers-few born.first born.count born.width c.self.invariant.1 c.self.invariant.2)
+    omega (arith, row-within c.args.place born.count born.width place, c.self.invariant.0, born.numbers.ok.0, born.numbers.ok.1, born.numbers.small)
 
 pub offset_bounds-deref-start : goal.offset_bounds-deref-start
 offset_bounds-deref-start c =
     let born = c.self.inside in
     let place = place-below born.width born.count c.args.place born.numbers.items _ (ap (λ (b : NewRows). b.rows) c.self.view_is) c.requires in
-    omega (arith, row-within c.args.place born.count born.width place, numbers-few born.first born.count born.width c.self.invariant.1 c.self.invariant.2)
+    omega (arith, row-within c.args.place born.count born.width place, c.self.invariant.0, born.numbers.ok.0, born.numbers.ok.1, born.numbers.small)
 
 pub slice_bounds-result-end : goal.slice_bounds-result-end
 slice_bounds-result-end c =

@@ -1,13 +1,13 @@
 use Rattle.std.proofs.Common.{◌≡◌, ◌+◌, ◌*◌, ℕ, List, [], get_or, set, refl, ap, ◌∙◌, arith}
 use Rattle.link_rows.specs.BornRows.{NewRows, rows_of}
-use Rattle.link_rows.proofs.BornChanges.{numbers-few, place-below, row-within, rows-set}
+use Rattle.link_rows.proofs.BornChanges.{place-below, row-within, rows-set}
 use Rattle.link_rows.proofs.born.BornRows.set.Goals as goal
 
 pub overflow_mul-place : goal.overflow_mul-place
 overflow_mul-place c =
     let born = c.self.inside in
     let place = place-below born.width born.count c.args.place born.numbers.items _ (ap (λ (b : NewRows). b.rows) c.self.view_is) c.requires.place in
-    omega (arith, row-within c.args.place born.count born.width place, numbers-few born.first born.count born.width c.self.invariant.1 c.self.invariant.2)
+    omega (arith, row-within c.args.place born.count born.width place, c.self.invariant.0, born.numbers.ok.0, born.numbers.ok.1, born.numbers.small)
 
 pub overflow_add-place : goal.overflow_add-place
 overflow_add-place c =
@@ -17,7 +17,10 @@ overflow_add-place c =
     omega (
       arith,
       row-within c.args.place born.count born.width place,
-      numbers-few born.first born.count born.width c.self.invariant.1 c.self.invariant.2,
+      c.self.invariant.0,
+      born.numbers.ok.0,
+      born.numbers.ok.1,
+      born.numbers.small,
       c.requires.link,
     )
 

@@ -1,4 +1,4 @@
-use Rattle.std.proofs.Common.{◌≡◌, ◌*◌, ◌-◌, ◌++◌, ℕ, zero, List, [], take, replicate, None, refl, ap, ◌∙◌, arith}
+use Rattle.std.proofs.Common.{◌≡◌, ◌-◌, ◌++◌, ℕ, zero, List, [], take, replicate, None, refl, ap, ◌∙◌, arith}
 use Rattle.std.proofs.lemmas.List.{take_all}
 use Rattle.link_rows.specs.BornRows.{NewRows, rows_of}
 use Rattle.link_rows.proofs.BornChanges.{rows-zeros}
@@ -12,8 +12,8 @@ zeros-only n m xs none small =
 
 pub returns : goal.returns
 returns c =
-    let n : ℕ = c.args.rows * c.args.width in
+    let n : ℕ = c.in-Some.size in
     let items : c.resize.new.self.items ≡ replicate n zero =
     c.in_ok-resize.ensures.items ∙ zeros-only n _ _ c.new-numbers.ensures.items c.new-numbers.ensures.len in
     ap (λ (rows : List (List ℕ)). let born : NewRows = record { first = c.args.first; width = c.args.width; rows = rows; back = None } in born)
-    (ap (rows_of c.args.width c.args.rows) items ∙ rows-zeros c.args.width c.args.rows n refl)
+    (ap (rows_of c.args.width c.args.rows) items ∙ rows-zeros c.args.width c.args.rows n c.in-Some.ensures.1)
