@@ -1,8 +1,8 @@
 -- What the links of a new dart become, and which number it has.
-use Rattle.std.proofs.Common.{ℕ, zero, suc, Bool, true, false, not, ◌≡◌, ◌≢◌, ◌+◌, ◌<◌, ◌≤◌, ◌↔◌, length, take, slice_index, get_or, Contains, Option, Some, None, refl, sym, ap, ◌∙◌, ⊎_elim, eq-eqb, arith}
+use Rattle.std.proofs.Common.{ℕ, zero, suc, not, ◌≡◌, ◌≢◌, ◌+◌, ◌<◌, ◌≤◌, length, take, slice_index, get_or, Contains, Option, Some, None, refl, sym, ap, ◌∙◌, ⊎_elim, eq-eqb, arith}
 use Rattle.std.specs.Prelude.{All, IsNone}
 use Rattle.std.specs.List.Sorted.{IsStrictlyIncreasing}
-use Rattle.std.proofs.lemmas.Bool.{ne_eqb, false≢true}
+use Rattle.std.proofs.lemmas.Bool.{ne_eqb}
 use Rattle.std.proofs.lemmas.List.{get_or-take, length-take, get_or_default}
 use Rattle.map_defs.specs.Kind.{Kind, alpha, beta, inverse, place, IsDistant}
 use Rattle.map_defs.specs.Links.{Links}
@@ -10,7 +10,7 @@ use Rattle.map_defs.specs.Rows.{Rows, links_of, made, IsLive}
 use Rattle.map_defs.specs.Insertion.{IsJustBelow}
 use Rattle.link_laws.proofs.Basics.{stable}
 use Rattle.link_laws.proofs.RowFacts.{rows_made}
-use Rattle.insert_laws.proofs.Places.{IsBeside, same, next, below, far, link_cases, next_place, below_apart}
+use Rattle.insert_laws.proofs.Places.{next, below, next_place, below_apart}
 use Rattle.edit_laws.proofs.RowWrites.{live-within}
 use Rattle.cell_edit.specs.Stars.{Stars, star_of}
 use Rattle.cell_edit.specs.Writing.{copied, beyond}
@@ -58,17 +58,6 @@ pub next-above : (k : Kind) (i t : ℕ) → inverse k i ≡ i → t ≡ i + 1 �
 next-above k i t own is b =
     let f : i + 1 ≡ suc i = omega arith in
     let e : place k t ≡ place k i + 1 = ap (place k) (is ∙ f) ∙ next_place k i own in omega arith
-
--- a lower link that is not distant is just below
-pub below-tells : (k : Kind) (i t : ℕ) → inverse k i ≡ i → t < i → (d : Bool) → ((d ≡ true) ↔ IsDistant k i t) → (not d ≡ true) ↔ IsJustBelow k i t
-below-tells k i t own low true tells = ((λ e. absurd (false≢true e)), λ b. absurd (far-below k i t (tells.0 refl) b))
-below-tells k i t own low false tells = ((λ _. cases (link_cases k i t own)), λ _. refl)
-  where
-    cases : IsBeside k i t → IsJustBelow k i t
-    cases (same e) = absurd (omega arith)
-    cases (next e) = absurd (omega arith)
-    cases (below b) = b
-    cases (far f) = absurd (false≢true (tells.1 f))
 
 -- no dart is there unless one is
 pub none-unless : (o : Option ℕ) → ((d : ℕ) → o ≡ Some d → ⊥) → IsNone o

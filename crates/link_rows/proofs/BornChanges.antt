@@ -365,10 +365,7 @@ back-each P i d rows all p some =
     let c : Change = record { dart = get_or (get_or rows p []) i 0; link = i; old = 0; new = d + p } in
     All-contains P (back_changes i d rows) c all (back-tell i d rows p c refl refl refl refl some)
 
--- where there are no rows, where no link leads back, and where link i does
-pub led-nothing : (back : Option ℕ) (d : ℕ) → led_back back d [] ≡ []
-led-nothing back d = refl
-
+-- where no link leads back, and where link i does
 pub led-none : (d : ℕ) (rows : List (List ℕ)) → led_back None d rows ≡ []
 led-none d [] = refl
 led-none d (row ∷ rows) = refl
@@ -379,12 +376,6 @@ led-some i d (row ∷ rows) = refl
 
 pub led-at : (back : Option ℕ) (i d : ℕ) (rows : List (List ℕ)) → back ≡ Some i → led_back back d rows ≡ back_changes i d rows
 led-at back i d rows is = ap (λ (b : Option ℕ). led_back b d rows) is ∙ led-some i d rows
-
--- rows behind others tell changes behind theirs, as one row behind others does
-pub led-append : (back : Option ℕ) (d : ℕ) (xs ys : List (List ℕ)) → led_back back d (xs ++ ys) ≡ led_back back d xs ++ led_back back (d + length xs) ys
-led-append None d xs ys = led-none d (xs ++ ys) ∙ (λ k. sym (led-none d xs) k ++ sym (led-none (d + length xs) ys) k)
-led-append (Some i) d xs ys =
-    led-some i d (xs ++ ys) ∙ back-append i d xs ys ∙ (λ k. sym (led-some i d xs) k ++ sym (led-some i (d + length xs) ys) k)
 
 -- a change by which a dart leads back is one of the link that does so
 pub led-link : (back : Option ℕ) (d : ℕ) (rows : List (List ℕ)) (c : Change) → Contains (led_back back d rows) c → back ≡ Some c.link

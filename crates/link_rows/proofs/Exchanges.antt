@@ -74,15 +74,6 @@ pub record AreExchangedTo (n k : ℕ) (L N : Links) (d e : ℕ) : Type 0 where
   pub two_left : (j : ℕ) → (n - k < j → j < n → ⊥) → N j e ≡ L j e
   pub others : (j x : ℕ) → x ≢ d → x ≢ e → N j x ≡ L j x
 
-pub none-exchanged : (n : ℕ) (L : Links) (d e : ℕ) → AreExchangedTo n 1 L L d e
-none-exchanged n L d e = record {
-  one = λ i low high. absurd (omega arith);
-  two = λ i low high. absurd (omega arith);
-  one_left = λ i _. refl;
-  two_left = λ j _. refl;
-  others = λ j x _ _. refl;
-}
-
 pub one-more : (n k : ℕ) (L N M : Links) (d e : ℕ) → d ≢ e → 1 ≤ k → k < n → AreExchangedTo n k L N d e → IsExchanged n k N M d e → AreExchangedTo n (k + 1) L M d e
 one-more n k L N M d e apart low high done is = record { one = one; two = two; one_left = one_left; two_left = two_left; others = others }
   where
@@ -112,22 +103,6 @@ one-more n k L N M d e apart low high done is = record { one = one; two = two; o
 
     others : (j x : ℕ) → x ≢ d → x ≢ e → M j x ≡ L j x
     others j x here there = is.rest j x (λ same _. here same) (λ same _. there same) ∙ done.others j x here there
-
-pub all-exchanged : (n : ℕ) (L N : Links) (d e : ℕ) → AreExchangedTo n n L N d e → AreExchanged n L N d e
-all-exchanged n L N d e done = record { one = done.one; two = two; ends = ends; others = done.others }
-  where
-    two : (i : ℕ) → 1 ≤ i → i < n → N i e ≡ L (n - i) d
-    two i low high =
-        let turn : n - (n - i) ≡ i = omega arith in
-        ap (λ (t : ℕ). N t e) (sym turn) ∙ done.two (n - i) (omega arith) (omega arith)
-
-    ends : (i x : ℕ) → (1 ≤ i → i < n → ⊥) → N i x ≡ L i x
-    ends i x left = go (same_or_not x d) (same_or_not x e)
-      where
-        go : (x ≡ d) ⊎ (x ≢ d) → (x ≡ e) ⊎ (x ≢ e) → N i x ≡ L i x
-        go (inl same) r = ap (N i) same ∙ done.one_left i left ∙ sym (ap (L i) same)
-        go (inr here) (inl same) = ap (N i) same ∙ done.two_left i (λ from to. left (omega arith) to) ∙ sym (ap (L i) same)
-        go (inr here) (inr there) = done.others i x here there
 
 -- the rows with link 0 of d as in the dual
 abbrev pub first_set : ℕ → Rows → ℕ → Rows

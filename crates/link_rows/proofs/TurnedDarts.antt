@@ -1,5 +1,5 @@
 -- The pass over the darts that makes the dual: which darts have the links of the dual so far, and which the old ones.
-use Rattle.std.proofs.Common.{◌≡◌, ◌≢◌, ◌⊎◌, ◌↔◌, ℕ, ◌+◌, ◌-◌, ◌<◌, ◌≤◌, refl, sym, ap, subst, ◌∙◌, inl, inr, arith}
+use Rattle.std.proofs.Common.{◌≡◌, ◌≢◌, ◌⊎◌, ◌↔◌, ℕ, ◌+◌, ◌-◌, ◌<◌, ◌≤◌, sym, ap, subst, ◌∙◌, inl, inr, arith}
 use Rattle.std.proofs.lemmas.Bool.{cases_lt}
 use Rattle.map_defs.specs.Kind.{beta, inverse}
 use Rattle.map_defs.specs.Links.{Links}
@@ -12,7 +12,7 @@ use Rattle.dual_laws.proofs.DualBeta.{link_case}
 use Rattle.dual_laws.proofs.DualLaws.{dual_laws}
 use Rattle.link_rows.specs.DualLinks.{dual_link}
 use Rattle.link_rows.specs.Turning.{HaveSameDarts, AreTurned}
-use Rattle.link_rows.proofs.DualEntries.{dual-between, dual-top, dual-free, is-dual}
+use Rattle.link_rows.proofs.DualEntries.{dual-between, dual-top, is-dual}
 
 -- link n joins the darts two by two, and a dart at which it is free has no links
 pub record ArePaired (n : ℕ) (L : Links) : Type 0 where
@@ -40,16 +40,6 @@ pub record AreTurnedTo (n k : ℕ) (L N : Links) : Type 0 where
   pub left : (i x : ℕ) → k < x → k < L n x → N i x ≡ L i x
 
 module _ (n : ℕ) (L : Links) (dim : 2 ≤ n) (w : Laws beta L) (p : ArePaired n L) where
-  pub none-turned : AreTurnedTo n 0 L L
-  none-turned = record { done = done; left = λ i x _ _. refl }
-    where
-      free : (i x : ℕ) → ((j : ℕ) → L j x ≡ 0) → L i x ≡ dual_link beta n L i x
-      free i x all = all i ∙ sym (dual-free n L dim beta w x all i)
-
-      done : (i x : ℕ) → i ≤ n → (x ≤ 0) ⊎ (L n x ≤ 0) → L i x ≡ dual_link beta n L i x
-      done i x low (inl none) = free i x (λ j. let is : x ≡ 0 = omega arith in ap (L j) is ∙ w.nil j)
-      done i x low (inr none) = free i x (p.free x (omega arith))
-
   module _ (k : ℕ) (N : Links) (t : AreTurnedTo n k L N) where
     -- link n stays
     pub top-stays : (x : ℕ) → N n x ≡ L n x

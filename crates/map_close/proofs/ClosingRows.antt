@@ -134,21 +134,6 @@ module _ (k : Kind) (n : ℕ) (rows : Rows) (sound : IsSound k n rows) (i : ℕ)
         (λ p q less low same. omega (arith, rises stars.keys can.ascending p q less low)))
         (rows-write L (stars.made + 1) born (λ t d low. unmade-free rows t d (omega (arith, can.made)))))
 
-  -- ---- one dart after another
-  pub closed-begins : IsClosedBelow k n rows i stars 1 (record { first = stars.made + 1; width = n + 1; back = Some i; rows = [] })
-  closed-begins = record {
-    first = refl;
-    width = refl;
-    back = refl;
-    few = omega arith;
-    below = λ p low. absurd (omega arith);
-    from = λ p more low. at_least (slice_index stars.keys p) (live-dart k n rows sound (slice_index stars.keys p) (key-live k n rows sound i stars can (slice_index stars.keys p) (held_at stars.keys p low)));
-    tells = λ p low. absurd (omega arith);
-  }
-    where
-      at_least : (x : ℕ) → x ≢ 0 → 1 ≤ x
-      at_least x some = omega (arith, some)
-
   module _ (d : ℕ) (born : NewRows) (before : IsClosedBelow k n rows i stars d born) where
     pub closed-skip : star d ≡ 0 → IsClosedBelow k n rows i stars (d + 1) born
     closed-skip none = record {

@@ -1,12 +1,11 @@
 -- The open darts at which a map is closed, and their new darts.
-use Rattle.std.proofs.Common.{ℕ, ◌≡◌, ◌≢◌, ◌+◌, ◌<◌, ◌≤◌, length, get_or, Contains, is_some, ap, ◌∙◌, inl, inr, arith}
+use Rattle.std.proofs.Common.{ℕ, ◌≡◌, ◌≢◌, ◌+◌, ◌<◌, ◌≤◌, length, get_or, Contains, is_some, ap, ◌∙◌, arith}
 use Rattle.std.proofs.lemmas.List.Elements.{Contains-get_or}
 use Rattle.map_defs.specs.Kind.{Kind}
 use Rattle.map_defs.specs.Rows.{Rows, links_of, made, IsLive, IsSound}
 use Rattle.map_defs.specs.Births.{IsNumbered, IsFresh}
 use Rattle.map_defs.specs.Edits.{with_births}
 use Rattle.map_defs.specs.Closing.{IsOpen, IsAround}
-use Rattle.link_laws.proofs.Basics.{same_or_not}
 use Rattle.link_laws.proofs.RowFacts.{rows_made}
 use Rattle.edit_laws.proofs.RowWrites.{births-old, births-new, live-within}
 use Rattle.insert_laws.proofs.Numbers.{numbered_above, numbered_upto, numbered_fresh}
@@ -17,13 +16,6 @@ use Rattle.cell_edit.proofs.Premises.{live-dart, all-live, all-made}
 use Rattle.map_close.specs.NewLinks.{CanClose}
 use Rattle.map_close.proofs.Rounds.{around-found}
 use Rattle.map_close.proofs.StarNumbers.{star-key}
-
--- a link leads to a dart that was made, or to 0
-pub linked-made : (k : Kind) (n : ℕ) (rows : Rows) → IsSound k n rows → (t x : ℕ) → links_of rows t x ≤ made rows
-linked-made k n rows sound t x = elim (same_or_not (links_of rows t x) 0) [
-  | inl none ↦ omega (arith, none)
-  | inr some ↦ live-made rows (links_of rows t x) (sound.live t x some)
-]
 
 module _ (k : Kind) (n : ℕ) (rows : Rows) (sound : IsSound k n rows) (i : ℕ) (stars : Stars) (can : CanClose k rows i stars) where
   abbrev K : ℕ → Type 0

@@ -52,16 +52,6 @@ module _ (k : Kind) (n : ℕ) (rows : Rows) (hook : Hook) (s : State) (kind : s.
       let fails = subst (λ (c : Content). (IsNoLink c i → ⊥) × AreFree c i d e × (ArePaired c i d e → ⊥)) view (link, (bad.0, bad.1), bad.2) in
       rw (is, unpaired) (inr (fails.0, inr (one, inr (other, inr (fails.1, inl (fails.2, refl, refl))))))
 
-  -- an unsewing that is refused
-  pub unsew-refused : (x y : ℕ) → x ≡ i → y ≡ d → (r : Refused) (result : Result Done Refused) → result ≡ Err r
-      → (r ≡ why.Line told.AlreadyFree → links_of rows x y ≡ 0)
-      → (r ≡ why.NoMemory) ⊎ (r ≡ why.Line told.AlreadyFree) → Does hook s (Unsew i d) result s
-  unsew-refused x y is_x is_y r result is free (inl memory) = rw (is, memory) refl
-  unsew-refused x y is_x is_y r result is free (inr already) =
-      let none : links_of rows i d ≡ 0 = rw (is_x, is_y) at free already in
-      let fails = subst (λ (c : Content). (IsNoLink c i → ⊥) × (links_in c i d ≡ 0)) view (link, none) in
-      rw (is, already) (inr (fails.0, inr (one, inl (fails.1, refl, refl))))
-
   module _ (edit : Edit) (fits : Fits k n rows edit) (births : edit.births ≡ 0)
       (deaths : edit.deaths ≡ []) (new : State) (next : Content) (carried : IsCarriedOn hook s.present (after_edit n edit s.present.rows) next)
       (made : new ≡ steps_to s next) where

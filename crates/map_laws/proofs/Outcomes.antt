@@ -32,16 +32,6 @@ module _ (hook : Hook) (s : State) where
   second-fails line done mid new step same = (done.first, done.count, subst (Step hook s line (text.Done done.first done.count)) (sym same) step)
 
   -- lines that make no dart say so
-  sew-none : (i d e : ℕ) (first count : ℕ) (mid : State) → Step hook s (says.Sew i d e) (text.Done first count) mid → Step hook s (says.Sew i d e) (text.Done 0 0) mid
-  sew-none i d e first count mid step =
-      let (passes, (next, sewn, reply, is)) = obeyed hook s (says.Sew i d e) first count mid step in
-      subst (λ (r : text.Reply). Step hook s (says.Sew i d e) r mid) reply step
-
-  unsew-none : (i d : ℕ) (first count : ℕ) (mid : State) → Step hook s (says.Unsew i d) (text.Done first count) mid → Step hook s (says.Unsew i d) (text.Done 0 0) mid
-  unsew-none i d first count mid step =
-      let (passes, (next, unsewn, reply, is)) = obeyed hook s (says.Unsew i d) first count mid step in
-      subst (λ (r : text.Reply). Step hook s (says.Unsew i d) r mid) reply step
-
   dual-none : (first count : ℕ) (mid : State) → Step hook s says.Dual (text.Done first count) mid → Step hook s says.Dual (text.Done 0 0) mid
   dual-none first count mid step =
       let (passes, (next, turned, reply, is)) = obeyed hook s says.Dual first count mid step in
@@ -53,10 +43,6 @@ module _ (hook : Hook) (s : State) where
       subst (λ (r : text.Reply). Step hook s (says.Remove i d) r mid) reply step
 
 module _ (hook : Hook) (s mid new : State) (one two : Done) where
-  pub sewn-both : (i d e : ℕ) → Step hook s (says.Sew i d e) (text.Done one.first one.count) mid → Step hook mid (says.Unsew i d) (text.Done two.first two.count) new
-      → ObeysBoth hook s (says.Sew i d e) (text.Done 0 0) (says.Unsew i d) (text.Done 0 0) new
-  sewn-both i d e first second = (mid, sew-none hook s i d e one.first one.count mid first, unsew-none hook mid i d two.first two.count new second)
-
   pub dual-both : Step hook s says.Dual (text.Done one.first one.count) mid → Step hook mid says.Dual (text.Done two.first two.count) new
       → ObeysBoth hook s says.Dual (text.Done 0 0) says.Dual (text.Done 0 0) new
   dual-both first second = (mid, dual-none hook s one.first one.count mid first, dual-none hook mid two.first two.count new second)

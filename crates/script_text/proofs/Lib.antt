@@ -1,4 +1,3 @@
-pub mod AsciiWords
 pub mod ReadWords
 pub mod NumberLines
 pub mod LogTexts

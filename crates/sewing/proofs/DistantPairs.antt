@@ -49,9 +49,6 @@ one_listed d e i x y t = (λ has. to has, λ same. rw (same.0, same.1, same.2) (
 -- ---- the pairs along the listed distant links are those of the sewing
 module _ (k : Kind) (L : Links) (n i d e : ℕ) (js : List ℕ) (dim : 2 ≤ n) (above : HasDimension n L)
     (distant : (j : ℕ) → Contains js j ↔ ((j ≤ n) × IsDistant k i j)) where
-  Seeds : ℕ → ℕ → ℕ → Type 0
-  Seeds = Lists (record { x = d; y = e; t = i } ∷ [])
-
   low_or_free : (j : ℕ) → (j ≤ n) ⊎ ((x : ℕ) → L j x ≡ 0)
   low_or_free j = elim (cases_lt n j) [ inl high ↦ inr (λ x. above j x high) | inr low ↦ inl low ]
 

@@ -6,5 +6,4 @@ pub mod PlanChanges
 pub mod PlanLaws
 mod BookPlaces
 mod Exits
-mod TestMaps
 mod WaysBack

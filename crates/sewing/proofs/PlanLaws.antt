@@ -3,7 +3,6 @@ use Rattle.std.proofs.Common.{◌≡◌, ◌≢◌, ℕ, ◌≤◌, ◌↔◌, L
 use Rattle.std.specs.Prelude.{is_some}
 use Rattle.std.proofs.lemmas.Bool.{false≢true}
 use Rattle.map_defs.specs.Kind.{Kind, IsDistant}
-use Rattle.map_defs.specs.Links.{Links}
 use Rattle.map_defs.specs.Laws.{Laws}
 use Rattle.map_defs.specs.Rows.{Rows, links_of, row_at, IsLive, IsSound}
 use Rattle.map_defs.specs.Edits.{after_edit, Fits}
@@ -11,12 +10,12 @@ use Rattle.map_defs.specs.Pairs.{JustOne}
 use Rattle.map_defs.specs.Sewing.{SewnPairs, IsSewable, IsSewn, IsUnsewn}
 use Rattle.link_laws.proofs.Basics.{inverse_within}
 use Rattle.link_laws.proofs.RowFacts.{linked_live}
-use Rattle.link_laws.proofs.Relink.{IsEither, either_inverse}
+use Rattle.link_laws.proofs.Relink.{IsEither}
 use Rattle.link_laws.proofs.Sewn.{sewn_triple, sewing_keeps}
 use Rattle.link_laws.proofs.Unsewn.{unsewing_keeps}
 use Rattle.sewing.specs.Triples.{Triple, Lists}
 use Rattle.sewing.specs.PairSteps.{AreApart}
-use Rattle.sewing.proofs.PairFacts.{pairs-least, pairs-live}
+use Rattle.sewing.proofs.PairFacts.{pairs-live}
 use Rattle.sewing.proofs.PartedPairs.{parted-pair, freed-pair}
 use Rattle.sewing.proofs.PlanChanges.{relinks, changes, relinks-fit, are-changes, changed-at, changed-else}
 
@@ -27,14 +26,6 @@ live-dart k n rows sound d live is = false≢true (sym (ap is_some (ap (row_at r
 either_within : (k : Kind) (n i t : ℕ) → 2 ≤ n → i ≤ n → IsEither k i t → t ≤ n
 either_within k n i t dim low (inl is) = rw is low
 either_within k n i t dim low (inr is) = rw is (inverse_within k n i dim low)
-
--- the links of pairs that are sewn at link i are i and its inverse
-sewn_either : (k : Kind) (L : Links) (i d e x y t : ℕ) → SewnPairs k L i d e x y t → IsEither k i t
-sewn_either k L i d e =
-    pairs-least k L (IsDistant k i) (JustOne d e i) (λ x y t. IsEither k i t) (λ x y t is. inl is.2) (record {
-      turned = λ x y t p. either_inverse k i t p;
-      across = λ x y t j far p hx hy. either_inverse k i t p;
-    })
 
 module _ (k : Kind) (n : ℕ) (rows : Rows) (sound : IsSound k n rows) (dim : 2 ≤ n) (w : Laws k (links_of rows)) (i : ℕ) (low : i ≤ n) where
   module _ (d e : ℕ) (live_d : IsLive rows d) (live_e : IsLive rows e) (can : IsSewable k (links_of rows) i d e) (pairs : List Triple) (apart : AreApart pairs)

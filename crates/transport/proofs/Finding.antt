@@ -33,12 +33,6 @@ sound_classes k n i rows sound = record {
 pub held_none : (Cell : ℕ → ℕ → Type 0) (i : ℕ) (darts : List ℕ) → AreHeld Cell i 0 darts []
 held_none Cell i darts = record { each = λ n h. absurd (omega arith); all = λ place h. absurd (omega arith); apart = λ m n l h. absurd (omega arith) }
 
-pub found_none : (Cell : ℕ → ℕ → Type 0) (i : ℕ) (wanted : Wanted) → ((place : ℕ) → IsMarked wanted place → ⊥) → AreFound Cell i 0 wanted []
-found_none Cell i wanted unmarked = record {
-  held = held_none Cell i wanted.darts;
-  marked = λ place h. (λ m. absurd (unmarked place m), λ s. absurd (let l = s.1 in omega arith));
-}
-
 -- the same darts are wanted
 pub added_same : (Cell : ℕ → ℕ → Type 0) (i place : ℕ) (before after : Wanted) (old new : List Group) → IsCellAdded Cell i place before after old new → after.darts ≡ before.darts
 added_same Cell i place before after old new (inl (has, same, kept)) = ap (λ w. w.darts) same

@@ -23,16 +23,6 @@ pub told_eq : (a b : ℕ) → ((a ≡ b) × (nat_eq a b ≡ true)) ⊎ ((a ≢ b
 told_eq a b = grind arith
 
 module _ (label : ℕ → Option ℕ) (cells : List Group) where
-  pub gathered_none : (met : ℕ → Option ℕ) (pieces : List Piece) → ((id : ℕ) → met id ≡ None) → pieces ≡ [] → AreGathered label cells 0 0 met pieces
-  gathered_none met pieces none empty = record {
-    sound = λ k h. absurd (let e = ap length empty in omega arith);
-    passed = λ m j id h g c e. absurd (elim c [ inl l ↦ omega arith | inr l ↦ (let s = l.1 in omega arith) ]);
-    last = λ id e. absurd (let f = none id in cc);
-    known = λ k h. absurd (let e = ap length empty in omega arith);
-    low = λ k h. absurd (let e = ap length empty in omega arith);
-    apart = λ j k l h. absurd (let e = ap length empty in omega arith);
-  }
-
   last_or_before : (j t : ℕ) → j < t + 1 → (j < t) ⊎ (j ≡ t)
   last_or_before j t h = grind arith
 

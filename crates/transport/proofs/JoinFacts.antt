@@ -1,5 +1,5 @@
 -- The groups of one dimension after those of the others.
-use Rattle.std.proofs.Common.{◌≡◌, ◌⊎◌, ◌↔◌, inl, inr, ℕ, ◌+◌, ◌-◌, ◌<◌, ◌≤◌, List, [], ◌++◌, length, get_or, slice_index, Option, Some, None, IsSome, Contains, refl, sym, ◌∙◌, ap, subst, arith, length-append}
+use Rattle.std.proofs.Common.{◌≡◌, ◌⊎◌, ◌↔◌, inl, inr, ℕ, ◌+◌, ◌-◌, ◌<◌, ◌≤◌, List, ◌++◌, length, get_or, slice_index, Option, Some, None, IsSome, Contains, refl, sym, ◌∙◌, ap, subst, arith, length-append}
 use Rattle.std.specs.List.Sorted.{IsStrictlyIncreasing}
 use Rattle.std.proofs.lemmas.Bool.{false≢true}
 use Rattle.std.proofs.lemmas.List.{get_or_past, get_or_default, get_or_append_left, get_or-append-add}
@@ -21,14 +21,6 @@ use Rattle.transport.proofs.CarryFacts.{is_carried}
 pub read_rule : (rules row : List (Option Rule)) (i : ℕ) (o : Option Rule) (r : Rule) → row ≡ rules → i < length rules → o ≡ get_or row i o → o ≡ Some r → rule_at rules i ≡ Some r
 read_rule rules row i o r same h at is =
     sym (at ∙ ap (λ (l : List (Option Rule)). get_or l i o) same ∙ get_or_default rules i o None h) ∙ is
-
-pub all_of_none : (Good : Group → Type 0) (Wanted : ℕ → ℕ → Type 0) (Among : ℕ → Type 0) → ((i t : ℕ) → Among i → Wanted i t → ⊥) → AreAllOf Good Wanted Among []
-all_of_none Good Wanted Among none = record {
-  good = λ n h. absurd (omega arith);
-  among = λ n h. absurd (omega arith);
-  all = λ i t a w. absurd (none i t a w);
-  ascending = λ m n l h. absurd (omega arith);
-}
 
 early_group : (xs ys : List Group) (n : ℕ) → n < length xs → group_at (xs ++ ys) n ≡ group_at xs n
 early_group xs ys n h = get_or_append_left xs ys no_group n h

@@ -1,14 +1,13 @@
 -- Marks of darts that stand side by side, and the cells that are found by them.
-use Rattle.std.proofs.Common.{◌≡◌, ◌≢◌, ◌⊎◌, ◌↔◌, inl, inr, ℕ, zero, suc, ◌+◌, ◌-◌, ◌<◌, ◌≤◌, List, [], ◌∷◌, ◌++◌, length, get_or, set, take, slice_index, Bool, true, false, ◌||◌, cond, nat_eq, Contains, IsTrue, IsPermutation, refl, sym, ◌∙◌, ap, subst, arith, get_or-set_other, get_or-set_same}
+use Rattle.std.proofs.Common.{◌≡◌, ◌≢◌, ◌⊎◌, inl, inr, ℕ, zero, suc, ◌+◌, ◌-◌, ◌<◌, ◌≤◌, List, [], ◌∷◌, ◌++◌, length, get_or, slice_index, Bool, true, false, cond, nat_eq, Contains, IsPermutation, refl, sym, ◌∙◌, ap, subst, arith}
 use Rattle.std.proofs.lemmas.Bool.{false≢true}
-use Rattle.std.proofs.lemmas.List.{get_or_default}
-use Rattle.std.proofs.lemmas.List.Folds.{list_any_at, list_any_more}
+use Rattle.std.proofs.lemmas.List.Folds.{list_any_at}
 use Rattle.std.specs.List.Sorted.{IsNonDecreasingBy}
 use Rattle.store_defs.specs.Groups.{Group, no_group, group_at, least_of}
 use Rattle.transport.specs.Pieces.{IsBareCell, AreBareCells}
 use Rattle.transport.specs.Marks.{Marks, mark_at, IsMarkedAt, is_among}
 use Rattle.transport.specs.Found.{IsInSome, AreHeld, AreMarkedFound, IsCellAddedAt}
-use Rattle.transport.proofs.Lists.{at_front, at_back, one_more, back_or_front, each_pushed, held_at, place_of}
+use Rattle.transport.proofs.Lists.{at_front, at_back, back_or_front, each_pushed, held_at}
 use Rattle.transport.proofs.Gathering.{told_eq}
 use Rattle.transport.proofs.Finding.{AreClasses, least_in, some_in_front, some_in_back, new_whole, held_sorted}
 
@@ -26,28 +25,6 @@ has_among darts x (i, h, e) = list_any_at (nat_eq x) darts i x h (ap (nat_eq x) 
     same (inl t) = t.1
     same (inr t) = absurd (t.0 refl)
 
--- one more dart gets the mark
-pub among_more : (darts : List ℕ) (k d x : ℕ) (mark old : Bool) → k < length darts → d ≡ get_or darts k d
-    → cond (nat_eq x d) mark (cond (is_among (take k darts) x) mark old) ≡ cond (is_among (take (k + 1) darts) x) mark old
-among_more darts k d x mark old h e = go (is_among (take k darts) x) (nat_eq x d) ∙ sym (ap (λ b. cond b mark old) (list_any_more (nat_eq x) darts k d h ∙ ap (λ y. is_among (take k darts) x || nat_eq x y) (sym e)))
-  where
-    go : (a b : Bool) → cond b mark (cond a mark old) ≡ cond (a || b) mark old
-    go true true = refl
-    go true false = refl
-    go false true = refl
-    go false false = refl
-
--- the dart at a place gets the mark, and no other does
-pub put_at : (marks : List Bool) (first d at : ℕ) (mark : Bool) → at < length marks → at + first ≡ d → (p : ℕ) → p < length marks
-    → get_or (set marks at mark) p false ≡ cond (nat_eq (p + first) d) mark (get_or marks p false)
-put_at marks first d at mark within is p h = go (told_eq (p + first) d)
-  where
-    go : ((p + first ≡ d) × (nat_eq (p + first) d ≡ true)) ⊎ ((p + first ≢ d) × (nat_eq (p + first) d ≡ false)) → get_or (set marks at mark) p false ≡ cond (nat_eq (p + first) d) mark (get_or marks p false)
-    go (inl t) =
-        let e : p ≡ at = (let s = t.0 in omega arith) in
-        rw t.1 (ap (λ q. get_or (set marks at mark) q false) e ∙ get_or-set_same marks at mark false within)
-    go (inr t) = rw t.1 (get_or-set_other marks at p mark false (λ e. t.0 (ap (λ q. q + first) e ∙ is)))
-
 -- what is marked stands in the list
 pub marked_within : (marks : List Bool) (p : ℕ) → get_or marks p false ≡ true → p < length marks
 marked_within [] p h = absurd (false≢true h)
@@ -58,25 +35,6 @@ marked_within (m ∷ marks) (suc p) h = let l = marked_within marks p h in omega
 pub record AreEnds (darts : List ℕ) (looked first last : ℕ) : Type 0 where
   pub some : 0 < first
   pub within : (j : ℕ) → j < looked → (first ≤ slice_index darts j) × (slice_index darts j ≤ last)
-
-pub ends_more : (darts : List ℕ) (k d first last low high : ℕ) → AreEnds darts k first last → k < length darts → d ≡ get_or darts k d → 0 < low → low ≤ first → low ≤ d → last ≤ high → d ≤ high → AreEnds darts (k + 1) low high
-ends_more darts k d first last low high ends h is some down at up from = record {
-  some = some;
-  within = λ j l. elim (case j l) [
-    | inl s ↦ (let w = ends.within j s in let a = w.0 in let b = w.1 in (omega arith, omega arith))
-    | inr s ↦ (let e : slice_index darts j ≡ d = ap (slice_index darts) s ∙ sym (is ∙ get_or_default darts k d 0 h) in (omega arith, omega arith))
-  ];
-}
-  where
-    case : (j : ℕ) → j < k + 1 → (j < k) ⊎ (j ≡ k)
-    case j s = grind arith
-
-pub ends_all : (darts : List ℕ) (looked first last : ℕ) → length darts ≤ looked → AreEnds darts looked first last → (d : ℕ) → Contains darts d → (first ≤ d) × (d ≤ last)
-ends_all darts looked first last past ends d has =
-    let p = place_of darts d has in
-    let l = p.1 in
-    let w = ends.within p.0 (omega arith) in
-    subst (λ x. (first ≤ x) × (x ≤ last)) p.2 w
 
 module _ (Cell : ℕ → ℕ → Type 0) (classes : AreClasses Cell) (i : ℕ) where
   -- all touched darts are marked at first

@@ -22,9 +22,6 @@ group_set gs n m g h = elim (told_eq m n) [
 ]
 
 module _ (rule : Meaning) (pool : Store) (pieces : List Piece) where
-  pub merged_none : (cells : List Group) → ((n : ℕ) → n < length cells → (group_at cells n).value ≡ None) → AreMerged rule pool pieces 0 cells cells
-  merged_none cells bare = record { size = refl; dims = λ n. refl; darts = λ n. refl; values = bare }
-
   -- the piece at a place, as it is read
   pub read_piece : (k : ℕ) (p : Piece) → k < length pieces → p ≡ get_or pieces k p → p ≡ piece_at pieces k
   read_piece k p h e = e ∙ get_or_default pieces k p no_piece h
