@@ -55,6 +55,7 @@ impl BornRows {
     }
 
     /// No rows yet of darts that are numbered on from the first, with room for so many, each so wide.
+    /// [`AllocError`] comes where memory for that room is wanting.
     pub fn with_room(
         alloc: Global,
         first: Dart,
@@ -73,6 +74,7 @@ impl BornRows {
     }
 
     /// So many rows of darts that are numbered on from the first, each so wide, with all links free.
+    /// [`AllocError`] comes where memory for them is wanting, and where all their links together are more than a `usize` counts.
     pub fn zeros(alloc: Global, first: Dart, width: usize, rows: usize) -> Result<Self, AllocError>
         requires { first + rows ≤ 2 ^ 32 }
         ensures { IfOk result (λ born. born ≡ record { first = first; width = width; rows = replicate rows (replicate width 0); back = None }) }
