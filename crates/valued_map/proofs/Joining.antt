@@ -5,11 +5,12 @@ use Rattle.map_defs.specs.Kind.{Kind}
 use Rattle.map_defs.specs.LinkWords.{LinkWord, through, through_second, IsWithin}
 use Rattle.map_defs.specs.Links.{Links}
 use Rattle.map_defs.specs.Rows.{Rows, IsLive, IsSound, links_of, made, entry_of}
-use Rattle.map_defs.specs.Cells.{InCell}
+use Rattle.map_defs.specs.Cells.{InCell, here, onward}
 use Rattle.map_defs.specs.Edits.{Edit, IsLed}
 use Rattle.map_defs.specs.Laws.{Laws}
 use Rattle.map_defs.specs.Values.{Rule}
 use Rattle.link_laws.proofs.RowFacts.{rows_dimension}
+use Rattle.link_laws.proofs.CellFacts.{cell_back}
 use Rattle.edit_laws.proofs.RowWrites.{live-within}
 use Rattle.edit_laws.proofs.EditSound.{after-sound}
 use Rattle.value_laws.proofs.MapValues.{cell_trans}
@@ -22,7 +23,7 @@ use Rattle.label_laws.specs.Touching.{AreGrafted, IsBornApart, IsJoinedApart, Sp
 use Rattle.label_laws.proofs.Sparing.{settled-spare, kept-spare}
 use Rattle.valued_map.specs.declared.kept.Kept.{Kept}
 use Rattle.valued_map.specs.Keeping.{IsKept, KeepsThose}
-use Rattle.valued_map.specs.Changing.{AreAdded, LeadsApart, IsChangedIn}
+use Rattle.valued_map.specs.Changing.{AreAdded, LeadsApart, IsBeside, AreAlike, IsJoinedFrom, IsChangedIn}
 use Rattle.valued_map.proofs.Adding.{added-then, added-told, lived, long}
 use Rattle.valued_map.proofs.Rerouting.{AreChangedBelow, word-within}
 
@@ -132,14 +133,82 @@ module _ (k : Kind) (rows : Rows) (older : ℕ) where
         ]
       ]
 
+  -- or of none, where that has none
+  pub grafts-beside : (dim dart other : ℕ) (l m : Labeling) → older < dart → IsRelabelled l m dim dart (id_of l dim other) → id_of l dim dart ≡ None → m.made ≡ l.made → KeepsPlaces l m
+      → InCell k (links_of rows) dim dart other → AreGrafted k rows older (λ i. i ≡ dim) l m
+  grafts-beside dim dart other l m high given bare made-is places cell = go (id_of l dim other) refl
+    where
+      go : (o : Option ℕ) → id_of l dim other ≡ o → AreGrafted k rows older (λ i. i ≡ dim) l m
+      go (Some id) e = grafts-one dim dart other id l m high (subst (IsRelabelled l m dim dart) e given) made-is places cell e
+      go None e = record { each = λ i d. inl (same i d); made = made-is; places = places }
+        where
+          same : (i d : ℕ) → id_of m i d ≡ id_of l i d
+          same i d = elim (cases_eq i dim) [
+            | inr far ↦ given.others i d (inl far)
+            | inl dims ↦ elim (cases_eq d dart) [
+              | inr far ↦ given.others i d (inr far)
+              | inl darts ↦ ap (λ (j : ℕ). id_of m j d) dims ∙ ap (id_of m dim) darts ∙ given.here ∙ e ∙ sym bare ∙ sym (ap (id_of l dim) darts) ∙ sym (ap (λ (j : ℕ). id_of l j d) dims)
+            ]
+          ]
+
+  -- what holds of the darts beyond one number holds of those beyond a lesser one
+  pub grafts-beyond : (to : ℕ) → older ≤ to → (Dims : ℕ → Type 0) (l m : Labeling) → AreGrafted k rows to Dims l m → AreGrafted k rows older Dims l m
+  grafts-beyond to up Dims l m g = record {
+    each = λ i d. (elim (g.each i d) [
+      | inl same ↦ inl same
+      | inr given ↦ inr (given.0, (let high : to < d = given.1 in omega (arith, up, high)), given.2, given.3, given.4, given.5, given.6)
+    ]);
+    made = g.made;
+    places = g.places;
+  }
+
+  -- a dart that was made before has the id that it had
+  pub grafts-kept : (Dims : ℕ → Type 0) (l m : Labeling) → AreGrafted k rows older Dims l m → (i d : ℕ) → d ≤ older → id_of m i d ≡ id_of l i d
+  grafts-kept Dims l m g i d low = elim (g.each i d) [ inl same ↦ same | inr given ↦ absurd (let high : older < d = given.1 in omega arith) ]
+
+-- a dart that lies beside one up to a number does so while both have the ids that they had
+pub beside-kept : (k : Kind) (i : ℕ) (rows : Rows) (older : ℕ) (l m : Labeling) (x : ℕ) → id_of m i x ≡ id_of l i x → ((d : ℕ) → d ≤ older → id_of m i d ≡ id_of l i d)
+    → IsBeside k i rows older l x → IsBeside k i rows older m x
+beside-kept k i rows older l m x same kept (w, word, there, low, alike) = (w, word, there, low, same ∙ alike ∙ sym (kept (through (links_of rows) w x) low))
+
+-- Where the darts beyond one number up to another lie beside darts up to the first, none of them joined apart.
+module _ (k : Kind) (n i : ℕ) (rows : Rows) (sound : IsSound k n rows) (older to : ℕ) (l : Labeling) (beside : (x : ℕ) → older < x → x ≤ to → IsBeside k i rows older l x) where
+  -- a word leads to live darts
+  led-live : (w : LinkWord) (x : ℕ) → through (links_of rows) w x ≢ 0 → IsLive rows (through (links_of rows) w x)
+  led-live w x = go w.second
+    where
+      go : (s : Option ℕ) → through_second (links_of rows) s (links_of rows w.first x) ≢ 0 → IsLive rows (through_second (links_of rows) s (links_of rows w.first x))
+      go None there = sound.live w.first x there
+      go (Some j) there = sound.live j (links_of rows w.first x) there
+
+  -- a live dart up to the second number has the id of one up to the first in its cell
+  root : Laws k (links_of rows) → (y : ℕ) → IsLive rows y → y ≤ to → (z : ℕ) × IsLive rows z × (z ≤ older) × InCell k (links_of rows) i y z × (id_of l i y ≡ id_of l i z)
+  root laws y live high = elim (cases_lt older y) [
+    | inr low ↦ (y, live, low, here, refl)
+    | inl born ↦ (let (w, word, there, low, alike) = beside y born high in
+        (through (links_of rows) w y, led-live w y there, low, onward here (w, word, refl, there), alike))
+  ]
+
+  pub beside-joined : (x : ℕ) → IsJoinedFrom k i rows older l x → to < x
+  beside-joined x (laws, alike, (live, high, (v, cell, there, less, apart))) = elim (cases_lt to x) [
+    | inl beyond ↦ beyond
+    | inr within ↦ absurd (
+        let y : ℕ = through (links_of rows) v x in
+        let a = root laws x live within in
+        let b = root laws y (led-live v x there) (omega (arith, within, less)) in
+        apart (b.4 ∙ alike a.0 b.0 a.1 b.1 a.2 b.2
+        (cell_trans k (links_of rows) i a.0 x b.0 (cell_back k (links_of rows) laws i x a.0 a.3) (cell_trans k (links_of rows) i x y b.0 (onward here (v, cell, refl, there)) b.3))
+        ∙ sym a.4))
+  ]
+
 -- a dimension in which the ids stay has the same darts changed
 pub changed-alike : (k : Kind) (n : ℕ) (e : Edit) (rows : Rows) (rules : List (Option Rule)) (kept : Kept) (l m : Labeling) (i : ℕ) → ((d : ℕ) → id_of m i d ≡ id_of l i d)
     → (x : ℕ) → IsChangedIn k n e rows rules kept m i x → IsChangedIn k n e rows rules kept l i x
-changed-alike k n e rows rules kept l m i same x (ruled, inl (loose, (old, led, w, wn, (before, after, (v, cell, moved, unsettled))))) = (
+changed-alike k n e rows rules kept l m i same x (ruled, inl (loose, inl (old, led, w, wn, (before, after, (v, cell, moved, unsettled))))) = (
   ruled,
   inl (
     loose,
-    (
+    inl (
       old,
       led,
       w,
@@ -160,10 +229,19 @@ changed-alike k n e rows rules kept l m i same x (ruled, inl (loose, (old, led, 
     ),
   ),
 )
-changed-alike k n e rows rules kept l m i same x (ruled, inr (inl (live, (v, cell, high, less, apart)))) =
-    (ruled, inr (inl (live, (v, cell, high, less, λ alike. apart (same (through (links_of rows) v x) ∙ alike ∙ sym (same x))))))
-changed-alike k n e rows rules kept l m i same x (ruled, inr (inr (keeps, (live, high, (v, cell, there, less, apart))))) =
-    (ruled, inr (inr (keeps, (live, high, (v, cell, there, less, λ alike. apart (same (through (links_of rows) v x) ∙ alike ∙ sym (same x)))))))
+changed-alike k n e rows rules kept l m i same x (ruled, inl (loose, inr (live, (v, cell, high, less, apart)))) =
+    (ruled, inl (loose, inr (live, (v, cell, high, less, λ alike. apart (same (through (links_of rows) v x) ∙ alike ∙ sym (same x))))))
+changed-alike k n e rows rules kept l m i same x (ruled, inr (keeps, (laws, alike, (live, high, (v, cell, there, less, apart))))) = (
+  ruled,
+  inr (
+    keeps,
+    (
+      laws,
+      λ y z ly lz low below within. sym (same z) ∙ alike y z ly lz low below within ∙ same y,
+      (live, high, (v, cell, there, less, λ is. apart (same (through (links_of rows) v x) ∙ is ∙ sym (same x)))),
+    ),
+  ),
+)
 
 -- and so the lists of the dimensions before stay right where darts are given ids of one dimension
 pub changed-later : (k : Kind) (n : ℕ) (e : Edit) (rows : Rows) (rules : List (Option Rule)) (kept : Kept) (older : ℕ) (l m : Labeling) (dim : ℕ) (lists : List (List ℕ))
@@ -175,7 +253,7 @@ changed-later k n e rows rules kept older l m dim lists grafts a = record {
 }
   where
     same : (i : ℕ) → i < dim → (d : ℕ) → id_of m i d ≡ id_of l i d
-    same i low d = elim (grafts.each i d) [ inl stays ↦ stays | inr given ↦ absurd (let here : i ≡ dim = given.0.0 in omega arith) ]
+    same i low d = elim (grafts.each i d) [ inl stays ↦ stays | inr given ↦ absurd (let same : i ≡ dim = given.0.0 in omega arith) ]
 
 -- a dart that was not made has no id
 pub unlabelled : (k : Kind) (n : ℕ) (rows : Rows) (l : Labeling) (p : Store) (rules : List (Option Rule)) → IsStoredMap k n rows l p rules → (i d : ℕ) → made rows < d → id_of l i d ≡ None
@@ -226,10 +304,10 @@ pub changed-spare : (k : Kind) (n : ℕ) (e : Edit) (rows : Rows) (rules : List 
     → (old : Rows) (pool : Store) → IsLed k n e old rows → IsStoredMap k n old l pool rules → KeepsThose k kept old rows → Laws k (links_of rows)
     → (i : ℕ) → IsSome (rule_at rules i) → Spares k i rows g (Contains (darts_in lists i))
 changed-spare k n e rows rules kept l g lists grafts all old pool led stored keeps laws i ruled = elim (kept-or-not kept i) [
-  | inl here ↦ kept-spare k n i old rows stored.laws laws (led-sound k n e old rows led) l pool stored.stored (made rows - e.births) first was (λ j. IsSome (rule_at rules j)) g grafts
-      (keeps i here) (Contains (darts_in lists i)) (λ x joined. all i x (ruled, inr (inr (here, joined))))
+  | inl stays ↦ kept-spare k n i old rows stored.laws laws (led-sound k n e old rows led) l pool stored.stored (made rows - e.births) first was (λ j. IsSome (rule_at rules j)) g grafts
+      (keeps i stays) (Contains (darts_in lists i)) (λ x joined. all i x (ruled, inr (stays, (laws, alike stays, joined))))
   | inr loose ↦ settled-spare k n i old rows stored.laws laws (led-sound k n e old rows led) l pool stored.stored (made rows - e.births) first was (λ j. IsSome (rule_at rules j)) g grafts
-      (Contains (darts_in lists i)) (λ x unsettled. all i x (ruled, inl (loose, (old, led, stored.laws, laws, unsettled)))) (λ x apart. all i x (ruled, inr (inl apart)))
+      (Contains (darts_in lists i)) (λ x unsettled. all i x (ruled, inl (loose, inl (old, led, stored.laws, laws, unsettled)))) (λ x apart. all i x (ruled, inl (loose, inr apart)))
 ]
   where
     first : (x : ℕ) → IsLive old x → x ≤ made rows - e.births
@@ -237,3 +315,18 @@ changed-spare k n e rows rules kept l g lists grafts all old pool led stored kee
 
     was : (x : ℕ) → IsLive rows x → x ≤ made rows - e.births → IsLive old x
     was x live low = lived k n e old rows led x live (let more = long k n e old rows led in let begun = led.begun in omega (arith, more))
+
+    -- the darts of an old cell had the same id
+    same-id : (y z : ℕ) → InCell k (links_of old) i y z → id_of l i z ≡ id_of l i y
+    same-id y z cell = go (id_of l i y) (id_of l i z) refl refl
+      where
+        go : (a b : Option ℕ) → id_of l i y ≡ a → id_of l i z ≡ b → id_of l i z ≡ id_of l i y
+        go (Some c) b e1 e2 = stored.stored.whole i y z c e1 cell ∙ sym e1
+        go None None e1 e2 = e2 ∙ sym e1
+        go None (Some c) e1 e2 = e2 ∙ sym (stored.stored.whole i z y c e2 (cell_back k (links_of old) stored.laws i y z cell))
+
+    alike : IsKept kept i → AreAlike k i rows (made rows - e.births) g
+    alike stays y z live lives low below cell =
+        grafts-kept k rows (made rows - e.births) (λ j. IsSome (rule_at rules j)) l g grafts i z below
+        ∙ same-id y z ((keeps i stays y z (was y live low) (was z lives below)).0 cell)
+        ∙ sym (grafts-kept k rows (made rows - e.births) (λ j. IsSome (rule_at rules j)) l g grafts i y low)

@@ -3,6 +3,7 @@ use Rattle.std.specs.Prelude.{ℕ, ◌≡◌, ◌≢◌, ◌+◌, ◌-◌, ◌�
 use Rattle.map_defs.specs.Kind.{Kind}
 use Rattle.map_defs.specs.LinkWords.{LinkWord, through, IsCellWord, IsWithin}
 use Rattle.map_defs.specs.Rows.{Rows, IsLive, links_of, made}
+use Rattle.map_defs.specs.Cells.{InCell}
 use Rattle.map_defs.specs.Laws.{Laws}
 use Rattle.map_defs.specs.Edits.{Change, Edit, IsLed}
 use Rattle.map_defs.specs.Values.{Rule}
@@ -81,11 +82,24 @@ IsApartFrom rows labels i Words lesser x = (id_of labels i lesser ≢ id_of labe
 abbrev pub LeadsApart : Kind → ℕ → Rows → Labeling → ℕ → Type 0
 LeadsApart k i rows labels x = (w : LinkWord) × IsCellWord k i w × IsApartAlong rows labels i w x
 
--- x is not settled, unless the cells of the dimension are kept; or it was born and lies apart; or where they are kept, it was born
--- and joined apart
+-- a word of the i-cells leads x to a dart up to this number, which has the same id
+abbrev pub IsBeside : Kind → ℕ → Rows → ℕ → Labeling → ℕ → Type 0
+IsBeside k i rows older labels x = (w : LinkWord) × IsCellWord k i w × (through (links_of rows) w x ≢ 0) × (through (links_of rows) w x ≤ older)
+    × (id_of labels i x ≡ id_of labels i (through (links_of rows) w x))
+
+-- the live darts up to this number that lie in one i-cell have the same id
+abbrev pub AreAlike : Kind → ℕ → Rows → ℕ → Labeling → Type 0
+AreAlike k i rows older labels = (y z : ℕ) → IsLive rows y → IsLive rows z → y ≤ older → z ≤ older → InCell k (links_of rows) i y z → id_of labels i z ≡ id_of labels i y
+
+-- x is beyond it and joined apart, in a lawful map where they are alike
+abbrev pub IsJoinedFrom : Kind → ℕ → Rows → ℕ → Labeling → ℕ → Type 0
+IsJoinedFrom k i rows older labels x = Laws k (links_of rows) × AreAlike k i rows older labels × IsJoinedApart k i rows older labels x
+
+-- Where the cells of the dimension are not kept, x is not settled, or it was born and lies apart; where they are, it was born and
+-- joined apart.
 abbrev pub IsMovedIn : Kind → ℕ → Edit → Rows → Kept → Labeling → ℕ → ℕ → Type 0
-IsMovedIn k n e rows kept labels i x = ((IsKept kept i → ⊥) × IsUnsettledFrom k n e rows i labels x)
-    ⊎ (IsBornApart k i rows (made rows - e.births) labels x ⊎ (IsKept kept i × IsJoinedApart k i rows (made rows - e.births) labels x))
+IsMovedIn k n e rows kept labels i x = ((IsKept kept i → ⊥) × (IsUnsettledFrom k n e rows i labels x ⊎ IsBornApart k i rows (made rows - e.births) labels x))
+    ⊎ (IsKept kept i × IsJoinedFrom k i rows (made rows - e.births) labels x)
 
 -- and the dimension has a rule
 abbrev pub IsChangedIn : Kind → ℕ → Edit → Rows → List (Option Rule) → Kept → Labeling → ℕ → ℕ → Type 0

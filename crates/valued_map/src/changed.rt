@@ -1,13 +1,13 @@
 //! The darts whose cells an edit may have changed. A cell that only gains darts just born is none of these: they are given its
 //! id, and nothing else of it is looked at.
-ghost use Rattle.std.specs.Prelude.{◌≡◌, ◌≢◌, ◌↔◌, ℕ, ◌+◌, ◌-◌, ◌≤◌, ◌<◌, length, map, Contains, IsTrue, IsNone, IsSome, IfOk, IfSome, Some, None, OnOk, slice_index};
+ghost use Rattle.std.specs.Prelude.{◌≡◌, ◌≢◌, ◌↔◌, ℕ, ◌+◌, ◌-◌, ◌≤◌, ◌<◌, length, map, Contains, IsTrue, false, IsNone, IsSome, IfOk, IfSome, Some, None, OnOk, slice_index};
 ghost use Rattle.map_defs.specs.LinkWords.{LinkWord as MapWord, through, IsCellWord, IsWithin};
 ghost use Rattle.map_defs.specs.Rows.{IsLive, IsSound, links_of, made};
 ghost use Rattle.map_defs.specs.Cells.{InCell};
 ghost use Rattle.store_defs.specs.Labelings.{id_of, HasPlaces};
 ghost use Rattle.store_defs.specs.Groups.{darts_in, rule_at};
 ghost use Rattle.label_laws.specs.Touching.{AreGrafted, IsJoinedApart};
-ghost use Rattle.valued_map.specs.Changing.{AreAdded, IsListPut, IsLowerAlong, IsApartAlong, IsApartFrom, LeadsApart, IsMovedIn, IsChangedIn};
+ghost use Rattle.valued_map.specs.Changing.{AreAdded, IsListPut, IsLowerAlong, IsApartAlong, IsApartFrom, LeadsApart, IsBeside, IsJoinedFrom, IsMovedIn, IsChangedIn};
 
 use crate::kept::Kept;
 use crate::passing::may_touch;
@@ -152,12 +152,127 @@ fn changed_along<K: Kind, const DIM: usize>(
         → IsMovedIn K.kind DIM edit.now links.now.rows kept labels.new dim x → Contains changed.items x) }
 {
     let mut touched = Vec::new(alloc);
-    graft_born(links, labels, older, dim, words, &mut touched)?;
     if kept.has(dim) {
+        graft_kept(links, labels, older, dim, words, &mut touched)?;
         return Ok(touched);
     }
+    graft_born(links, labels, older, dim, words, &mut touched)?;
     add_touched(links, labels, edit, older, dim, words, &mut touched)?;
     Ok(touched)
+}
+
+/// Gives each dart beyond a number an id of a cell that it joined, where the cells of the darts up to it are kept, and adds those
+/// that joined apart. As long as darts up to the number lie beside the others, the ids of these do not differ, and are not compared.
+fn graft_kept<K: Kind, const DIM: usize>(
+    links: &Links<K, DIM>,
+    labels: &mut Labels<DIM>,
+    older: u32,
+    dim: usize,
+    words: &[LinkWord],
+    touched: &mut Vec<Dart>,
+) -> Result<(), AllocError>
+    requires sound { IsSound K.kind DIM links.now.rows }
+    requires older { older ≤ made links.now.rows }
+    requires dim { dim ≤ DIM }
+    requires long { made links.now.rows ≤ labels.old.made }
+    requires placed { HasPlaces labels.old dim }
+    requires bare { (d : ℕ) → older < d → id_of labels.old dim d ≡ None }
+    requires words { (w : MapWord) → Contains words.now w ↔ (IsCellWord K.kind dim w × IsWithin DIM w) }
+    ensures grafted { AreGrafted K.kind links.now.rows older (λ i. i ≡ dim) labels.old labels.new }
+    ensures added { OnOk result (AreAdded links.now.rows (IsJoinedFrom K.kind dim links.now.rows older labels.new) touched.old.items touched.new.items) }
+{
+    let beside = graft_beside(links, labels, older, dim, words);
+    graft_born(links, labels, beside, dim, words, touched)
+}
+
+/// Gives the darts beyond a number the ids of darts up to it that lie beside them, in turn, up to the first beside which none lies.
+/// Answers the number up to which it came.
+fn graft_beside<K: Kind, const DIM: usize>(
+    links: &Links<K, DIM>,
+    labels: &mut Labels<DIM>,
+    older: u32,
+    dim: usize,
+    words: &[LinkWord],
+) -> u32
+    requires sound { IsSound K.kind DIM links.now.rows }
+    requires older { older ≤ made links.now.rows }
+    requires dim { dim ≤ DIM }
+    requires long { made links.now.rows ≤ labels.old.made }
+    requires placed { HasPlaces labels.old dim }
+    requires bare { (d : ℕ) → older < d → id_of labels.old dim d ≡ None }
+    requires words { (w : MapWord) → Contains words.now w ↔ (IsCellWord K.kind dim w × IsWithin DIM w) }
+    ensures from { older ≤ result }
+    ensures to { result ≤ made links.now.rows }
+    ensures grafted { AreGrafted K.kind links.now.rows older (λ i. i ≡ dim) labels.old labels.new }
+    ensures bare { (d : ℕ) → result < d → id_of labels.new dim d ≡ None }
+    ensures beside { (x : ℕ) → older < x → x ≤ result → IsBeside K.kind dim links.now.rows older labels.new x }
+{
+    for number in older + 1..links.made() + 1 {
+        if !join_older(links, labels, older, dim, words, number) {
+            return number - 1;
+        }
+    }
+    links.made()
+}
+
+/// Gives the dart of a number the id of a dart up to the number `older` to which some word leads it, if there is one. Answers
+/// whether there is.
+fn join_older<K: Kind, const DIM: usize>(
+    links: &Links<K, DIM>,
+    labels: &mut Labels<DIM>,
+    older: u32,
+    dim: usize,
+    words: &[LinkWord],
+    number: u32,
+) -> bool
+    requires dim { dim ≤ DIM }
+    requires high { older < number }
+    requires number { number ≤ labels.old.made }
+    requires placed { HasPlaces labels.old dim }
+    requires bare { id_of labels.old dim number ≡ None }
+    requires words { (w : MapWord) → Contains words.now w ↔ (IsCellWord K.kind dim w × IsWithin DIM w) }
+    ensures grafted { AreGrafted K.kind links.now.rows older (λ i. i ≡ dim) labels.old labels.new }
+    ensures others { (j d : ℕ) → d ≢ number → id_of labels.new j d ≡ id_of labels.old j d }
+    ensures beside { IsTrue result → IsBeside K.kind dim links.now.rows older labels.new number }
+    ensures none { result ≡ false → labels.new ≡ labels.old }
+{
+    // A map has links 0 to 8 at most.
+    links.see_sound();
+    let Some(dart) = Dart::new(number) else {
+        return false;
+    };
+    let Some(row) = links.row(dart) else {
+        return false;
+    };
+    let Some(other) = older_along(links, older, words, row, dart) else {
+        return false;
+    };
+    let id = labels.id(dim, other);
+    labels.put(dim, dart, id);
+    true
+}
+
+/// The dart up to a number to which the first word leads that leads a dart with this row to one, if there is one.
+fn older_along<K: Kind, const DIM: usize>(
+    links: &Links<K, DIM>,
+    older: u32,
+    words: &[LinkWord],
+    row: &Row<DIM>,
+    dart: Dart,
+) -> Option<Dart>
+    requires row { (t : ℕ) → slice_index row.now t ≡ links_of links.now.rows t dart }
+    requires words { (w : MapWord) → Contains words.now w → IsWithin DIM w }
+    ensures { IfSome result (λ other. (w : MapWord) × Contains words.now w × (other ≡ through (links_of links.now.rows) w dart) × (other ≢ 0) × (other ≤ older)) }
+{
+    // A map has links 0 to 8 at most.
+    links.see_sound();
+    for word in words {
+        let number = number_along(links, *word, row, dart);
+        if number != 0 && number <= older {
+            return Dart::new(number);
+        }
+    }
+    None
 }
 
 /// Gives each dart beyond a number an id of a cell that it joined, and adds those from which some word leads to a lesser dart

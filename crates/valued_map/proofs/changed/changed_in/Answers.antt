@@ -14,16 +14,16 @@ returns-then-not-may_touch-clause-all g c = λ x moved.
     let older : ℕ = c.made.result - c.edit.inside.births in
     let bare-above = c.requires.bare in
     elim moved [
-      | inr (inl apart) ↦ absurd (bare-alike g.K.Kind.kind c.args.dim c.args.links.now.rows (made c.args.links.now.rows - c.args.edit.now.births) c.args.labels.now bare-above x apart)
-      | inr (inr joined) ↦ absurd (false≢true (sym c.if-not-has.true ∙ c.has.ensures.1 joined.0))
-      | inl loose ↦ absurd (none-unsettled g.K.Kind.kind g.row.DIM c.args.edit.now c.args.links.now.rows c.args.dim c.args.labels.now c.made.ensures.sound older (omega (arith, c.requires.births, c.made.ensures.made, births-is))
+      | inl (not, inr apart) ↦ absurd (bare-alike g.K.Kind.kind c.args.dim c.args.links.now.rows (made c.args.links.now.rows - c.args.edit.now.births) c.args.labels.now bare-above x apart)
+      | inr joined ↦ absurd (false≢true (sym c.if-not-has.true ∙ c.has.ensures.1 joined.0))
+      | inl (not, inl loose) ↦ absurd (none-unsettled g.K.Kind.kind g.row.DIM c.args.edit.now c.args.links.now.rows c.args.dim c.args.labels.now c.made.ensures.sound older (omega (arith, c.requires.births, c.made.ensures.made, births-is))
           (λ b here old live followed.
           let mine = subst (λ (bs : List Change). Contains bs b) (sym (ap (λ (e : Edit). e.changes) c.edit.view_is)) here in
           let told = rerouting-told g.K.Kind.kind c.args.dim c.args.links.now.rows older c.edit.inside.changes.items c.edit.inside.born b mine (old, live, followed) in
           false≢true (sym c.if-not-may_touch.true ∙ c.may_touch.ensures.1
           (subst (λ (cs : List Change). BeginBy c.edit.inside.born older ⊎ (LeadsBackIn g.K.Kind.kind c.args.dim c.edit.inside.born
           ⊎ ((x : Change) × Contains cs x × MayReroute g.K.Kind.kind c.args.dim c.args.links.now.rows older x))) (sym c.deref.ensures.value) told)))
-          x loose.1)
+          x loose)
     ]
 
 pub changed_along-requires : goal.changed_along-requires
