@@ -16,7 +16,7 @@ use Rattle.insert_laws.proofs.Fresh.{IsNew}
 use Rattle.insert_laws.proofs.BetaParts.{onward_of, backward_of}
 use Rattle.center_laws.proofs.BetaCentre.{centre_keeps}
 use Rattle.center_laws.proofs.TwoSeries.{series_fresh}
-use Rattle.kept_laws.specs.Keeping.{KeepsCells}
+use Rattle.kept_laws.specs.Keeping.{KeepsCells, LieAside}
 use Rattle.kept_laws.proofs.Numbered.{gets-or-not, new-or-not, low-apart}
 use Rattle.kept_laws.proofs.LiveDarts.{link-low, orbit-low}
 use Rattle.kept_laws.proofs.Frames.{StandsFor, Reaches, reaches-old, reaches-new}
@@ -170,8 +170,8 @@ module _ (Live : ℕ → Type 0) (made : ℕ) (keys : List ℕ) (star tip : ℕ 
       })
       from (inr m) = inl (one-else x o m)
 
-  -- a vertex in the middle of a closed face keeps the vertices of the old darts
-  pub beta-centre-keeps : KeepsCells beta 0 Live L N
+  -- a vertex in the middle of a closed face keeps the vertices of the old darts, and the ends of its edges lie at vertices of their own
+  pub beta-centre-keeps : KeepsCells beta 0 Live L N × LieAside beta 0 (IsNew K tip) (λ x. x ≤ made) N
   beta-centre-keeps = keeps-by-leaving Live made counted L N to w laws K keys star ms (IsNew K tip) (λ c u. L 1 c ≡ u) low-tip high one
       (new-or-not K keys (made + length keys) tip mt)
       (λ c k (y, h, e). fresh.2 c y k h e)

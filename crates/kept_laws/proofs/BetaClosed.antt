@@ -211,12 +211,12 @@ module _ (Live : ℕ → Type 0) (keys : List ℕ) (made : ℕ) (star : ℕ → 
 
   -- so the vertices are kept
   closing-keeps : KeepsCells beta 0 Live L N
-  closing-keeps = keeps-by-words Live made counted L N live w laws K keys star numbers (λ _. ⊥) (BeginsAtEnd L)
+  closing-keeps = (keeps-by-words Live made counted L N live w laws K keys star numbers (λ _. ⊥) (BeginsAtEnd L)
       (λ x. inr (λ h. h)) (λ x l h. h) (λ c k h. h) (λ c a b k p q. ends-in-one L w c a b p q)
       from-old
       from-new
       (λ z i j h. absurd h)
-      old-step
+      old-step).0
 
 -- closing at link 2 keeps the vertices
 pub beta-closing-keeps : (rows : Rows) (keys : List ℕ) (made : ℕ) (star : ℕ → ℕ) (L N : Links)

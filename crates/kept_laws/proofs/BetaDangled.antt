@@ -15,7 +15,7 @@ use Rattle.insert_laws.proofs.BetaEdge.{before_copy}
 use Rattle.insert_laws.proofs.ClosedFree.{live_bound}
 use Rattle.center_laws.proofs.BetaDangle.{corner_begins, dangle_keeps}
 use Rattle.center_laws.proofs.TwoSeries.{series_fresh}
-use Rattle.kept_laws.specs.Keeping.{KeepsCells}
+use Rattle.kept_laws.specs.Keeping.{KeepsCells, LieAside}
 use Rattle.kept_laws.proofs.Numbered.{gets-or-not, new-or-not, low-apart}
 use Rattle.kept_laws.proofs.LiveDarts.{orbit-low}
 use Rattle.kept_laws.proofs.Frames.{StandsFor, Reaches, reaches-old, reaches-new}
@@ -171,8 +171,8 @@ module _ (Live : ℕ → Type 0) (made : ℕ) (keys : List ℕ) (star tip : ℕ 
       })
       from (inr m) = inl (one-else x o m)
 
-  -- a dangling edge keeps the vertices of the old darts
-  pub beta-dangle-keeps : KeepsCells beta 0 Live L N
+  -- a dangling edge keeps the vertices of the old darts, and its tips lie at vertices of their own
+  pub beta-dangle-keeps : KeepsCells beta 0 Live L N × LieAside beta 0 (IsNew K tip) (λ x. x ≤ made) N
   beta-dangle-keeps = keeps-by-leaving Live made counted L N to w laws K keys star ms (IsNew K tip) (λ c u. c ≡ u) low-tip high one
       (new-or-not K keys (made + length keys) tip mt)
       (λ c k (y, h, e). fresh.2 c y k h e)

@@ -136,14 +136,14 @@ module _ (Live : ℕ → Type 0) (made : ℕ) (counted : IsCounted made Live) (L
 
   -- so the vertices are kept
   cut-keeps : KeepsCells beta 0 Live L N
-  cut-keeps = keeps-by-leaving Live made counted L N to w laws (IsCorner Turn) keys star numbers (λ _. ⊥) (λ c u. c ≡ u) (λ x l h. h)
+  cut-keeps = (keeps-by-leaving Live made counted L N to w laws (IsCorner Turn) keys star numbers (λ _. ⊥) (λ c u. c ≡ u) (λ x l h. h)
       (λ j x l o. high_out L w Turn turn star fresh N s j x l o.0)
       one
       (λ x. inr (λ h. h))
       (λ c k h. h)
       (λ c a b k e g. rw (sym e ∙ g) here)
       (λ c i j (y, p) a b n. (c, refl, from-new c y i j p a b n))
-      (λ z i j h. absurd h)
+      (λ z i j h. absurd h)).0
 
 -- an edge in a face keeps the vertices
 pub beta-edge-keeps : (Live : ℕ → Type 0) (made : ℕ) (keys : List ℕ) (star : ℕ → ℕ) (L N : Links)

@@ -1,6 +1,7 @@
 pub mod Numbered
 pub mod LiveDarts
 pub mod CellSteps
+pub mod Asides
 pub mod Frames
 pub mod Boundary
 pub mod AlphaGrown

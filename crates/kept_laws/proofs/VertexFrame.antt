@@ -13,7 +13,8 @@ use Rattle.link_laws.proofs.CellFacts.{word_back, cell_back}
 use Rattle.insert_laws.proofs.Numbers.{numbered_one}
 use Rattle.insert_laws.proofs.Fresh.{IsNew}
 use Rattle.insert_laws.proofs.ClosedFree.{live_dart}
-use Rattle.kept_laws.specs.Keeping.{KeepsCells}
+use Rattle.kept_laws.specs.Keeping.{KeepsCells, LieAside}
+use Rattle.kept_laws.proofs.Asides.{lie-aside}
 use Rattle.kept_laws.proofs.Numbered.{new-or-not, low-apart}
 use Rattle.kept_laws.proofs.Frames.{StandsFor, Reaches, keeps-by-steps}
 use Rattle.kept_laws.proofs.VertexSteps.{vertex-trans}
@@ -103,6 +104,19 @@ module _ (Live : ℕ → Type 0) (made : ℕ) (counted : IsCounted made Live) (L
             let r : (c : ℕ) × Stands y c × Reaches beta 0 L Stands c z = new-step y i j z out a b back dart in
             (r.0, r.1, vertex-trans L u r.2.0 r.0 (stands-one z u r.2.0 h r.2.1) (cell_back beta L w 0 r.0 r.2.0 r.2.2))
 
+    -- a step from a dart aside leads to one
+    aside-step : (z y : ℕ) → Aside z → Leads N (IsCellWord beta 0) z y → Aside y
+    aside-step z y h (s, inl (i, j, a, b, e), q, n) =
+        let g : N i (N j z) ≡ y = ap (λ t. through N t z) (sym e) ∙ q in subst Aside g (from-aside z i j h a b (λ o. n (sym g ∙ o)))
+    aside-step z y h (s, inr (p, (i, j, a, b, e), g), q, n) = from (aside-or-not y)
+      where
+        from : Aside y ⊎ (Aside y → ⊥) → Aside y
+        from (inl k) = k
+        from (inr out) =
+            let back : N i (N j y) ≡ z = turned N v s p i j z y e g q n in
+            let r : (c : ℕ) × Stands y c × Reaches beta 0 L Stands c z = new-step y i j z out a b back (word-dart beta N v s z y q n) in
+            absurd (stands-apart z r.2.0 r.2.1 h)
+
     -- the way of an old step
     up : (x y : ℕ) → x ≢ 0 → Leads L (IsCellWord beta 0) x y → InCell beta N 0 x y
     up x y hx (s, inl (i, j, a, b, e), q, n) =
@@ -112,10 +126,13 @@ module _ (Live : ℕ → Type 0) (made : ℕ) (counted : IsCounted made Live) (L
         let back : L i (L j y) ≡ x = turned L w s p i j x y e g q n in
         cell_back beta N v 0 y x (rw back at (old-step y i j a b (λ o. hx (sym back ∙ o))))
 
-    -- so the vertices are kept
-    pub keeps-by-words : KeepsCells beta 0 Live L N
-    keeps-by-words = keeps-by-steps beta 0 Live made counted L N to K keys star numbers (IsOther K star Aside) Beside
-        (λ x l. low-other K keys made star numbers Aside low-aside x (counted x l).1)
-        (λ z y h s. down z z y (inl (h, refl)) s)
-        (λ c u y h b s. down (star c) u y (inr (c, h, refl, b)) s)
-        (λ x y l s. up x y (live_dart made Live counted x l) s)
+    -- so the vertices are kept, and the darts aside lie at vertices of their own
+    pub keeps-by-words : KeepsCells beta 0 Live L N × LieAside beta 0 Aside (λ x. x ≤ made) N
+    keeps-by-words = (
+      keeps-by-steps beta 0 Live made counted L N to K keys star numbers (IsOther K star Aside) Beside
+          (λ x l. low-other K keys made star numbers Aside low-aside x (counted x l).1)
+          (λ z y h s. down z z y (inl (h, refl)) s)
+          (λ c u y h b s. down (star c) u y (inr (c, h, refl, b)) s)
+          (λ x y l s. up x y (live_dart made Live counted x l) s),
+      lie-aside beta 0 N Aside aside-step (λ x. x ≤ made) low-aside,
+    )

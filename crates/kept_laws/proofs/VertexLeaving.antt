@@ -11,7 +11,7 @@ use Rattle.link_laws.proofs.Basics.{same_or_not}
 use Rattle.link_laws.proofs.LawFacts.{dart_of_link}
 use Rattle.insert_laws.proofs.Numbers.{numbered_above}
 use Rattle.insert_laws.proofs.ClosedFree.{live_bound}
-use Rattle.kept_laws.specs.Keeping.{KeepsCells}
+use Rattle.kept_laws.specs.Keeping.{KeepsCells, LieAside}
 use Rattle.kept_laws.proofs.LiveDarts.{link-low}
 use Rattle.kept_laws.proofs.Frames.{StandsFor, Reaches, reaches-old, reaches-new}
 use Rattle.kept_laws.proofs.VertexSteps.{vertex-trans, around-in, leave-in}
@@ -87,11 +87,12 @@ module _ (Live : ℕ → Type 0) (made : ℕ) (counted : IsCounted made Live) (L
           (leave-in N (star r.over) 2 (L 1 (L j x)) (omega arith) r.out r.led))
       from (inr m) r = plain (high i (L j x) (omega arith) (still j x))
 
-  -- so the vertices are kept
+  -- so the vertices are kept, and the darts aside lie at vertices of their own
   pub keeps-by-leaving : IsTold Aside → ((c : ℕ) → K c → Aside (star c) → ⊥)
       → ((c a b : ℕ) → K c → Beside c a → Beside c b → InCell beta L 0 a b)
       → ((c i j : ℕ) → K c → 1 ≤ i → i < j → N i (N j (star c)) ≢ 0 → (u : ℕ) × Beside c u × Stood u (N i (N j (star c))))
-      → ((z i j : ℕ) → Aside z → 1 ≤ i → i < j → N i (N j z) ≢ 0 → Aside (N i (N j z))) → KeepsCells beta 0 Live L N
+      → ((z i j : ℕ) → Aside z → 1 ≤ i → i < j → N i (N j z) ≢ 0 → Aside (N i (N j z)))
+      → KeepsCells beta 0 Live L N × LieAside beta 0 Aside (λ x. x ≤ made) N
   keeps-by-leaving aside-or-not new-aside beside-one from-new from-aside =
       keeps-by-words Live made counted L N to w v K keys star numbers Aside Beside aside-or-not low-aside new-aside beside-one
       from-old from-new from-aside old-step

@@ -1,5 +1,5 @@
 //! Closing the map, hanging an edge at a corner, and putting a vertex in the middle of a face.
-ghost use Rattle.std.specs.Prelude.{◌≡◌, ◌↔◌, ℕ};
+ghost use Rattle.std.specs.Prelude.{◌≡◌, ◌↔◌, ℕ, ◌+◌, ◌≤◌};
 ghost use Rattle.machine_defs.specs.Script.{Close, Dangle, Center};
 ghost use Rattle.valued_map.specs.Keeping.{IsKept};
 ghost use Rattle.map_core.specs.Calls.{Does};
@@ -8,7 +8,7 @@ ghost use Rattle.map_core.specs.Numbers.{NamesClosingLink, IsKeptByClosing};
 use crate::map::Map;
 use attr_rules::Hook;
 use kind_edit::Edits;
-use link_rows::Links;
+use link_rows::{Edit, Links};
 use map_kind::{Done, Kind, Refusal, Refused, is_generalized};
 use std::alloc::Global;
 use valued_map::Kept;
@@ -48,7 +48,7 @@ impl<'h, K: Edits<DIM>, H: Hook, const DIM: usize> Map<'h, K, H, DIM> {
     {
         let dart = self.live_dart(dart)?;
         let edit = K::dangle_plan(alloc, self.links(), dart)?;
-        self.insert(alloc, &edit, Kept::VERTICES)
+        self.insert(alloc, &edit, kept_by_hanging(&edit))
     }
 
     /// Puts a vertex in the middle of the face of a dart, with an edge to each corner. Each dart of the face gets two new darts,
@@ -65,7 +65,7 @@ impl<'h, K: Edits<DIM>, H: Hook, const DIM: usize> Map<'h, K, H, DIM> {
     {
         let dart = self.live_dart(dart)?;
         let edit = K::center_plan(alloc, self.links(), dart)?;
-        self.insert(alloc, &edit, Kept::VERTICES)
+        self.insert(alloc, &edit, kept_by_hanging(&edit))
     }
 }
 
@@ -86,13 +86,30 @@ fn closing_link<K: Kind, const DIM: usize>(
     Ok(number as usize)
 }
 
+/// What is kept where edges are hung: the vertices, and the later half of the new darts, where the new edges end, lie at vertices of
+/// their own.
+fn kept_by_hanging(edit: &Edit) -> Kept
+    ensures among { (i : ℕ) → IsKept result i → i ≡ 0 }
+    ensures aside { result.aside + result.aside ≤ edit.now.births }
+{
+    Kept {
+        aside: edit.births / 2,
+        ..Kept::VERTICES
+    }
+}
+
 /// The dimensions whose cells are kept where a map is closed at a link: all below the link in a generalized map, and in a
 /// combinatorial map that of the vertices where the link is 2.
 fn kept_by_closing<K: Kind>(link: usize) -> Kept
-    ensures { (i : ℕ) → IsKept result i ↔ IsKeptByClosing K.kind link i }
+    ensures among { (i : ℕ) → IsKept result i ↔ IsKeptByClosing K.kind link i }
+    ensures aside { result.aside ≡ 0 }
 {
     if is_generalized::<K>() {
-        return Kept { from: 0, to: link };
+        return Kept {
+            from: 0,
+            to: link,
+            aside: 0,
+        };
     }
     if link == 2 {
         return Kept::VERTICES;

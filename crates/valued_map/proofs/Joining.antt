@@ -23,7 +23,8 @@ use Rattle.label_laws.specs.Touching.{AreGrafted, IsBornApart, IsJoinedApart, Sp
 use Rattle.label_laws.proofs.Sparing.{settled-spare, kept-spare}
 use Rattle.valued_map.specs.declared.kept.Kept.{Kept}
 use Rattle.valued_map.specs.Keeping.{IsKept, KeepsThose}
-use Rattle.valued_map.specs.Changing.{AreAdded, LeadsApart, IsBeside, AreAlike, IsJoinedFrom, IsChangedIn}
+use Rattle.valued_map.specs.Changing.{AreAdded, LeadsApart, IsBeside, AreAlike, AreAside, IsJoinedFrom, IsChangedIn}
+use Rattle.valued_map.proofs.LiveDarts.{live-made}
 use Rattle.valued_map.proofs.Adding.{added-then, added-told, lived, long}
 use Rattle.valued_map.proofs.Rerouting.{AreChangedBelow, word-within}
 
@@ -189,16 +190,42 @@ module _ (k : Kind) (n i : ℕ) (rows : Rows) (sound : IsSound k n rows) (older 
         (through (links_of rows) w y, led-live w y there, low, onward here (w, word, refl, there), alike))
   ]
 
-  pub beside-joined : (x : ℕ) → IsJoinedFrom k i rows older l x → to < x
-  beside-joined x (laws, alike, (live, high, (v, cell, there, less, apart))) = elim (cases_lt to x) [
+  pub beside-joined : (last x : ℕ) → IsJoinedFrom k i rows older last l x → to < x
+  beside-joined last x from = elim (cases_lt to x) [
     | inl beyond ↦ beyond
     | inr within ↦ absurd (
+        let (live, high, (v, cell, there, less, apart)) = from.joined in
         let y : ℕ = through (links_of rows) v x in
-        let a = root laws x live within in
-        let b = root laws y (led-live v x there) (omega (arith, within, less)) in
-        apart (b.4 ∙ alike a.0 b.0 a.1 b.1 a.2 b.2
-        (cell_trans k (links_of rows) i a.0 x b.0 (cell_back k (links_of rows) laws i x a.0 a.3) (cell_trans k (links_of rows) i x y b.0 (onward here (v, cell, refl, there)) b.3))
+        let a = root from.laws x live within in
+        let b = root from.laws y (led-live v x there) (omega (arith, within, less)) in
+        apart (b.4 ∙ from.alike a.0 b.0 a.1 b.1 a.2 b.2
+        (cell_trans k (links_of rows) i a.0 x b.0 (cell_back k (links_of rows) from.laws i x a.0 a.3) (cell_trans k (links_of rows) i x y b.0 (onward here (v, cell, refl, there)) b.3))
         ∙ sym a.4))
+  ]
+
+-- Darts beyond the last lie aside: none of them has an id, and none joined apart.
+module _ (k : Kind) (i : ℕ) (rows : Rows) (older last : ℕ) (l g : Labeling) (grafts : AreGrafted k rows older (λ j. j ≡ i) l g)
+    (bare : (d : ℕ) → older < d → id_of l i d ≡ None) where
+  -- in a cell without darts up to the first number, none has an id
+  cell-bare : (x : ℕ) → ((y : ℕ) → y ≤ older → InCell k (links_of rows) i x y → ⊥) → (z : ℕ) → InCell k (links_of rows) i x z → id_of g i z ≡ None
+  cell-bare x alone z cell = elim (grafts.each i z) [
+    | inl same ↦ same ∙ was z cell
+    | inr given ↦ absurd (
+        let has : id_of l i given.3 ≡ Some given.2 = given.6 in
+        let none : id_of l i given.3 ≡ None = was given.3 (cell_trans k (links_of rows) i x z given.3 cell given.5) in
+        cc (has, none))
+  ]
+    where
+      was : (z : ℕ) → InCell k (links_of rows) i x z → id_of l i z ≡ None
+      was z within = elim (cases_lt older z) [ inl high ↦ bare z high | inr low ↦ absurd (alone z low within) ]
+
+  pub aside-joined : (x : ℕ) → IsJoinedFrom k i rows older last g x → x ≤ last
+  aside-joined x from = elim (cases_lt last x) [
+    | inr within ↦ within
+    | inl beyond ↦ absurd (
+        let (live, high, (v, cell, there, less, apart)) = from.joined in
+        let none = cell-bare x (λ y low within. from.aside x y beyond (live-made rows x live) low within) in
+        apart (none (through (links_of rows) v x) (onward here (v, cell, refl, there)) ∙ sym (none x here)))
   ]
 
 -- a dimension in which the ids stay has the same darts changed
@@ -231,15 +258,16 @@ changed-alike k n e rows rules kept l m i same x (ruled, inl (loose, inl (old, l
 )
 changed-alike k n e rows rules kept l m i same x (ruled, inl (loose, inr (live, (v, cell, high, less, apart)))) =
     (ruled, inl (loose, inr (live, (v, cell, high, less, λ alike. apart (same (through (links_of rows) v x) ∙ alike ∙ sym (same x))))))
-changed-alike k n e rows rules kept l m i same x (ruled, inr (keeps, (laws, alike, (live, high, (v, cell, there, less, apart))))) = (
+changed-alike k n e rows rules kept l m i same x (ruled, inr (keeps, from)) = (
   ruled,
   inr (
     keeps,
-    (
-      laws,
-      λ y z ly lz low below within. sym (same z) ∙ alike y z ly lz low below within ∙ same y,
-      (live, high, (v, cell, there, less, λ is. apart (same (through (links_of rows) v x) ∙ is ∙ sym (same x)))),
-    ),
+    (let (live, high, (v, cell, there, less, apart)) = from.joined in record {
+      laws = from.laws;
+      alike = λ y z ly lz low below within. sym (same z) ∙ from.alike y z ly lz low below within ∙ same y;
+      aside = from.aside;
+      joined = (live, high, (v, cell, there, less, λ is. apart (same (through (links_of rows) v x) ∙ is ∙ sym (same x))));
+    }),
   ),
 )
 
@@ -305,7 +333,8 @@ pub changed-spare : (k : Kind) (n : ℕ) (e : Edit) (rows : Rows) (rules : List 
     → (i : ℕ) → IsSome (rule_at rules i) → Spares k i rows g (Contains (darts_in lists i))
 changed-spare k n e rows rules kept l g lists grafts all old pool led stored keeps laws i ruled = elim (kept-or-not kept i) [
   | inl stays ↦ kept-spare k n i old rows stored.laws laws (led-sound k n e old rows led) l pool stored.stored (made rows - e.births) first was (λ j. IsSome (rule_at rules j)) g grafts
-      (keeps i stays) (Contains (darts_in lists i)) (λ x joined. all i x (ruled, inr (stays, (laws, alike stays, joined))))
+      (keeps.cells i stays) (Contains (darts_in lists i))
+      (λ x joined. all i x (ruled, inr (stays, record { laws = laws; alike = alike stays; aside = aside stays; joined = joined })))
   | inr loose ↦ settled-spare k n i old rows stored.laws laws (led-sound k n e old rows led) l pool stored.stored (made rows - e.births) first was (λ j. IsSome (rule_at rules j)) g grafts
       (Contains (darts_in lists i)) (λ x unsettled. all i x (ruled, inl (loose, inl (old, led, stored.laws, laws, unsettled)))) (λ x apart. all i x (ruled, inl (loose, inr apart)))
 ]
@@ -328,5 +357,9 @@ changed-spare k n e rows rules kept l g lists grafts all old pool led stored kee
     alike : IsKept kept i → AreAlike k i rows (made rows - e.births) g
     alike stays y z live lives low below cell =
         grafts-kept k rows (made rows - e.births) (λ j. IsSome (rule_at rules j)) l g grafts i z below
-        ∙ same-id y z ((keeps i stays y z (was y live low) (was z lives below)).0 cell)
+        ∙ same-id y z ((keeps.cells i stays y z (was y live low) (was z lives below)).0 cell)
         ∙ sym (grafts-kept k rows (made rows - e.births) (λ j. IsSome (rule_at rules j)) l g grafts i y low)
+
+    aside : IsKept kept i → AreAside k i rows (made rows - e.births) (made rows - e.births + (e.births - kept.aside))
+    aside stays x y beyond low below cell =
+        keeps.aside i stays x y (omega (arith, beyond, low), low) (let same = before-made k n e old rows led in omega (arith, below, same)) cell

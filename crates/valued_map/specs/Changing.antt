@@ -91,15 +91,22 @@ IsBeside k i rows older labels x = (w : LinkWord) × IsCellWord k i w × (throug
 abbrev pub AreAlike : Kind → ℕ → Rows → ℕ → Labeling → Type 0
 AreAlike k i rows older labels = (y z : ℕ) → IsLive rows y → IsLive rows z → y ≤ older → z ≤ older → InCell k (links_of rows) i y z → id_of labels i z ≡ id_of labels i y
 
--- x is beyond it and joined apart, in a lawful map where they are alike
-abbrev pub IsJoinedFrom : Kind → ℕ → Rows → ℕ → Labeling → ℕ → Type 0
-IsJoinedFrom k i rows older labels x = Laws k (links_of rows) × AreAlike k i rows older labels × IsJoinedApart k i rows older labels x
+-- none of them lies in an i-cell with one of the darts beyond a further number, the last
+abbrev pub AreAside : Kind → ℕ → Rows → ℕ → ℕ → Type 0
+AreAside k i rows older last = (x y : ℕ) → last < x → x ≤ made rows → y ≤ older → InCell k (links_of rows) i x y → ⊥
+
+-- x is beyond the first number and joined apart, in a lawful map where both are so
+pub record IsJoinedFrom (k : Kind) (i : ℕ) (rows : Rows) (older last : ℕ) (labels : Labeling) (x : ℕ) : Type 0 where
+  pub laws : Laws k (links_of rows)
+  pub alike : AreAlike k i rows older labels
+  pub aside : AreAside k i rows older last
+  pub joined : IsJoinedApart k i rows older labels x
 
 -- Where the cells of the dimension are not kept, x is not settled, or it was born and lies apart; where they are, it was born and
 -- joined apart.
 abbrev pub IsMovedIn : Kind → ℕ → Edit → Rows → Kept → Labeling → ℕ → ℕ → Type 0
 IsMovedIn k n e rows kept labels i x = ((IsKept kept i → ⊥) × (IsUnsettledFrom k n e rows i labels x ⊎ IsBornApart k i rows (made rows - e.births) labels x))
-    ⊎ (IsKept kept i × IsJoinedFrom k i rows (made rows - e.births) labels x)
+    ⊎ (IsKept kept i × IsJoinedFrom k i rows (made rows - e.births) (made rows - e.births + (e.births - kept.aside)) labels x)
 
 -- and the dimension has a rule
 abbrev pub IsChangedIn : Kind → ℕ → Edit → Rows → List (Option Rule) → Kept → Labeling → ℕ → ℕ → Type 0

@@ -153,66 +153,73 @@ fn changed_along<K: Kind, const DIM: usize>(
 {
     let mut touched = Vec::new(alloc);
     if kept.has(dim) {
-        graft_kept(links, labels, older, dim, words, &mut touched)?;
+        let last = older + edit.births.saturating_sub(kept.aside);
+        graft_kept(links, labels, older, last, dim, words, &mut touched)?;
         return Ok(touched);
     }
-    graft_born(links, labels, older, dim, words, &mut touched)?;
+    let last = links.made();
+    graft_born(links, labels, older, last, dim, words, &mut touched)?;
     add_touched(links, labels, edit, older, dim, words, &mut touched)?;
     Ok(touched)
 }
 
-/// Gives each dart beyond a number an id of a cell that it joined, where the cells of the darts up to it are kept, and adds those
-/// that joined apart. As long as darts up to the number lie beside the others, the ids of these do not differ, and are not compared.
+/// Gives each dart beyond a number, up to the last, an id of a cell that it joined, where the cells of the darts up to that number are
+/// kept, and adds those that joined apart. As long as darts up to the number lie beside the others, the ids of these do not differ, and
+/// are not compared. Beyond the last, darts lie in cells of their own, and get no ids.
 fn graft_kept<K: Kind, const DIM: usize>(
     links: &Links<K, DIM>,
     labels: &mut Labels<DIM>,
     older: u32,
+    last: u32,
     dim: usize,
     words: &[LinkWord],
     touched: &mut Vec<Dart>,
 ) -> Result<(), AllocError>
     requires sound { IsSound K.kind DIM links.now.rows }
-    requires older { older ≤ made links.now.rows }
+    requires older { older ≤ last }
+    requires last { last ≤ made links.now.rows }
     requires dim { dim ≤ DIM }
     requires long { made links.now.rows ≤ labels.old.made }
     requires placed { HasPlaces labels.old dim }
     requires bare { (d : ℕ) → older < d → id_of labels.old dim d ≡ None }
     requires words { (w : MapWord) → Contains words.now w ↔ (IsCellWord K.kind dim w × IsWithin DIM w) }
     ensures grafted { AreGrafted K.kind links.now.rows older (λ i. i ≡ dim) labels.old labels.new }
-    ensures added { OnOk result (AreAdded links.now.rows (IsJoinedFrom K.kind dim links.now.rows older labels.new) touched.old.items touched.new.items) }
+    ensures added { OnOk result (AreAdded links.now.rows (IsJoinedFrom K.kind dim links.now.rows older last labels.new) touched.old.items touched.new.items) }
 {
-    let beside = graft_beside(links, labels, older, dim, words);
-    graft_born(links, labels, beside, dim, words, touched)
+    let beside = graft_beside(links, labels, older, last, dim, words);
+    graft_born(links, labels, beside, last, dim, words, touched)
 }
 
-/// Gives the darts beyond a number the ids of darts up to it that lie beside them, in turn, up to the first beside which none lies.
-/// Answers the number up to which it came.
+/// Gives the darts beyond a number, up to the last, the ids of darts up to it that lie beside them, in turn, up to the first beside which
+/// none lies. Answers the number up to which it came.
 fn graft_beside<K: Kind, const DIM: usize>(
     links: &Links<K, DIM>,
     labels: &mut Labels<DIM>,
     older: u32,
+    last: u32,
     dim: usize,
     words: &[LinkWord],
 ) -> u32
     requires sound { IsSound K.kind DIM links.now.rows }
-    requires older { older ≤ made links.now.rows }
+    requires older { older ≤ last }
+    requires last { last ≤ made links.now.rows }
     requires dim { dim ≤ DIM }
     requires long { made links.now.rows ≤ labels.old.made }
     requires placed { HasPlaces labels.old dim }
     requires bare { (d : ℕ) → older < d → id_of labels.old dim d ≡ None }
     requires words { (w : MapWord) → Contains words.now w ↔ (IsCellWord K.kind dim w × IsWithin DIM w) }
     ensures from { older ≤ result }
-    ensures to { result ≤ made links.now.rows }
+    ensures to { result ≤ last }
     ensures grafted { AreGrafted K.kind links.now.rows older (λ i. i ≡ dim) labels.old labels.new }
     ensures bare { (d : ℕ) → result < d → id_of labels.new dim d ≡ None }
     ensures beside { (x : ℕ) → older < x → x ≤ result → IsBeside K.kind dim links.now.rows older labels.new x }
 {
-    for number in older + 1..links.made() + 1 {
+    for number in older + 1..last + 1 {
         if !join_older(links, labels, older, dim, words, number) {
             return number - 1;
         }
     }
-    links.made()
+    last
 }
 
 /// Gives the dart of a number the id of a dart up to the number `older` to which some word leads it, if there is one. Answers
@@ -275,27 +282,30 @@ fn older_along<K: Kind, const DIM: usize>(
     None
 }
 
-/// Gives each dart beyond a number an id of a cell that it joined, and adds those from which some word leads to a lesser dart
-/// with another id.
+/// Gives each dart beyond a number, up to the last, an id of a cell that it joined, and adds those from which some word leads to a
+/// lesser dart with another id.
 fn graft_born<K: Kind, const DIM: usize>(
     links: &Links<K, DIM>,
     labels: &mut Labels<DIM>,
     older: u32,
+    last: u32,
     dim: usize,
     words: &[LinkWord],
     touched: &mut Vec<Dart>,
 ) -> Result<(), AllocError>
     requires sound { IsSound K.kind DIM links.now.rows }
-    requires older { older ≤ made links.now.rows }
+    requires older { older ≤ last }
+    requires last { last ≤ made links.now.rows }
     requires dim { dim ≤ DIM }
     requires long { made links.now.rows ≤ labels.old.made }
     requires placed { HasPlaces labels.old dim }
     requires bare { (d : ℕ) → older < d → id_of labels.old dim d ≡ None }
     requires words { (w : MapWord) → Contains words.now w ↔ (IsCellWord K.kind dim w × IsWithin DIM w) }
     ensures grafted { AreGrafted K.kind links.now.rows older (λ i. i ≡ dim) labels.old labels.new }
-    ensures added { OnOk result (AreAdded links.now.rows (IsJoinedApart K.kind dim links.now.rows older labels.new) touched.old.items touched.new.items) }
+    ensures added { OnOk result (AreAdded links.now.rows (λ x. (x ≤ last) × IsJoinedApart K.kind dim links.now.rows older labels.new x)
+        touched.old.items touched.new.items) }
 {
-    for number in older + 1..links.made() + 1 {
+    for number in older + 1..last + 1 {
         graft(links, labels, dim, words, number, touched)?;
     }
     Ok(())

@@ -11,17 +11,32 @@ pub struct Kept {
     pub from: usize,
     /// The one behind the last.
     pub to: usize,
+    /// How many of the darts that are born lie aside there, the last ones: in cells in which no dart lies that lived before. They
+    /// have no ids.
+    pub aside: u32,
 }
 
 impl Kept {
     /// No dimension: nothing is known of the cells.
-    pub const NONE: Kept = Kept { from: 0, to: 0 };
+    pub const NONE: Kept = Kept {
+        from: 0,
+        to: 0,
+        aside: 0,
+    };
 
     /// That of the vertices.
-    pub const VERTICES: Kept = Kept { from: 0, to: 1 };
+    pub const VERTICES: Kept = Kept {
+        from: 0,
+        to: 1,
+        aside: 0,
+    };
 
     /// That of the faces, and all above: 8 is the greatest.
-    pub const FACES_AND_ABOVE: Kept = Kept { from: 2, to: 9 };
+    pub const FACES_AND_ABOVE: Kept = Kept {
+        from: 2,
+        to: 9,
+        aside: 0,
+    };
 
     /// Whether the cells of a dimension are kept.
     pub(crate) fn has(self, dim: usize) -> bool

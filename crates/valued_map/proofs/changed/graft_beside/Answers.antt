@@ -17,7 +17,7 @@ join_older-requires g c =
           (
             c.loop-number.invariant.0,
             (
-              omega (arith, c.loop-number-test.true, c.made-number-end.ensures.made, c.requires.long, grafted.made),
+              omega (arith, c.loop-number-test.true, c.requires.last, c.requires.long, grafted.made),
               ((grafted.places c.args.dim).1 c.requires.placed, (c.loop-number.invariant.2 c.loop-number.number (omega arith), c.requires.words)),
             ),
           ),

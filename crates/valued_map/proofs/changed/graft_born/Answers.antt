@@ -1,8 +1,7 @@
 use Rattle.std.proofs.Common.{◌≡◌, ◌+◌, ◌<◌, ◌≤◌, lit<, ◌∙◌, arith}
-use Rattle.map_defs.specs.Rows.{Rows, made}
+use Rattle.map_defs.specs.Rows.{Rows}
 use Rattle.label_laws.specs.Touching.{IsJoinedApart}
 use Rattle.valued_map.proofs.Adding.{added-none, added-told}
-use Rattle.valued_map.proofs.LiveDarts.{live-made}
 use Rattle.valued_map.proofs.Joining.{grafts-none, grafts-then, born-more}
 use Rattle.valued_map.proofs.changed.graft_born.Goals as goal
 
@@ -17,7 +16,7 @@ graft-requires g c =
           (
             c.requires.dim,
             (
-              omega (arith, c.loop-number-test.true, c.made-number-end.ensures.made, c.requires.long, grafted.made),
+              omega (arith, c.loop-number-test.true, c.requires.last, c.requires.long, grafted.made),
               ((grafted.places c.args.dim).1 c.requires.placed, (c.loop-number.invariant.3, c.requires.words)),
             ),
           ),
@@ -58,6 +57,7 @@ pub returns-clause-added : goal.returns-clause-added
 returns-clause-added g c =
     let k = g.K.Kind.kind in
     let rows : Rows = c.args.links.now.rows in
-    added-told rows (λ x. (x < c.loop-number.number) × IsJoinedApart k c.args.dim rows c.args.older c.loop-number.labels x) (IsJoinedApart k c.args.dim rows c.args.older c.loop-number.labels)
+    added-told rows (λ x. (x < c.loop-number.number) × IsJoinedApart k c.args.dim rows c.args.older c.loop-number.labels x)
+    (λ x. (x ≤ c.args.last) × IsJoinedApart k c.args.dim rows c.args.older c.loop-number.labels x)
     c.args.touched.now.items c.loop-number.touched.items
-    (λ x apart live. (let low : x ≤ made rows = live-made rows x live in omega (arith, c.loop-number-test.false, c.made-number-end.ensures.made), apart)) c.loop-number.invariant.2
+    (λ x (low, apart) live. (omega (arith, low, c.loop-number-test.false), apart)) c.loop-number.invariant.2

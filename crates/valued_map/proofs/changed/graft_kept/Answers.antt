@@ -5,7 +5,7 @@ use Rattle.store_defs.specs.Labelings.{Labeling, id_of}
 use Rattle.label_laws.specs.Touching.{IsJoinedApart}
 use Rattle.valued_map.specs.Changing.{IsBeside, IsJoinedFrom}
 use Rattle.valued_map.proofs.Adding.{added-told, on-ok}
-use Rattle.valued_map.proofs.Joining.{grafts-then, grafts-beyond, grafts-kept, beside-kept, beside-joined}
+use Rattle.valued_map.proofs.Joining.{grafts-then, grafts-beyond, grafts-kept, beside-kept, beside-joined, aside-joined}
 use Rattle.valued_map.proofs.changed.graft_kept.Goals as goal
 
 pub graft_born-requires : goal.graft_born-requires
@@ -18,7 +18,10 @@ graft_born-requires g c =
           c.requires.sound,
           (
             c.graft_beside-beside.ensures.to,
-            (c.requires.dim, (omega (arith, c.requires.long, grafted.made), ((grafted.places c.args.dim).1 c.requires.placed, (c.graft_beside-beside.ensures.bare, c.requires.words)))),
+            (
+              c.requires.last,
+              (c.requires.dim, (omega (arith, c.requires.long, grafted.made), ((grafted.places c.args.dim).1 c.requires.placed, (c.graft_beside-beside.ensures.bare, c.requires.words)))),
+            ),
           ),
         ),
       ),
@@ -31,7 +34,7 @@ returns-clause-grafted g c =
 
 pub returns-clause-added : goal.returns-clause-added
 returns-clause-added g c =
-    on-ok c.graft_born.result (added-told rows (IsJoinedApart k dim rows to now) (IsJoinedFrom k dim rows older now) c.args.touched.now.items c.graft_born.new.touched.items (λ x joined live. told x joined))
+    on-ok c.graft_born.result (added-told rows (λ x. (x ≤ last) × IsJoinedApart k dim rows to now x) (IsJoinedFrom k dim rows older last now) c.args.touched.now.items c.graft_born.new.touched.items (λ x joined live. told x joined))
     c.graft_born.ensures.added
   where
     k : Kind
@@ -45,6 +48,9 @@ returns-clause-added g c =
 
     older : ℕ
     older = c.args.older
+
+    last : ℕ
+    last = c.args.last
 
     to : ℕ
     to = c.graft_beside-beside.result
@@ -62,5 +68,8 @@ returns-clause-added g c =
     beside x high low =
         beside-kept k dim rows older before now x (kept x low) (λ d under. kept d (omega (arith, under, c.graft_beside-beside.ensures.from))) (c.graft_beside-beside.ensures.beside x high low)
 
-    told : (x : ℕ) → IsJoinedFrom k dim rows older now x → IsJoinedApart k dim rows to now x
-    told x joined = (joined.2.0, beside-joined k g.row.DIM dim rows c.requires.sound older to now beside x joined, joined.2.2)
+    told : (x : ℕ) → IsJoinedFrom k dim rows older last now x → (x ≤ last) × IsJoinedApart k dim rows to now x
+    told x from = (
+      aside-joined k dim rows older last c.args.labels.now now (returns-clause-grafted g c) c.requires.bare x from,
+      (from.joined.0, beside-joined k g.row.DIM dim rows c.requires.sound older to now beside last x from, from.joined.2),
+    )

@@ -1,4 +1,4 @@
-use Rattle.std.proofs.Common.{ℕ, sym, ap, subst, ◌∙◌, Result, Ok, Err, lit<, arith}
+use Rattle.std.proofs.Common.{ℕ, sym, ap, subst, ◌∙◌, Result, Ok, Err, lit<}
 use Rattle.std.proofs.lemmas.Result.{err_from_is_err_and}
 use Rattle.map_kind.specs.declared.refusal.Refused.{Refused}
 use Rattle.map_kind.specs.declared.done.Done.{Done}
@@ -7,7 +7,7 @@ use Rattle.machine_defs.specs.Script.{Center}
 use Rattle.face_center.specs.Planning.{PlansCentre}
 use Rattle.map_core.specs.Calls.{Does}
 use Rattle.map_core.proofs.HangingSteps.{centre-does, centre-refused}
-use Rattle.map_core.proofs.KeptCells.{Keeps, centre-keeps}
+use Rattle.map_core.proofs.KeptCells.{centre-keeps}
 use Rattle.map_defs.specs.Rows.{Rows, links_of}
 use Rattle.map_defs.specs.Laws.{Laws}
 use Rattle.map_core.proofs.map.Map.center.Goals as goal
@@ -28,8 +28,7 @@ insert-requires g c =
           plan.1.fits,
           (
             plan.1.laws,
-            λ i among. subst (Keeps k n rows c.in_ok-edit.edit) (omega (arith, among.1))
-                (centre-keeps k n rows c.links.ensures.sound laws c.args.dart c.in_ok-dart.ensures.1 c.in_ok-edit.edit plan),
+            centre-keeps k n rows c.links.ensures.sound laws c.args.dart c.in_ok-dart.ensures.1 c.in_ok-edit.edit plan c.kept_by_hanging.result c.kept_by_hanging.ensures.among c.kept_by_hanging.ensures.aside,
           ),
         ),
       ),

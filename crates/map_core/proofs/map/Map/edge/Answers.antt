@@ -1,14 +1,14 @@
-use Rattle.std.proofs.Common.{◌≡◌, ℕ, sym, ap, subst, ◌∙◌, Result, Ok, Err, lit<, arith}
+use Rattle.std.proofs.Common.{◌≡◌, ℕ, refl, sym, ap, subst, ◌∙◌, Result, Ok, Err, lit<, arith}
 use Rattle.std.proofs.lemmas.Result.{err_from_is_err_and}
 use Rattle.map_kind.specs.declared.refusal.Refused.{Refused}
 use Rattle.map_defs.specs.Kind.{Kind}
-use Rattle.map_defs.specs.Edits.{Edit}
+use Rattle.map_defs.specs.Edits.{Edit, after_edit}
 use Rattle.machine_defs.specs.Script.{Edge}
 use Rattle.cell_edit.specs.Planning.{PlansEdge}
 use Rattle.map_kind.specs.declared.done.Done.{Done}
 use Rattle.map_core.specs.Calls.{Does}
 use Rattle.map_core.proofs.InsertingSteps.{edge-does, edge-refused}
-use Rattle.map_core.proofs.KeptCells.{Keeps, edge-keeps}
+use Rattle.map_core.proofs.KeptCells.{Keeps, keeps-alone, edge-keeps}
 use Rattle.map_defs.specs.Rows.{Rows, links_of}
 use Rattle.map_defs.specs.Laws.{Laws}
 use Rattle.map_core.proofs.map.Map.edge.Goals as goal
@@ -33,8 +33,8 @@ insert-requires g c =
           plan.3.fits,
           (
             plan.3.laws,
-            λ i among. subst (Keeps k n rows c.in_ok-edit.edit) (omega (arith, among.1))
-                (edge-keeps k n rows c.links.ensures.sound laws c.args.dart c.args.other c.in_ok-dart.ensures.1 c.in_ok-other.ensures.1 c.in_ok-edit.edit plan),
+            keeps-alone k (record { from = 0; to = 1; aside = 0 }) rows (after_edit n c.in_ok-edit.edit rows) refl (λ i among. subst (Keeps k n rows c.in_ok-edit.edit) (omega (arith, among.1))
+                (edge-keeps k n rows c.links.ensures.sound laws c.args.dart c.args.other c.in_ok-dart.ensures.1 c.in_ok-other.ensures.1 c.in_ok-edit.edit plan)),
           ),
         ),
       ),
