@@ -1,11 +1,11 @@
 -- Links that are put into a row at once, and the same links as changes.
-use Rattle.std.proofs.Common.{ℕ, suc, ◌≡◌, ◌≢◌, ◌+◌, ◌<◌, List, [], ◌∷◌, ◌++◌, length, get_or, set, take, Option, None, Some, refl, sym, ap, ◌∙◌, inl, inr, arith}
+use Rattle.std.proofs.Common.{ℕ, suc, ◌≡◌, ◌≢◌, ◌+◌, ◌<◌, List, [], ◌∷◌, ◌++◌, length, get_or, set, take, replicate, Option, None, Some, refl, sym, ap, ◌∙◌, inl, inr, arith, append_assoc, length-append}
 use Rattle.std.specs.Prelude.{option_map}
 use Rattle.std.proofs.lemmas.Bool.{cases_eq, cases_lt, ne_eqb}
-use Rattle.std.proofs.lemmas.List.{set-set, set-get_or, get_or-set_same, length-set, length-take-le, take_more}
+use Rattle.std.proofs.lemmas.List.{set-set, set-get_or, set_at, get_or-set_same, length-set, length-take-le, take_more}
 use Rattle.std.proofs.Math.ListN.{get_or-eq_default}
 use Rattle.map_defs.specs.Rows.{Rows, row_at}
-use Rattle.map_defs.specs.Edits.{with_entry, linked}
+use Rattle.map_defs.specs.Edits.{with_entry, linked, free_row}
 use Rattle.dart_arena.specs.RowChanges.{row_changes, with_link, with_links}
 
 pub with_link-some : (j y : ℕ) (row : List ℕ) → y ≢ 0 → with_link j y row ≡ set row j y
@@ -74,3 +74,29 @@ with_links-next links p row low =
   where
     at : 0 + length (take p links) ≡ p
     at = let e = length-take-le p links (omega arith) in omega arith
+
+-- a number put at the first of some links that are all free, behind others
+put-behind : (i y : ℕ) (front rest : List ℕ) → length front ≡ i → with_link i y (front ++ 0 ∷ rest) ≡ front ++ y ∷ rest
+put-behind i y front rest at = elim (cases_eq y 0) [
+  | inl none ↦ with_link-none i y (front ++ 0 ∷ rest) none ∙ ap (λ (z : ℕ). front ++ z ∷ rest) (sym none)
+  | inr some ↦ with_link-some i y (front ++ 0 ∷ rest) some ∙ set_at front 0 rest y i at
+]
+
+-- as many numbers as there are free links behind others
+with_links-all : (i : ℕ) (ys front : List ℕ) → length front ≡ i → with_links i ys (front ++ replicate (length ys) 0) ≡ front ++ ys
+with_links-all i [] front at = refl
+with_links-all i (y ∷ ys) front at =
+    let rest : List ℕ = replicate (length ys) 0 in
+    let long : length (front ++ y ∷ []) ≡ i + 1 = omega (arith, length-append front (y ∷ [])) in
+    ap (with_links (i + 1) ys) (put-behind i y front rest at ∙ sym (append_assoc front (y ∷ []) rest))
+    ∙ with_links-all (i + 1) ys (front ++ y ∷ []) long
+    ∙ append_assoc front (y ∷ []) ys
+
+-- all links of a dart that has none yet
+pub linked-whole : (n d : ℕ) (ys : List ℕ) (rows : Rows) → row_at rows d ≡ Some (free_row n) → length ys ≡ n + 1
+    → linked (row_changes d 0 ys) rows ≡ set rows d (option_map (λ row. ys) (row_at rows d))
+linked-whole n d ys rows bare wide =
+    linked-row d 0 ys rows ∙ ap (set rows d) (ap (option_map (with_links 0 ys)) bare ∙ whole ∙ sym (ap (option_map (λ row. ys)) bare))
+  where
+    whole : Some (with_links 0 ys (free_row n)) ≡ Some ys
+    whole = ap (λ (r : List ℕ). Some r) (ap (λ (m : ℕ). with_links 0 ys (replicate m 0)) (sym wide) ∙ with_links-all 0 ys [] refl)

@@ -1,4 +1,4 @@
-ghost use Rattle.std.specs.Prelude.{◌≡◌, ◌≢◌, ℕ, ◌+◌, ◌-◌, ◌^◌, ◌≤◌, ◌<◌, ◌↔◌, [], ◌∷◌, None, reverse, map, option_map, option_copied, slice_index, IsTrue, IfSome, IfNone, IsOk, OnOk, OnErr, IsErrOf};
+ghost use Rattle.std.specs.Prelude.{◌≡◌, ◌≢◌, ℕ, ◌+◌, ◌-◌, ◌^◌, ◌≤◌, ◌<◌, ◌↔◌, [], ◌∷◌, Some, None, length, reverse, map, option_map, option_copied, slice_index, IsTrue, IfSome, IfNone, IsOk, OnOk, OnErr, IsErrOf};
 ghost use Rattle.map_defs.specs.Rows.{entry_of, links_of};
 ghost use Rattle.map_defs.specs.Edits.{free_row, linked, with_births, with_entry};
 ghost use Rattle.dart_arena.specs.RowChanges.{row_changes};
@@ -7,8 +7,8 @@ ghost use Rattle.dart_arena.specs.Stock.{made, row_at, IsLive, live_count, IsSto
 use crate::places::Places;
 use crate::row::Row;
 use crate::slots::{
-    entry_in, fill_rows, give_row, put_links_in_row, remove_dead, row_in, row_there, set_in_row,
-    set_there, take_row, turn_row, widen,
+    entry_in, fill_rows, give_row, put_all_there, put_links_in_row, remove_dead, row_in, row_there,
+    set_in_row, set_there, take_row, turn_row, widen,
 };
 use map_kind::Dart;
 use slab::Slab;
@@ -340,6 +340,19 @@ impl<const DIM: usize> Arena<DIM> {
     {
         let key = self.places.key(place(dart));
         put_links_in_row(&mut self.rows, key, links);
+    }
+
+    /// Puts all links of a live dart that has none yet. The numbers stand in the order of the links, from 0 on, 0 where the
+    /// link stays free. It costs less than `put_links`, which asks for each number whether it is 0.
+    pub fn put_row(&mut self, dart: Dart, links: &[u32])
+        requires bare { row_at self.old dart ≡ Some (free_row DIM) }
+        requires wide { length links.now ≡ DIM + 1 }
+        ensures rows { self.new.rows ≡ linked (row_changes dart 0 links.now) self.old.rows }
+        ensures spare { self.new.spare ≡ self.old.spare }
+        ensures room { self.new.room ≡ self.old.room }
+    {
+        let key = self.places.live_key(place(dart));
+        put_all_there(&mut self.rows, key, links);
     }
 
     /// Turns each row round: entry i of each live dart becomes its entry `DIM` - i. It takes no memory, and costs a few

@@ -100,6 +100,16 @@ impl<const DIM: usize> Row<DIM> {
         }
     }
 
+    /// Puts all entries. They stand in the order of the links, from 0 on.
+    pub(crate) fn put_all(&mut self, links: &[u32])
+        requires { length links.now ≡ DIM + 1 }
+        ensures { self.new ≡ links.now }
+    {
+        for link in 0..self.width() {
+            self.set(link, links[link]);
+        }
+    }
+
     /// Puts a number at a link, unless it is 0.
     fn put_link(&mut self, link: usize, to: u32)
         requires { to ≢ 0 → link ≤ DIM }

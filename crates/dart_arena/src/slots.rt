@@ -106,6 +106,16 @@ pub fn put_links_in_row<const DIM: usize>(rows: &mut Slab<Row<DIM>>, key: usize,
     }
 }
 
+/// Puts all entries of the row under a key under which there is one.
+pub fn put_all_there<const DIM: usize>(rows: &mut Slab<Row<DIM>>, key: usize, links: &[u32])
+    requires key { key ≢ 0 }
+    requires there { IsSome (row_under rows.old key) }
+    requires wide { length links.now ≡ DIM + 1 }
+    ensures { rows.new ≡ with_row rows.old key (λ row. links.now) }
+{
+    rows[key - 1].put_all(links);
+}
+
 /// Turns the row under a key round, if it is one.
 pub fn turn_row<const DIM: usize>(rows: &mut Slab<Row<DIM>>, key: usize)
     requires { key ≢ 0 → IsSome (row_under rows.old key) }

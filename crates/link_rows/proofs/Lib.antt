@@ -4,3 +4,4 @@ pub mod DualEntries
 mod PolygonRows
 mod Exchanges
 mod TurnedDarts
+mod LinkOrder

@@ -1,9 +1,9 @@
 //! The links of new darts, told by rows.
 ghost use Rattle.std.specs.Prelude.{◌≡◌, ◌≢◌, ℕ, ◌+◌, ◌≤◌, ◌<◌, ◌^◌, ◌↔◌, ◌++◌, ◌∷◌, [], length, replicate, slice_index, slice_index_or, slice_set, Some, None, Contains, IsTrue, IfOk, IfSome, IsNone, OnOk};
 ghost use Rattle.std.specs.Prelude.{All};
-ghost use Rattle.map_defs.specs.Edits.{Change as LinkChange, linked, unlinked};
+ghost use Rattle.map_defs.specs.Edits.{Change as LinkChange, free_row, linked, unlinked};
 ghost use Rattle.dart_arena.specs.RowChanges.{row_changes};
-ghost use Rattle.dart_arena.specs.Stock.{IsLive};
+ghost use Rattle.dart_arena.specs.Stock.{made, row_at, IsLive};
 ghost use Rattle.link_rows.specs.BornRows.{rows_changes, led_back};
 
 use crate::edit::Change;
@@ -179,19 +179,24 @@ impl BornRows {
         }
     }
 
-    /// Puts the links that lead back to the new darts, and those of the new darts, as far as these are live.
-    pub(crate) fn put_links<const DIM: usize>(&self, rows: &mut Arena<DIM>)
-        requires links { All (λ c. c.link ≤ DIM) (led_back self.now.back self.now.first self.now.rows ++ rows_changes self.now.first self.now.rows) }
-        requires live { All (λ c. IsLive rows.old c.dart) (led_back self.now.back self.now.first self.now.rows) }
-        ensures rows { rows.new.rows ≡ linked (led_back self.now.back self.now.first self.now.rows ++ rows_changes self.now.first self.now.rows) rows.old.rows }
+    /// Puts the links of the new darts, as far as these are live. So many of the last darts that were made have no links yet;
+    /// where all new darts are among them, whole rows are put.
+    pub(crate) fn put_rows<const DIM: usize>(&self, rows: &mut Arena<DIM>, births: u32)
+        requires links { All (λ c. c.link ≤ DIM) (rows_changes self.now.first self.now.rows) }
+        requires bare { (d : ℕ) → made rows.old < d + births → d ≤ made rows.old → row_at rows.old d ≡ Some (free_row DIM) }
+        requires high { DIM ≤ 8 }
+        ensures rows { rows.new.rows ≡ linked (rows_changes self.now.first self.now.rows) rows.old.rows }
         ensures spare { rows.new.spare ≡ rows.old.spare }
         ensures room { rows.new.room ≡ rows.old.room }
     {
-        self.put_back_links(rows);
-        self.put_row_links(rows);
+        if self.width == DIM + 1 && self.are_among_last(births, rows.made()) {
+            self.put_whole_rows(rows);
+        } else {
+            self.put_row_links(rows);
+        }
     }
 
-    /// Frees what `put_links` puts, the last one first.
+    /// Frees the links of the new darts, as far as these are live, and those that lead back to them, the last one first.
     pub(crate) fn free_links<const DIM: usize>(&self, rows: &mut Arena<DIM>)
         requires { All (λ c. c.link ≤ DIM) (led_back self.now.back self.now.first self.now.rows ++ rows_changes self.now.first self.now.rows) }
         ensures rows { rows.new.rows ≡ unlinked (led_back self.now.back self.now.first self.now.rows ++ rows_changes self.now.first self.now.rows) rows.old.rows }
@@ -233,6 +238,27 @@ impl BornRows {
             return None;
         }
         Some(Change::new(dart, link, 0, new))
+    }
+
+    /// Whether all new darts are among so many of the last darts that were made.
+    fn are_among_last(&self, births: u32, made: u32) -> bool
+        ensures { IsTrue result ↔ ((made < self.now.first + births) × (self.now.first + length self.now.rows ≤ made + 1)) }
+    {
+        let first = self.first.number() as usize;
+        (made as usize) < first + births as usize && first + self.count <= made as usize + 1
+    }
+
+    /// Puts the whole rows of the new darts, which are live and have no links yet.
+    fn put_whole_rows<const DIM: usize>(&self, rows: &mut Arena<DIM>)
+        requires width { self.now.width ≡ DIM + 1 }
+        requires bare { (place : ℕ) → place < length self.now.rows → row_at rows.old (self.now.first + place) ≡ Some (free_row DIM) }
+        ensures rows { rows.new.rows ≡ linked (rows_changes self.now.first self.now.rows) rows.old.rows }
+        ensures spare { rows.new.spare ≡ rows.old.spare }
+        ensures room { rows.new.room ≡ rows.old.room }
+    {
+        for place in 0..self.count {
+            rows.put_row(self.dart_at(place), self.row_at(place));
+        }
     }
 
     /// Puts the links of the new darts, as far as these are live.
@@ -296,7 +322,7 @@ impl BornRows {
     }
 
     /// Puts the links that lead back to the new darts.
-    fn put_back_links<const DIM: usize>(&self, rows: &mut Arena<DIM>)
+    pub(crate) fn put_back_links<const DIM: usize>(&self, rows: &mut Arena<DIM>)
         requires links { All (λ c. c.link ≤ DIM) (led_back self.now.back self.now.first self.now.rows) }
         requires live { All (λ c. IsLive rows.old c.dart) (led_back self.now.back self.now.first self.now.rows) }
         ensures rows { rows.new.rows ≡ linked (led_back self.now.back self.now.first self.now.rows) rows.old.rows }

@@ -181,8 +181,9 @@ impl<K: Kind, const DIM: usize> Links<K, DIM> {
         ensures room { self.new.room ≡ self.old.room - edit.now.births + length edit.now.deaths }
     {
         steps::bear(&mut self.rows, edit.births);
+        edit.born.put_rows(&mut self.rows, edit.births);
         steps::link(&mut self.rows, &edit.changes);
-        edit.born.put_links(&mut self.rows);
+        edit.born.put_back_links(&mut self.rows);
         steps::bury(&mut self.rows, &edit.deaths);
     }
 
